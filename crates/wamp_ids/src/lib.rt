@@ -1,0 +1,20 @@
+//! WAMP's identifiers: session, publication, subscription and request ids, connection numbers,
+//! topics, and the patterns of subscriptions.
+#![tactic(auto)]
+
+mod conn;
+mod fault;
+mod id;
+pub mod laws;
+mod parts;
+mod pattern;
+#[cfg(test)]
+mod tests;
+mod topic;
+
+pub use conn::{Conn, seat};
+pub use fault::Fault;
+pub use id::Id;
+pub use parts::dot_in;
+pub use pattern::{Pattern, Policy};
+pub use topic::Topic;
