@@ -1,20 +1,27 @@
-ghost use Rattle.std.specs.Prelude.{◌≡◌, ◌∷◌, ◌⊎◌, IfOk, IfErr, OnOk, true, false, string_bytes};
+ghost use Rattle.std.specs.Prelude.{◌≡◌, ◌∷◌, ◌++◌, ◌⊎◌, IfOk, IfErr, OnOk, true, false, string_bytes};
 ghost use Rattle.base64.specs.Engines.{standard};
 ghost use Rattle.base64.specs.GeneralPurpose.{encode_of};
-ghost use Rattle.serde_json.specs.View.{view as value_view, items_view as values_view, members_view};
-ghost use Rattle.message_tree.specs.Data.{is_carried, items_carried, entries_carried, fits_codecs, whole};
+ghost use Rattle.json.specs.Tree.{json_tokens, items_tokens, members_tokens};
+ghost use Rattle.serde_json.specs.Written.{outline, items_outline, members_outline};
+ghost use Rattle.message_tree.specs.Data.{is_carried, items_carried, entries_carried, fits_codecs, whole, bytes as bytes_data};
 ghost use Rattle.message_tree.specs.View.{view, dict_view, items_view};
 ghost use Rattle.message_tree.specs.Meaning.{meaning};
 ghost use Rattle.json_codec.specs.Reading.{Reads};
-ghost use Rattle.json_codec.specs.Writing.{value_of as value_data, items_value, entries_value, json_text, has_plain_texts};
+ghost use Rattle.json_codec.specs.Writing.{value_of, items_value, entries_value, json_text, has_plain_texts};
 
 use crate::fault::Fault;
 use base64::engine::general_purpose::STANDARD;
+use json::Writer;
 use message_tree::{Dict, Message, Tree};
-use serde_json::{Map, Number, Value};
-use std::alloc::Global;
+use std::alloc::{AllocError, Global};
 
-/// The compact JSON text of a message, keys ascending.
+/// The compact JSON text of a message, with no white space and the keys in ascending bytes (WAMP
+/// specification, "Serializers", JSON; RFC 8259). A byte string is written as a string of U+0000
+/// and its padded base64 (RFC 4648, section 4).
+///
+/// # Errors
+/// [`Fault::UncarriedLeaf`] exactly where the message isn't carried; [`Fault::NoMemory`] where a
+/// growth was refused.
 pub fn encode(alloc: Global, message: &Message) -> Result<Vec<u8>, Fault>
     ensures text { IfOk result (λ b. b.items ≡ json_text (meaning message.now)) }
     ensures carried { OnOk result (is_carried (meaning message.now) ≡ true) }
@@ -27,73 +34,84 @@ pub fn encode(alloc: Global, message: &Message) -> Result<Vec<u8>, Fault>
     if !message.is_carried() {
         return Err(Fault::UncarriedLeaf);
     }
-    let value = value_of(alloc, message.tree())?;
-    Ok(value.to_vec(alloc)?)
+    let mut out = Writer::new(Vec::with_capacity(alloc, 128)?);
+    write_tree(alloc, message.tree(), &mut out)?;
+    Ok(out.into_inner())
 }
 
-#[cycle(value)]
-fn value_of(alloc: Global, tree: &Tree) -> Result<Value, Fault>
+#[cycle(write)]
+fn write_tree(alloc: Global, tree: &Tree, out: &mut Writer) -> Result<(), AllocError>
     requires { is_carried (view tree.now) ≡ true }
-    ensures ok { IfOk result (λ v. value_view v ≡ value_data (view tree.now)) }
-    ensures err { IfErr result (λ e. e ≡ Fault.NoMemory) }
+    ensures ok { OnOk result
+        (out.new.tokens ≡ out.old.tokens ++ json_tokens (outline (value_of (view tree.now)))) }
+    ensures before { out.new.before ≡ out.old.before }
 {
     match tree {
-        Tree::Null => Ok(Value::Null),
-        Tree::Flag(b) => Ok(Value::Bool(*b)),
-        Tree::Whole(number) => Ok(value_of_number(*number)),
-        Tree::Text(text) => Ok(Value::String(String::from_str(alloc, text.as_str())?)),
-        Tree::Bytes(bytes) => Ok(Value::String(marked(alloc, bytes)?)),
-        Tree::List(items) => Ok(Value::Array(value_of_items(alloc, items)?)),
-        Tree::Dict(dict) => Ok(Value::Object(value_of_entries(alloc, dict)?)),
+        Tree::Null => out.null(),
+        Tree::Flag(flag) => out.boolean(*flag),
+        Tree::Whole(number) => write_whole(*number, out),
+        Tree::Text(text) => out.string(text.as_str()),
+        Tree::Bytes(bytes) => write_bytes(alloc, bytes, out),
+        Tree::List(items) => {
+            out.begin_array()?;
+            write_items(alloc, items, out)
+        }
+        Tree::Dict(dict) => {
+            out.begin_object()?;
+            write_entries(alloc, dict, out)
+        }
         Tree::Uncarried => unreachable!(),
     }
 }
 
-#[cycle(value)]
-fn value_of_items(alloc: Global, items: &Vec<Tree>) -> Result<Vec<Value>, Fault>
+/// The items and the closing bracket.
+#[cycle(write)]
+fn write_items(alloc: Global, items: &Vec<Tree>, out: &mut Writer) -> Result<(), AllocError>
     requires { items_carried (items_view items.now.items) ≡ true }
-    ensures ok { IfOk result (λ v. values_view v.items ≡ items_value (items_view items.now.items)) }
-    ensures err { IfErr result (λ e. e ≡ Fault.NoMemory) }
+    ensures ok { OnOk result (out.new.tokens ≡ out.old.tokens
+        ++ items_tokens (items_outline (items_value (items_view items.now.items)))) }
+    ensures before { out.new.before ≡ out.old.before }
 {
-    let mut made = Vec::with_capacity(alloc, items.len())?;
     for item in items {
-        made.push(value_of(alloc, item)?)?;
+        write_tree(alloc, item, out)?;
     }
-    Ok(made)
+    out.end_array()
 }
 
-#[cycle(value)]
-fn value_of_entries(alloc: Global, dict: &Dict) -> Result<Map<String, Value>, Fault>
+/// The entries and the closing brace.
+#[cycle(write)]
+fn write_entries(alloc: Global, dict: &Dict, out: &mut Writer) -> Result<(), AllocError>
     requires { entries_carried (dict_view dict.now) ≡ true }
-    ensures ok { IfOk result (λ m. members_view m.entries ≡ entries_value (dict_view dict.now)) }
-    ensures err { IfErr result (λ e. e ≡ Fault.NoMemory) }
+    ensures ok { OnOk result (out.new.tokens ≡ out.old.tokens
+        ++ members_tokens (members_outline (entries_value (dict_view dict.now)))) }
+    ensures before { out.new.before ≡ out.old.before }
 {
-    let mut made = Map::new(alloc);
-    for (key, tree) in dict.iter() {
-        let name = String::from_str(alloc, key.as_str())?;
-        let value = value_of(alloc, tree)?;
-        drop(made.insert(name, value)?);
+    for (key, value) in dict.iter() {
+        out.key(key.as_str())?;
+        write_tree(alloc, value, out)?;
     }
-    Ok(made)
+    out.end_object()
 }
 
-fn value_of_number(number: i128) -> Value
+fn write_whole(number: i128, out: &mut Writer) -> Result<(), AllocError>
     requires { fits_codecs number ≡ true }
-    ensures ok { value_view result ≡ value_data (whole number) }
+    ensures ok { OnOk result
+        (out.new.tokens ≡ out.old.tokens ++ json_tokens (outline (value_of (whole number)))) }
+    ensures before { out.new.before ≡ out.old.before }
 {
-    match Number::from_i128(number) {
-        Some(number) => Value::Number(number),
-        None => unreachable!(),
+    if number >= 0 {
+        out.u64(number as u64)
+    } else {
+        out.i64(number as i64)
     }
 }
 
-/// U+0000, and then the base64 of the bytes.
-fn marked(alloc: Global, bytes: &[u8]) -> Result<String, Fault>
-    ensures ok { IfOk result (λ s. string_bytes s ≡ 0 ∷ encode_of standard bytes.now) }
-    ensures err { IfErr result (λ e. e ≡ Fault.NoMemory) }
+fn write_bytes(alloc: Global, bytes: &[u8], out: &mut Writer) -> Result<(), AllocError>
+    ensures ok { OnOk result (out.new.tokens ≡ out.old.tokens
+        ++ json_tokens (outline (value_of (bytes_data bytes.now)))) }
+    ensures before { out.new.before ≡ out.old.before }
 {
-    let encoded = STANDARD.encode(alloc, bytes)?;
     let mut text = String::from_str(alloc, "\0")?;
-    text.push_str(encoded.as_str())?;
-    Ok(text)
+    STANDARD.encode_string(bytes, &mut text)?;
+    out.string(text.as_str())
 }
