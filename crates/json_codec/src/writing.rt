@@ -1,0 +1,117 @@
+ghost use Rattle.std.specs.Prelude.{◌≡◌, ◌∷◌, ◌++◌, ◌⊎◌, IfOk, IfErr, OnOk, true, false, string_bytes};
+ghost use Rattle.base64.specs.Engines.{standard};
+ghost use Rattle.base64.specs.GeneralPurpose.{encode_of};
+ghost use Rattle.json.specs.Tree.{json_tokens, items_tokens, members_tokens};
+ghost use Rattle.serde_json.specs.Written.{outline, items_outline, members_outline};
+ghost use Rattle.message_tree.specs.Data.{is_carried, items_carried, entries_carried, fits_codecs, whole, bytes as bytes_data};
+ghost use Rattle.message_tree.specs.View.{view, dict_view, items_view};
+ghost use Rattle.message_tree.specs.Meaning.{meaning};
+ghost use Rattle.json_codec.specs.Reading.{Reads};
+ghost use Rattle.json_codec.specs.Writing.{value_of, items_value, entries_value, json_text, has_plain_texts};
+
+use crate::fault::Fault;
+use base64::engine::general_purpose::STANDARD;
+use json::Writer;
+use message_tree::{Dict, Message, Tree};
+use std::alloc::{AllocError, Global};
+
+/// The compact JSON text of a message, with no white space and the keys in ascending bytes (WAMP
+/// specification, "Serializers", JSON; RFC 8259). A byte string is written as a string of U+0000
+/// and its padded base64 (RFC 4648, section 4).
+///
+/// # Errors
+/// [`Fault::UncarriedLeaf`] exactly where the message isn't carried; [`Fault::NoMemory`] where a
+/// growth was refused.
+pub fn encode(alloc: Global, message: &Message) -> Result<Vec<u8>, Fault>
+    ensures text { IfOk result (λ b. b.items ≡ json_text (meaning message.now)) }
+    ensures carried { OnOk result (is_carried (meaning message.now) ≡ true) }
+    ensures reads_back { IfOk result (λ b. has_plain_texts (meaning message.now) ≡ true
+        → Reads b.items (meaning message.now)) }
+    ensures uncarried { IfErr result
+        (λ e. e ≡ Fault.UncarriedLeaf → is_carried (meaning message.now) ≡ false) }
+    ensures fault { IfErr result (λ e. (e ≡ Fault.NoMemory) ⊎ (e ≡ Fault.UncarriedLeaf)) }
+{
+    if !message.is_carried() {
+        return Err(Fault::UncarriedLeaf);
+    }
+    let mut out = Writer::new(Vec::with_capacity(alloc, 128)?);
+    write_tree(alloc, message.tree(), &mut out)?;
+    Ok(out.into_inner())
+}
+
+#[cycle(write)]
+fn write_tree(alloc: Global, tree: &Tree, out: &mut Writer) -> Result<(), AllocError>
+    requires { is_carried (view tree.now) ≡ true }
+    ensures ok { OnOk result
+        (out.new.tokens ≡ out.old.tokens ++ json_tokens (outline (value_of (view tree.now)))) }
+    ensures before { out.new.before ≡ out.old.before }
+{
+    match tree {
+        Tree::Null => out.null(),
+        Tree::Flag(flag) => out.boolean(*flag),
+        Tree::Whole(number) => write_whole(*number, out),
+        Tree::Text(text) => out.string(text.as_str()),
+        Tree::Bytes(bytes) => write_bytes(alloc, bytes, out),
+        Tree::List(items) => {
+            out.begin_array()?;
+            write_items(alloc, items, out)
+        }
+        Tree::Dict(dict) => {
+            out.begin_object()?;
+            write_entries(alloc, dict, out)
+        }
+        Tree::Uncarried => unreachable!(),
+    }
+}
+
+/// The items and the closing bracket.
+#[cycle(write)]
+fn write_items(alloc: Global, items: &Vec<Tree>, out: &mut Writer) -> Result<(), AllocError>
+    requires { items_carried (items_view items.now.items) ≡ true }
+    ensures ok { OnOk result (out.new.tokens ≡ out.old.tokens
+        ++ items_tokens (items_outline (items_value (items_view items.now.items)))) }
+    ensures before { out.new.before ≡ out.old.before }
+{
+    for item in items {
+        write_tree(alloc, item, out)?;
+    }
+    out.end_array()
+}
+
+/// The entries and the closing brace.
+#[cycle(write)]
+fn write_entries(alloc: Global, dict: &Dict, out: &mut Writer) -> Result<(), AllocError>
+    requires { entries_carried (dict_view dict.now) ≡ true }
+    ensures ok { OnOk result (out.new.tokens ≡ out.old.tokens
+        ++ members_tokens (members_outline (entries_value (dict_view dict.now)))) }
+    ensures before { out.new.before ≡ out.old.before }
+{
+    for (key, value) in dict.iter() {
+        out.key(key.as_str())?;
+        write_tree(alloc, value, out)?;
+    }
+    out.end_object()
+}
+
+fn write_whole(number: i128, out: &mut Writer) -> Result<(), AllocError>
+    requires { fits_codecs number ≡ true }
+    ensures ok { OnOk result
+        (out.new.tokens ≡ out.old.tokens ++ json_tokens (outline (value_of (whole number)))) }
+    ensures before { out.new.before ≡ out.old.before }
+{
+    if number >= 0 {
+        out.u64(number as u64)
+    } else {
+        out.i64(number as i64)
+    }
+}
+
+fn write_bytes(alloc: Global, bytes: &[u8], out: &mut Writer) -> Result<(), AllocError>
+    ensures ok { OnOk result (out.new.tokens ≡ out.old.tokens
+        ++ json_tokens (outline (value_of (bytes_data bytes.now)))) }
+    ensures before { out.new.before ≡ out.old.before }
+{
+    let mut text = String::from_str(alloc, "\0")?;
+    STANDARD.encode_string(bytes, &mut text)?;
+    out.string(text.as_str())
+}
