@@ -1,4 +1,4 @@
-ghost use Rattle.std.specs.Prelude.{◌≡◌, option_map, OnOk, OnErr, IfErr, string_bytes};
+ghost use Rattle.std.specs.Prelude.{◌≡◌, ◌≢◌, ℕ, List, option_map, OnOk, OnErr, IfErr, string_bytes};
 ghost use Rattle.message_tree.specs.Data.{no_entries, put, find_entry, entry_count, entry_at, IsAscending};
 ghost use Rattle.message_tree.specs.View.{view, dict_view, entries_view};
 ghost use Rattle.std.specs.List.Sorted.{IsStrictlySortedBy};
@@ -35,6 +35,10 @@ impl Dict {
     pub fn set(&mut self, _alloc: Global, key: String, value: Tree) -> Result<(), Fault>
         ensures ok { OnOk result
             (dict_view self.new ≡ put (string_bytes key) (view value) (dict_view self.old)) }
+        ensures stands { OnOk result
+            (find_entry (string_bytes key) (dict_view self.new) ≡ Some (view value)) }
+        ensures others { OnOk result ((other : List ℕ) → other ≢ string_bytes key
+            → find_entry other (dict_view self.new) ≡ find_entry other (dict_view self.old)) }
         ensures err { OnErr result (dict_view self.new ≡ dict_view self.old) }
         ensures fault { IfErr result (λ e. e ≡ Fault.NoMemory) }
     {
