@@ -1,0 +1,14 @@
+//! Who is to receive a publication: subscriber black- and whitelisting, and publisher exclusion.
+#![tactic(auto)]
+
+mod asked;
+mod fault;
+pub mod laws;
+mod lists;
+#[cfg(test)]
+mod tests;
+mod who;
+
+pub use fault::Fault;
+pub use lists::Lists;
+pub use who::Who;

@@ -1,0 +1,169 @@
+ghost use Rattle.std.specs.Prelude.{◌≡◌, IfOk, None, Some, option_map};
+ghost use Rattle.message_tree.specs.Data.{no_entries};
+ghost use Rattle.message_tree.specs.View.{dict_view};
+ghost use Rattle.eligibility.specs.Audience.{audience_of, everyone, admits, has_number, has_text, is_free_of, allows, is_number};
+
+use crate::asked::{flag_at, numbers_at, texts_at};
+use crate::fault::Fault;
+use crate::who::Who;
+use message_tree::{Dict, Text};
+use std::alloc::Global;
+use std::marker::Model;
+use wamp_ids::Id;
+
+/// Who is to receive a publication: the options of a PUBLISH that speak of it (WAMP, "Subscriber
+/// Black- and Whitelisting", "Publisher Exclusion").
+#[derive(Debug, Drop)]
+pub struct Lists {
+    exclude_me: bool,
+    exclude: Option<Vec<i128>>,
+    exclude_authid: Option<Vec<Text>>,
+    exclude_authrole: Option<Vec<Text>>,
+    eligible: Option<Vec<i128>>,
+    eligible_authid: Option<Vec<Text>>,
+    eligible_authrole: Option<Vec<Text>>,
+}
+
+impl Model for Lists {
+    ghost use Rattle.std.specs.Prelude.{option_map};
+    ghost use Rattle.eligibility.specs.Audience.{Audience};
+
+    ghost Value = { Audience };
+
+    ghost view = { λ l. record {
+      exclude_me = l.exclude_me;
+      exclude = option_map (λ v. v.items) l.exclude;
+      exclude_authid = option_map (λ v. v.items) l.exclude_authid;
+      exclude_authrole = option_map (λ v. v.items) l.exclude_authrole;
+      eligible = option_map (λ v. v.items) l.eligible;
+      eligible_authid = option_map (λ v. v.items) l.eligible_authid;
+      eligible_authrole = option_map (λ v. v.items) l.eligible_authrole;
+    } };
+}
+
+impl Lists {
+    /// What a PUBLISH without options says: everyone but its publisher.
+    #[tactic(auto, unfolding(crate::specs::Audience::audience_of))]
+    pub fn everyone() -> Lists
+        ensures value { result ≡ everyone }
+        ensures no_options { audience_of no_entries ≡ Some result }
+    {
+        Lists {
+            exclude_me: true,
+            exclude: None,
+            exclude_authid: None,
+            exclude_authrole: None,
+            eligible: None,
+            eligible_authid: None,
+            eligible_authrole: None,
+        }
+    }
+
+    /// What the options of a PUBLISH say: `exclude_me` and the six lists, each of which may be
+    /// absent or null. Other options are passed over, and a number that is no id names nobody.
+    ///
+    /// # Errors
+    /// [`Fault::Shape`] where one of the seven has a wrong type, [`Fault::NoMemory`] where a growth
+    /// was refused.
+    #[tactic(auto, unfolding(crate::specs::Audience::audience_of))]
+    pub fn read(alloc: Global, options: &Dict) -> Result<Lists, Fault>
+        ensures ok { IfOk result (λ l. audience_of (dict_view options.now) ≡ Some l) }
+        ensures bad { result ≡ Err Fault.Shape → audience_of (dict_view options.now) ≡ None }
+    {
+        let exclude_me = flag_at(options, "exclude_me", true)?;
+        let exclude = numbers_at(alloc, options, "exclude")?;
+        let exclude_authid = texts_at(alloc, options, "exclude_authid")?;
+        let exclude_authrole = texts_at(alloc, options, "exclude_authrole")?;
+        let eligible = numbers_at(alloc, options, "eligible")?;
+        let eligible_authid = texts_at(alloc, options, "eligible_authid")?;
+        let eligible_authrole = texts_at(alloc, options, "eligible_authrole")?;
+        Ok(Lists {
+            exclude_me,
+            exclude,
+            exclude_authid,
+            exclude_authrole,
+            eligible,
+            eligible_authid,
+            eligible_authrole,
+        })
+    }
+
+    /// Whether this receiver is to get what that publisher publishes. The publisher itself is known
+    /// by its connection.
+    pub fn admits(&self, who: &Who, publisher: &Who) -> bool
+        ensures { result ≡ admits self.now who.now publisher.now }
+    {
+        is_free_of_number(&self.exclude, who.id)
+            && is_free_of_text(&self.exclude_authid, &who.authid)
+            && is_free_of_text(&self.exclude_authrole, &who.authrole)
+            && allows_number(&self.eligible, who.id)
+            && allows_text(&self.eligible_authid, &who.authid)
+            && allows_text(&self.eligible_authrole, &who.authrole)
+            && !(who.conn == publisher.conn && self.exclude_me)
+    }
+}
+
+fn is_free_of_number(numbers: &Option<Vec<i128>>, id: Id) -> bool
+    ensures { result ≡ is_free_of (has_number id) (option_map (λ v. v.items) numbers.now) }
+{
+    match numbers {
+        None => true,
+        Some(numbers) => !has_number(numbers, id),
+    }
+}
+
+fn is_free_of_text(texts: &Option<Vec<Text>>, of: &Text) -> bool
+    ensures { result ≡ is_free_of (has_text of.now) (option_map (λ v. v.items) texts.now) }
+{
+    match texts {
+        None => true,
+        Some(texts) => !has_text(texts, of),
+    }
+}
+
+fn allows_number(numbers: &Option<Vec<i128>>, id: Id) -> bool
+    ensures { result ≡ allows (has_number id) (option_map (λ v. v.items) numbers.now) }
+{
+    match numbers {
+        None => true,
+        Some(numbers) => has_number(numbers, id),
+    }
+}
+
+fn allows_text(texts: &Option<Vec<Text>>, of: &Text) -> bool
+    ensures { result ≡ allows (has_text of.now) (option_map (λ v. v.items) texts.now) }
+{
+    match texts {
+        None => true,
+        Some(texts) => has_text(texts, of),
+    }
+}
+
+fn has_number(numbers: &Vec<i128>, id: Id) -> bool
+    ensures { result ≡ has_number id numbers.now.items }
+{
+    for number in numbers {
+        if is_number(*number, id) {
+            return true;
+        }
+    }
+    false
+}
+
+fn is_number(number: i128, id: Id) -> bool
+    ensures { result ≡ is_number id number }
+{
+    let id = id.value();
+    number >= 0 && number as u128 == id as u128
+}
+
+fn has_text(texts: &Vec<Text>, of: &Text) -> bool
+    ensures { result ≡ has_text of.now texts.now.items }
+{
+    for text in texts {
+        if text.as_str() == of.as_str() {
+            return true;
+        }
+    }
+    false
+}

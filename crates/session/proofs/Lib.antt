@@ -1,0 +1,2 @@
+pub mod DetailsLemmas
+pub mod BrokerMessages
