@@ -12,18 +12,16 @@ use std::alloc::Global;
 /// Gives or takes one octet at a time.
 #[derive(Drop)]
 pub struct OneByOne<D> {
-    device: D,
+    /// The device inside.
+    pub device: D,
 }
 
 impl<D> OneByOne<D> {
     /// Round this device.
-    pub fn new(device: D) -> OneByOne<D> {
+    pub fn new(device: D) -> OneByOne<D>
+        ensures { result.device ≡ device }
+    {
         OneByOne { device }
-    }
-
-    /// The device inside.
-    pub fn device(&self) -> &D {
-        &self.device
     }
 }
 
@@ -66,7 +64,8 @@ impl<S: Sink> Sink for OneByOne<S> {
 /// Fails at one call, and passes every other one on. Reads, writes and flushes are counted.
 #[derive(Drop)]
 pub struct FailsAt<D> {
-    device: D,
+    /// The device inside.
+    pub device: D,
     before: Option<u64>,
     calls: Steps,
     failures: Steps,
@@ -74,18 +73,15 @@ pub struct FailsAt<D> {
 
 impl<D> FailsAt<D> {
     /// Round this device; the call with this number fails, the first being 0.
-    pub fn new(device: D, call: u64) -> FailsAt<D> {
+    pub fn new(device: D, call: u64) -> FailsAt<D>
+        ensures { result.device ≡ device }
+    {
         FailsAt {
             device,
             before: Some(call),
             calls: Steps::new(),
             failures: Steps::new(),
         }
-    }
-
-    /// The device inside.
-    pub fn device(&self) -> &D {
-        &self.device
     }
 
     /// Whether this call is to fail.

@@ -322,7 +322,7 @@ fn writes_devices(rt: HostRuntime) -> Result<(), Fail> {
     let mut sink = OneByOne::new(MemorySink::new(alloc));
     let written = write_all(&mut sink, ALL, &mut Turns::of(7));
     assert!(rt; written == Err(Fault::TooManyTurns));
-    assert!(rt; sink.device().octets() == &ALL[..7]);
+    assert!(rt; sink.device.octets() == &ALL[..7]);
     // What is held back reaches the writer below with the flush.
     let mut sink = WriteSink::new(BufWriter::new(alloc, Vec::new(alloc))?);
     write_all(&mut sink, ALL, &mut Turns::new())?;
@@ -339,9 +339,9 @@ fn writes_to_what_fails_at_each_call(rt: HostRuntime) -> Result<(), Fail> {
         let mut sink = FailsAt::new(OneByOne::new(MemorySink::new(alloc)), call as u64);
         let written = write_all(&mut sink, ALL, &mut Turns::new());
         assert!(rt; written == Err(Fault::WriteFault));
-        assert!(rt; sink.device().device().octets() == &ALL[..call]);
+        assert!(rt; sink.device.device.octets() == &ALL[..call]);
         write_all(&mut sink, &ALL[call..], &mut Turns::new())?;
-        assert!(rt; sink.device().device().octets() == ALL);
+        assert!(rt; sink.device.device.octets() == ALL);
     }
     let mut sink = FailsAt::new(MemorySink::new(alloc), 0);
     assert!(rt; sink.flush() == Err(Fault::WriteFault));
