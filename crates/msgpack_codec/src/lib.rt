@@ -1,0 +1,21 @@
+#![tactic(auto)]
+
+//! Messages as MessagePack (the MessagePack specification, "Formats"; WAMP specification,
+//! "Serializers"), read by every spelling of its table and written by the shortest.
+//!
+//! What no tree carries (a float, a value of an extension type, a str that isn't UTF-8, a map with
+//! a key that isn't a str) is read past into `Uncarried`.
+mod fault;
+mod form;
+pub mod laws;
+mod reading;
+mod writing;
+
+pub use fault::Fault;
+pub use reading::decode;
+pub use writing::encode;
+
+#[cfg(test)]
+mod tests;
+#[cfg(test)]
+mod vectors;
