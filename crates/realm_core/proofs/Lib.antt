@@ -1,0 +1,14 @@
+pub mod Growing
+pub mod Histories
+pub mod ConnLemmas
+pub mod Replies
+pub mod Numbers
+pub mod Exactness
+pub mod Ended
+pub mod Following
+pub mod Naming
+pub mod SubscribeReplies
+pub mod Events
+pub mod Gifts
+pub mod Handing
+pub mod PublishReplies

@@ -1,0 +1,88 @@
+-- What each entry gives each session, and what a history owes it.
+use Rattle.std.specs.Prelude.{ℕ, Bool, true, false, cond, ◌==◌, List, [], ◌∷◌, ◌++◌, map}
+use Rattle.std.specs.Prelude.{None, Some, Ok, Err}
+use Rattle.std.specs.declared.option.Option.{Option}
+use Rattle.std.specs.declared.result.Result.{Result}
+use Rattle.std.specs.List.{filter}
+use Rattle.wamp_ids.specs.Pattern.{PatternText, matches}
+use Rattle.wamp_ids.specs.declared.pattern.Policy.{Policy}
+use Rattle.wamp_ids.specs.declared.pattern.Policy.TheVariants.{Exact, Prefix, Wildcard}
+use Rattle.realm_core.specs.declared.entry.Entry.{Entry}
+use Rattle.realm_core.specs.declared.entry.Entry.TheVariants.{Join, Said, Spoilt, Gone}
+use Rattle.session.specs.declared.said.Said.TheVariants.{Hello, Publish, Subscribe}
+use Rattle.session.specs.declared.said.Said.TheVariants as say
+use Rattle.eligibility.specs.declared.who.Who.{Who}
+use Rattle.session.specs.declared.item.Publication.{Publication}
+use Rattle.session.specs.declared.item.Item.{Item}
+use Rattle.session.specs.declared.item.Item.TheVariants.{Welcome, Abort, Goodbye, Error, Published, Subscribed, Event}
+use Rattle.session.specs.declared.item.Request.TheVariants as kind
+use Rattle.session.specs.declared.item.Reason.{Reason}
+use Rattle.session.specs.declared.item.Reason.TheVariants.{ProtocolViolation, GoodbyeAndOut}
+use Rattle.realm_core.specs.History.{History, begun, ◌▷◌}
+use Rattle.realm_core.specs.Options.{acknowledge_of}
+use Rattle.realm_core.specs.Sessions.{who, conn_of, admission}
+use Rattle.realm_core.specs.Subscriptions.{held, number, subscribed}
+use Rattle.realm_core.specs.Publications.{published, admits}
+
+-- the reply to a Join: WELCOME, or ABORT with the reason
+abbrev pub welcome : Result Who Reason → List Item
+welcome (Ok w) = Welcome w ∷ []
+welcome (Err reason) = Abort reason ∷ []
+
+-- PUBLISHED or ERROR, where the publisher asked for it
+abbrev pub publish_reply : ℕ → Option Bool → Result Publication Reason → List Item
+publish_reply request (Some true) (Ok made) = Published request made.id ∷ []
+publish_reply request (Some true) (Err reason) = Error kind.Publish request reason ∷ []
+publish_reply request _ _ = []
+
+-- SUBSCRIBED with the number of the pattern after the entry, or ERROR
+abbrev pub subscribe_reply : ℕ → (PatternText → ℕ) → Result PatternText Reason → Item
+subscribe_reply request number (Ok p) = Subscribed request (number p)
+subscribe_reply request number (Err reason) = Error kind.Subscribe request reason
+
+-- the reply to the entry's own connection
+abbrev pub reply : History → Entry → List Item
+reply h (Join c word authid) = welcome (admission h c word authid)
+reply h (Said c word (Hello realm authid)) = Abort ProtocolViolation ∷ []
+reply h (Said c word say.Abort) = []
+reply h (Said c word say.Goodbye) = Goodbye GoodbyeAndOut ∷ []
+reply h (Said c word (Publish request options topic args)) =
+    publish_reply request (acknowledge_of options) (published h c word options topic args)
+reply h (Said c word (Subscribe request options topic)) =
+    subscribe_reply request (number (h ▷ Said c word (Subscribe request options topic))) (subscribed h c options topic) ∷ []
+reply h (Spoilt c) = Abort ProtocolViolation ∷ []
+reply h (Gone c) = []
+
+-- EVENT.Details names the topic where the pattern does not
+abbrev pub names_topic : Policy → Bool
+names_topic Exact = false
+names_topic Prefix = true
+names_topic Wildcard = true
+
+abbrev pub admits_who : Publication → Option Who → Bool
+admits_who p None = false
+admits_who p (Some w) = admits p w
+
+-- the EVENTs of a publication for what a session holds: one for each pattern that matches, by ascending number
+abbrev pub events_of : Publication → Option Who → List (ℕ × PatternText) → List Item
+events_of p receiver held =
+    cond (admits_who p receiver) (map (λ s. Event s.0 p (names_topic s.1.policy) false) (filter (λ s. matches s.1 p.topic) held)) []
+
+abbrev pub made_events : Result Publication Reason → Option Who → List (ℕ × PatternText) → List Item
+made_events (Err reason) receiver held = []
+made_events (Ok made) receiver held = events_of made receiver held
+
+-- the EVENTs that e, coming after h, gives c
+abbrev pub events : History → Entry → ℕ → List Item
+events h (Said d word (Publish request options topic args)) c =
+    made_events (published h d word options topic args) (who h c) (held h c)
+events h e c = []
+
+-- what e, coming after h, gives c: the reply, and then EVENTs
+unfoldable pub yield : History → Entry → ℕ → List Item
+yield h e c = cond (conn_of e == c) (reply h e) [] ++ events h e c
+
+-- what h owes c: what each entry gave it, joined
+abbrev pub owed : History → ℕ → List Item
+owed (begun grants) c = []
+owed (h ▷ e) c = owed h c ++ yield h e c

@@ -1,0 +1,23 @@
+//! The broker core: what each entry of a realm's history gives each session.
+//!
+//! The model stands in `specs/` and looks back over the history; [`Realm`] is a body that meets it.
+#![tactic(auto)]
+
+mod answer;
+mod entry;
+mod fault;
+mod kept;
+pub mod laws;
+mod publishing;
+mod realm;
+mod sessions;
+mod subscribing;
+mod subscriptions;
+
+pub use entry::Entry;
+pub use fault::Fault;
+pub use realm::{Realm, RealmConfig};
+pub use session::{Args, CarriedArgs, Item, Lists, Publication, Reason, Request, Said, Who};
+
+#[cfg(test)]
+mod tests;
