@@ -1,8 +1,8 @@
 #![tactic(auto)]
 
-//! Messages as JSON text (WAMP specification, "Serializers", JSON; RFC 8259), read and written
-//! over `serde_json`. A byte string is a JSON string of U+0000 and the base64 of its bytes
-//! (RFC 4648, section 4).
+//! Messages as JSON text (WAMP specification, "Serializers"; RFC 8259), read by `serde_json` and
+//! written as it writes. A byte string is a JSON string of U+0000 and the base64 of its bytes (WAMP
+//! specification, "Binary conversion of JSON Strings"; RFC 4648, section 4).
 mod fault;
 mod reading;
 mod writing;

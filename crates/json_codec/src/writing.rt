@@ -15,9 +15,10 @@ use json::Writer;
 use message_tree::{Dict, Message, Tree};
 use std::alloc::{AllocError, Global};
 
-/// The compact JSON text of a message, with no white space and the keys in ascending bytes (WAMP
-/// specification, "Serializers", JSON; RFC 8259). A byte string is written as a string of U+0000
-/// and its padded base64 (RFC 4648, section 4).
+/// The compact JSON text of a message (RFC 8259): no white space, the keys in ascending bytes. A
+/// byte string is written as a string of U+0000 and its padded base64 (RFC 4648, section 4).
+///
+/// The text is written straight from the tree: no string is copied but the base64 of bytes.
 ///
 /// # Errors
 /// [`Fault::UncarriedLeaf`] exactly where the message isn't carried; [`Fault::NoMemory`] where a

@@ -33,24 +33,48 @@ fn nested(alloc: Global, levels: u32) -> Result<Tree, Fail> {
     Ok(tree)
 }
 
-#[test]
-fn keeps_the_last_value_of_a_key(rt: HostRuntime) -> Result<(), Fail> {
-    let alloc = rt.alloc();
+/// Keys in no order, one of them twice.
+fn numbered(alloc: Global) -> Result<Dict, Fail> {
     let mut dict = Dict::new(alloc);
     for (key, number) in [("b", 1), ("ä", 2), ("a", 3), ("b", 4), ("ab", 5)] {
         dict.set(alloc, text(alloc, key)?, Tree::Whole(number))?;
     }
+    Ok(dict)
+}
+
+/// Its entries, by the bytes of the keys.
+const ORDERED: [(&str, i128); 4] = [("a", 3), ("ab", 5), ("b", 4), ("ä", 2)];
+
+#[test]
+fn keeps_the_last_value_of_a_key(rt: HostRuntime) -> Result<(), Fail> {
+    let dict = numbered(rt.alloc())?;
     assert_eq!(rt; dict.len(), 4);
-    let want = [("a", 3), ("ab", 5), ("b", 4), ("ä", 2)];
-    for (place, (key, number)) in want.into_iter().enumerate() {
-        let value = Tree::Whole(number);
-        assert_eq!(rt; dict.at(place), Some((key, &value)), "at {place}");
-        assert_eq!(rt; dict.get(key), Some(&value), "at {key}");
+    for (key, number) in ORDERED {
+        assert_eq!(rt; dict.get(key), Some(&Tree::Whole(number)), "at {key}");
+    }
+    assert_eq!(rt; dict.get("c"), None);
+    Ok(())
+}
+
+#[test]
+fn keeps_keys_in_order(rt: HostRuntime) -> Result<(), Fail> {
+    let dict = numbered(rt.alloc())?;
+    for (place, (key, number)) in ORDERED.iter().enumerate() {
+        assert_eq!(rt;
+            dict.at(place),
+            Some((*key, &Tree::Whole(*number))),
+            "at {place}"
+        );
     }
     assert_eq!(rt; dict.at(4), None);
-    assert_eq!(rt; dict.get("c"), None);
+    Ok(())
+}
+
+#[test]
+fn visits_all_entries(rt: HostRuntime) -> Result<(), Fail> {
+    let dict = numbered(rt.alloc())?;
     assert_eq!(rt; dict.iter().count(), 4);
-    for ((key, value), (wanted, number)) in dict.iter().zip(want) {
+    for ((key, value), (wanted, number)) in dict.iter().zip(ORDERED) {
         assert_eq!(rt; key.as_str(), wanted);
         assert_eq!(rt; *value, Tree::Whole(number));
     }
