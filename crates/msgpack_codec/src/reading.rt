@@ -1,5 +1,5 @@
 //! Octets to messages.
-ghost use Rattle.std.specs.Prelude.{◌≡◌, ◌≢◌, ◌≤◌, length, IfOk, IfErr, OnOk, Ok, true, ◌&&◌, if◌then◌else◌};
+ghost use Rattle.std.specs.Prelude.{◌≡◌, ◌≢◌, ◌<◌, ◌≤◌, ◌+◌, max, vec_len, vec_capacity, length, IfOk, IfErr, OnOk, Ok, true, ◌&&◌, if◌then◌else◌};
 ghost use Rattle.msgpack_codec.specs.Form.{bits_of};
 ghost use Rattle.msgpack_codec.specs.Reading.{Gives, number_at, octets_at, size_at, sized_at, leaf_at, nest_at, value_at, items_at, dict_at, message_at};
 ghost use Rattle.msgpack_codec.specs.Values.{signed_from, text_from, is_text, keep_entry};
@@ -181,6 +181,8 @@ fn nest(alloc: Global, form: Form, octets: &[u8], room: u8) -> Result<(Tree, &[u
 /// this one and one at each octet that is left.
 fn make_room(found: &mut Vec<Tree>, left: usize) -> Result<(), Fault>
     ensures items { found.new.items ≡ found.old.items }
+    ensures room { OnOk result (vec_len found.new < vec_capacity found.new) }
+    ensures few { vec_capacity found.new ≤ max (vec_capacity found.old) (vec_len found.old + left + 1) }
     ensures err { IfErr result (λ e. e ≡ Fault.NoMemory) }
 {
     let len = found.len();
@@ -201,7 +203,7 @@ fn items(alloc: Global, octets: &[u8], count: u64, room: u8) -> Result<(Vec<Tree
     for _ in 0..count {
         let (item, after) = value(alloc, rest, room)?;
         make_room(&mut found, after.len())?;
-        found.push(item)?;
+        found.push_reserved(item);
         rest = after;
     }
     Ok((found, rest))

@@ -342,3 +342,34 @@ fn names_its_faults(rt: HostRuntime) -> Result<(), Fail> {
     }
     Ok(())
 }
+
+/// A second try, where memory was refused.
+fn decoded_at_last(alloc: Global, octets: &[u8]) -> Result<Message, Fault> {
+    match decode(alloc, octets) {
+        Err(Fault::NoMemory) => decode(alloc, octets),
+        read => read,
+    }
+}
+
+fn encoded_at_last(alloc: Global, message: &Message) -> Result<Vec<u8>, Fault> {
+    match encode(alloc, message) {
+        Err(Fault::NoMemory) => encode(alloc, message),
+        written => written,
+    }
+}
+
+/// Run with each allocation refused in turn, it must pass too.
+#[test]
+fn answers_again_after_a_refusal(rt: HostRuntime) -> Result<(), Fail> {
+    let alloc = rt.alloc();
+    let octets = b"\x93\x01\xa5r.one\x82\xa1a\x92\xc0\xa1z\xa1b\xc4\x02\x01\x02".as_slice();
+    let message = decoded_at_last(alloc, octets)?;
+    assert!(rt; message.is_carried() && message.depth() == 3);
+    assert!(rt; encoded_at_last(alloc, &message)?.as_slice() == octets);
+    let past = decoded_at_last(alloc, b"\x82\xc0\xa1a\xa1k\x91\xa1b")?;
+    assert!(rt; past.tree() == &Tree::Uncarried);
+    assert!(rt; encoded_at_last(alloc, &past) == Err(Fault::UncarriedLeaf));
+    let refused = decoded_at_last(alloc, b"\x92\xa1a\xc1");
+    assert!(rt; refused.is_err_and(|fault| fault == Fault::Malformed));
+    Ok(())
+}

@@ -1,5 +1,5 @@
 -- Octets that are written piece by piece, and read from memory.
-use Rattle.std.proofs.Common.{◌≡◌, ◌≤◌, ◌+◌, ◌++◌, ◌<◌, ℕ, List, [], length, take, drop, min, refl, sym, ap, ◌∙◌, arith, append_assoc, length-append, length-drop}
+use Rattle.std.proofs.Common.{◌≡◌, ◌+◌, ◌++◌, ◌<◌, ℕ, List, [], length, take, drop, min, refl, sym, ap, ◌∙◌, arith, append_assoc, length-append, length-drop}
 use Rattle.std.proofs.Math.Seq.{take-add}
 use Rattle.std.proofs.lemmas.List.{take-append-drop, take_at, drop-drop, drop_all}
 use Rattle.rawsocket.specs.Devices.{GrowsByBeginning}
@@ -10,7 +10,7 @@ pub record Written (before now octets rest : List ℕ) (calls₀ calls turns₀ 
   pub octets_are : octets ≡ front ++ rest
   pub now_is : now ≡ before ++ front
   pub calls_are : calls + turns ≡ calls₀ + turns₀
-  pub none_failed : failures₀ ≤ failures
+  pub none_failed : failures ≡ failures₀
 
 pub written_more : (before now octets rest new : List ℕ) (n calls₀ calls more turns₀ turns left failures₀ failures : ℕ) → Written before now octets rest calls₀ calls turns₀ turns failures₀ failures
     → new ≡ now ++ take n rest → more ≡ calls + 1 → turns ≡ left + 1 → Written before new octets (drop n rest) calls₀ more turns₀ left failures₀ failures

@@ -1,6 +1,10 @@
 #![tactic(auto)]
 
-//! RawSocket: the handshake, frames in any pieces, and the devices that octets come from and go to.
+//! RawSocket (WAMP specification, "RawSocket Transport"): the handshake, the frames of a stream that
+//! comes in any pieces, and the devices that octets come from and go to.
+//!
+//! A frame's length has 24 bits here: payloads of exactly 2^24 octets, and any use of the upper five
+//! bits of a frame's first octet, are left out.
 mod deframer;
 mod device;
 mod fault;

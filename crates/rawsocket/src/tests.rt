@@ -190,6 +190,49 @@ fn reads_frames_however_cut(rt: HostRuntime) -> Result<(), Fail> {
     Ok(())
 }
 
+/// The same piece again, where memory was refused.
+fn fed_at_last(alloc: Global, deframer: &mut Deframer, piece: &[u8]) -> Result<Fed, Fault> {
+    match deframer.feed(alloc, piece) {
+        Err(Fault::NoMemory) => deframer.feed(alloc, piece),
+        fed => fed,
+    }
+}
+
+/// Run with each allocation refused in turn, it must pass too.
+#[test]
+fn feeds_again_after_a_refusal(rt: HostRuntime) -> Result<(), Fail> {
+    let alloc = rt.alloc();
+    let mut deframer = Deframer::new(alloc);
+    let fed = fed_at_last(alloc, &mut deframer, &HELLO[..7])?;
+    assert!(rt; fed.frames.is_empty() && fed.fault.is_none());
+    let fed = fed_at_last(alloc, &mut deframer, &HELLO[7..12])?;
+    assert!(rt; fed.frames.is_empty() && fed.fault.is_none());
+    let piece = [0x80, 1, 0, 0, 4, 0x61, 0x62, 0x63, 0x64, 0, 0, 0, 5, 0x94];
+    let fed = fed_at_last(alloc, &mut deframer, &piece)?;
+    assert!(rt;
+        are(
+            &fed.frames,
+            &[(Kind::Message, &HELLO[4..]), (Kind::Ping, A)]
+        )
+    );
+    let fed = fed_at_last(alloc, &mut deframer, &EVENT[5..])?;
+    assert!(rt; are(&fed.frames, &[(Kind::Message, &EVENT[4..])]));
+    let fed = fed_at_last(alloc, &mut deframer, &[3, 0, 0, 0])?;
+    assert!(rt; fed.frames.is_empty() && fed.fault == Some(Fault::FrameType));
+    let mut out = Vec::new(alloc);
+    if write_frame(alloc, Kind::Ping, A, &mut out).is_err() {
+        assert!(rt; out.is_empty());
+        write_frame(alloc, Kind::Ping, A, &mut out)?;
+    }
+    assert!(rt; out.as_slice() == PING.as_slice());
+    let mut sink = MemorySink::new(alloc);
+    if write_all(&mut sink, ALL, &mut Turns::new()).is_err() {
+        write_all(&mut sink, ALL, &mut Turns::new())?;
+    }
+    assert!(rt; sink.octets() == ALL);
+    Ok(())
+}
+
 #[test]
 fn judges_headers(rt: HostRuntime) -> Result<(), Fail> {
     for (header, fault) in [

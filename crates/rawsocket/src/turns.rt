@@ -7,6 +7,7 @@ use crate::device::{Sink, Source};
 use crate::fault::Fault;
 use std::marker::Model;
 
+/// How often a call may read or write one stream.
 const MOST: u64 = 0x1_0000_0000;
 
 /// The turns that are left, seen as their number.
@@ -24,7 +25,7 @@ impl Model for Turns {
 }
 
 impl Turns {
-    /// So many.
+    /// So many turns, for a part of a call or a test.
     pub fn of(left: u64) -> Turns
         ensures { result ≡ left }
     {
@@ -51,7 +52,11 @@ impl Turns {
     }
 }
 
-/// One read, if a turn is left: how many octets it gave.
+/// One read, if a turn is left: how many octets it gave. None, into a buffer that isn't empty, are
+/// the stream's end.
+///
+/// # Errors
+/// [`Fault::ReadFault`] where the device failed; [`Fault::TooManyTurns`] where no turn was left.
 pub fn read_turn<S: Source>(
     source: &mut S,
     buffer: &mut [u8],
@@ -64,6 +69,7 @@ pub fn read_turn<S: Source>(
     ensures kept { OnErr result (S.given source.new ≡ S.given source.old) }
     ensures goes_on { OnErr result (S.is_ended source.new ≡ S.is_ended source.old) }
     ensures turn { OnOk result (turns.old ≡ turns.new + 1) }
+    ensures fine { OnOk result (S.failures source.new ≡ S.failures source.old) }
     ensures calls { S.calls source.new + turns.new ≡ S.calls source.old + turns.old }
     ensures failures { S.failures source.old ≤ S.failures source.new }
     ensures device { result ≡ Err Fault.ReadFault → S.failures source.old < S.failures source.new }
@@ -76,9 +82,14 @@ pub fn read_turn<S: Source>(
     source.read_some(buffer)
 }
 
-/// Writes all octets.
+/// Writes all octets, in as many turns as it takes.
+///
+/// # Errors
+/// [`Fault::WriteFault`] where the device failed; [`Fault::TooManyTurns`] where no turn was left. A
+/// beginning of the octets is written then.
 pub fn write_all<S: Sink>(sink: &mut S, octets: &[u8], turns: &mut Turns) -> Result<(), Fault>
     ensures written { OnOk result (S.taken sink.new ≡ S.taken sink.old ++ octets.now) }
+    ensures fine { OnOk result (S.failures sink.new ≡ S.failures sink.old) }
     ensures begun { GrowsByBeginning (S.taken sink.old) (S.taken sink.new) octets.now }
     ensures calls { S.calls sink.new + turns.new ≡ S.calls sink.old + turns.old }
     ensures failures { S.failures sink.old ≤ S.failures sink.new }
