@@ -1,11 +1,12 @@
 // Reading one option by its kind. An option whose value is null counts as absent.
-ghost use Rattle.std.specs.Prelude.{◌≡◌, ◌<◌, ◌^◌, pos, IfOk, OnErr, IfErr, None, Some, option_map};
+ghost use Rattle.std.specs.Prelude.{◌≡◌, ◌<◌, ◌^◌, pos, IfOk, OnErr, IfErr, None, Some};
 ghost use Rattle.message_tree.specs.Data.{find_entry, whole, fits_codecs};
 ghost use Rattle.message_tree.specs.View.{view, dict_view, items_view};
 ghost use Rattle.eligibility.specs.Asked.{flag_or, each_of, number_of, text_of};
 ghost use Rattle.eligibility.specs.Audience.{numbers_at, texts_at};
 
 use crate::fault::Fault;
+use crate::lookup::{Numbers, Texts};
 use message_tree::{Dict, Text, Tree};
 use std::alloc::Global;
 
@@ -22,30 +23,32 @@ pub(crate) fn flag_at(options: &Dict, key: &str, absent: bool) -> Result<bool, F
     }
 }
 
-pub(crate) fn numbers_at(
-    alloc: Global,
-    options: &Dict,
-    key: &str,
-) -> Result<Option<Vec<i128>>, Fault>
-    ensures ok { IfOk result (λ r. numbers_at key.now (dict_view options.now) ≡ Some (option_map (λ v. v.items) r)) }
+pub(crate) fn numbers_at(alloc: Global, options: &Dict, key: &str) -> Result<Option<Numbers>, Fault>
+    ensures ok { IfOk result (λ r. numbers_at key.now (dict_view options.now) ≡ Some r) }
     ensures bad { result ≡ Err Fault.Shape → numbers_at key.now (dict_view options.now) ≡ None }
 {
     match options.get(key) {
         None => Ok(None),
         Some(Tree::Null) => Ok(None),
-        Some(Tree::List(items)) => Ok(Some(numbers_in(alloc, items)?)),
+        Some(Tree::List(items)) => {
+            let numbers = numbers_in(alloc, items)?;
+            Ok(Some(Numbers::of(alloc, numbers)?))
+        }
         Some(_) => Err(Fault::Shape),
     }
 }
 
-pub(crate) fn texts_at(alloc: Global, options: &Dict, key: &str) -> Result<Option<Vec<Text>>, Fault>
-    ensures ok { IfOk result (λ r. texts_at key.now (dict_view options.now) ≡ Some (option_map (λ v. v.items) r)) }
+pub(crate) fn texts_at(alloc: Global, options: &Dict, key: &str) -> Result<Option<Texts>, Fault>
+    ensures ok { IfOk result (λ r. texts_at key.now (dict_view options.now) ≡ Some r) }
     ensures bad { result ≡ Err Fault.Shape → texts_at key.now (dict_view options.now) ≡ None }
 {
     match options.get(key) {
         None => Ok(None),
         Some(Tree::Null) => Ok(None),
-        Some(Tree::List(items)) => Ok(Some(texts_in(alloc, items)?)),
+        Some(Tree::List(items)) => {
+            let texts = texts_in(alloc, items)?;
+            Ok(Some(Texts::of(alloc, texts)?))
+        }
         Some(_) => Err(Fault::Shape),
     }
 }

@@ -5,6 +5,7 @@ mod asked;
 mod fault;
 pub mod laws;
 mod lists;
+mod lookup;
 #[cfg(test)]
 mod tests;
 mod who;

@@ -1,10 +1,11 @@
-ghost use Rattle.std.specs.Prelude.{◌≡◌, IfOk, None, Some, option_map};
+ghost use Rattle.std.specs.Prelude.{◌≡◌, IfOk, None, Some};
 ghost use Rattle.message_tree.specs.Data.{no_entries};
 ghost use Rattle.message_tree.specs.View.{dict_view};
-ghost use Rattle.eligibility.specs.Audience.{audience_of, everyone, admits, has_number, has_text, is_free_of, allows, is_number};
+ghost use Rattle.eligibility.specs.Audience.{audience_of, everyone, admits, has_number, has_text, is_free_of, allows};
 
 use crate::asked::{flag_at, numbers_at, texts_at};
 use crate::fault::Fault;
+use crate::lookup::{Numbers, Texts};
 use crate::who::Who;
 use message_tree::{Dict, Text};
 use std::alloc::Global;
@@ -13,31 +14,30 @@ use wamp_ids::Id;
 
 /// Who is to receive a publication: the options of a PUBLISH that speak of it (WAMP, "Subscriber
 /// Black- and Whitelisting", "Publisher Exclusion").
-#[derive(Debug, Drop)]
+#[derive(Drop)]
 pub struct Lists {
     exclude_me: bool,
-    exclude: Option<Vec<i128>>,
-    exclude_authid: Option<Vec<Text>>,
-    exclude_authrole: Option<Vec<Text>>,
-    eligible: Option<Vec<i128>>,
-    eligible_authid: Option<Vec<Text>>,
-    eligible_authrole: Option<Vec<Text>>,
+    exclude: Option<Numbers>,
+    exclude_authid: Option<Texts>,
+    exclude_authrole: Option<Texts>,
+    eligible: Option<Numbers>,
+    eligible_authid: Option<Texts>,
+    eligible_authrole: Option<Texts>,
 }
 
 impl Model for Lists {
-    ghost use Rattle.std.specs.Prelude.{option_map};
     ghost use Rattle.eligibility.specs.Audience.{Audience};
 
     ghost Value = { Audience };
 
     ghost view = { λ l. record {
       exclude_me = l.exclude_me;
-      exclude = option_map (λ v. v.items) l.exclude;
-      exclude_authid = option_map (λ v. v.items) l.exclude_authid;
-      exclude_authrole = option_map (λ v. v.items) l.exclude_authrole;
-      eligible = option_map (λ v. v.items) l.eligible;
-      eligible_authid = option_map (λ v. v.items) l.eligible_authid;
-      eligible_authrole = option_map (λ v. v.items) l.eligible_authrole;
+      exclude = l.exclude;
+      exclude_authid = l.exclude_authid;
+      exclude_authrole = l.exclude_authrole;
+      eligible = l.eligible;
+      eligible_authid = l.eligible_authid;
+      eligible_authrole = l.eligible_authrole;
     } };
 }
 
@@ -103,67 +103,38 @@ impl Lists {
     }
 }
 
-fn is_free_of_number(numbers: &Option<Vec<i128>>, id: Id) -> bool
-    ensures { result ≡ is_free_of (has_number id) (option_map (λ v. v.items) numbers.now) }
+fn is_free_of_number(numbers: &Option<Numbers>, id: Id) -> bool
+    ensures { result ≡ is_free_of (has_number id) numbers.now }
 {
     match numbers {
         None => true,
-        Some(numbers) => !has_number(numbers, id),
+        Some(numbers) => !numbers.has(id),
     }
 }
 
-fn is_free_of_text(texts: &Option<Vec<Text>>, of: &Text) -> bool
-    ensures { result ≡ is_free_of (has_text of.now) (option_map (λ v. v.items) texts.now) }
+fn is_free_of_text(texts: &Option<Texts>, of: &Text) -> bool
+    ensures { result ≡ is_free_of (has_text of.now) texts.now }
 {
     match texts {
         None => true,
-        Some(texts) => !has_text(texts, of),
+        Some(texts) => !texts.has(of),
     }
 }
 
-fn allows_number(numbers: &Option<Vec<i128>>, id: Id) -> bool
-    ensures { result ≡ allows (has_number id) (option_map (λ v. v.items) numbers.now) }
+fn allows_number(numbers: &Option<Numbers>, id: Id) -> bool
+    ensures { result ≡ allows (has_number id) numbers.now }
 {
     match numbers {
         None => true,
-        Some(numbers) => has_number(numbers, id),
+        Some(numbers) => numbers.has(id),
     }
 }
 
-fn allows_text(texts: &Option<Vec<Text>>, of: &Text) -> bool
-    ensures { result ≡ allows (has_text of.now) (option_map (λ v. v.items) texts.now) }
+fn allows_text(texts: &Option<Texts>, of: &Text) -> bool
+    ensures { result ≡ allows (has_text of.now) texts.now }
 {
     match texts {
         None => true,
-        Some(texts) => has_text(texts, of),
+        Some(texts) => texts.has(of),
     }
-}
-
-fn has_number(numbers: &Vec<i128>, id: Id) -> bool
-    ensures { result ≡ has_number id numbers.now.items }
-{
-    for number in numbers {
-        if is_number(*number, id) {
-            return true;
-        }
-    }
-    false
-}
-
-fn is_number(number: i128, id: Id) -> bool
-    ensures { result ≡ is_number id number }
-{
-    let id = id.value();
-    number >= 0 && number as u128 == id as u128
-}
-
-fn has_text(texts: &Vec<Text>, of: &Text) -> bool
-    ensures { result ≡ has_text of.now texts.now.items }
-{
-    for text in texts {
-        if text.as_str() == of.as_str() {
-            return true;
-        }
-    }
-    false
 }

@@ -43,6 +43,14 @@ fn goes(alloc: Global, key: &str, value: Tree) -> Result<bool, Fail> {
     Ok(lists.admits(&receiver, &publisher))
 }
 
+fn may_cross_threads<T: Send + Sync>() {}
+
+#[test]
+fn lists_may_cross_threads() {
+    may_cross_threads::<Lists>();
+    may_cross_threads::<Who>();
+}
+
 #[test]
 fn each_list_alone(rt: HostRuntime) -> Result<(), Fail> {
     let alloc = rt.alloc();

@@ -13,6 +13,8 @@ mod opening;
 mod reading;
 mod said;
 mod telling;
+#[cfg(test)]
+mod tests;
 
 pub use args::{Args, CarriedArgs};
 pub use asked::First;

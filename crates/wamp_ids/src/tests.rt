@@ -51,45 +51,57 @@ const TEXTS: [(&str, bool, bool); 16] = [
 ];
 
 #[test]
-fn texts_of_topics(rt: HostRuntime) {
+fn texts_of_topics(rt: HostRuntime) -> Result<(), Fail> {
     for (text, is_topic, _is_loose) in TEXTS {
-        reads_topic(&rt, rt.alloc(), text, is_topic);
+        reads_topic(&rt, rt.alloc(), text, is_topic)?;
     }
+    Ok(())
 }
 
-fn reads_topic(rt: &impl Abort, alloc: Global, text: &str, is_topic: bool) {
+fn reads_topic(rt: &impl Abort, alloc: Global, text: &str, is_topic: bool) -> Result<(), Fail> {
     match Topic::read(alloc, text) {
         Ok(topic) => {
             assert!(rt; is_topic, "topic {text}");
             assert_eq!(rt; topic.text(), text);
+            Ok(())
         }
-        Err(fault) => {
+        Err(Fault::BadUri) => {
             assert!(rt; !is_topic, "topic {text}");
-            assert_eq!(rt; fault, Fault::BadUri);
+            Ok(())
         }
+        Err(fault) => Err(fault.into()),
     }
 }
 
 #[test]
-fn texts_of_patterns(rt: HostRuntime) {
+fn texts_of_patterns(rt: HostRuntime) -> Result<(), Fail> {
     for (text, is_topic, is_loose) in TEXTS {
-        reads_pattern(&rt, rt.alloc(), Policy::Exact, text, is_topic);
-        reads_pattern(&rt, rt.alloc(), Policy::Prefix, text, is_loose);
-        reads_pattern(&rt, rt.alloc(), Policy::Wildcard, text, is_loose);
+        reads_pattern(&rt, rt.alloc(), Policy::Exact, text, is_topic)?;
+        reads_pattern(&rt, rt.alloc(), Policy::Prefix, text, is_loose)?;
+        reads_pattern(&rt, rt.alloc(), Policy::Wildcard, text, is_loose)?;
     }
+    Ok(())
 }
 
-fn reads_pattern(rt: &impl Abort, alloc: Global, policy: Policy, text: &str, is_pattern: bool) {
+fn reads_pattern(
+    rt: &impl Abort,
+    alloc: Global,
+    policy: Policy,
+    text: &str,
+    is_pattern: bool,
+) -> Result<(), Fail> {
     match Pattern::read(alloc, policy, text) {
         Ok(pattern) => {
             assert!(rt; is_pattern, "pattern {text}");
             assert_eq!(rt; pattern.text(), text);
             assert_eq!(rt; pattern.policy(), policy);
+            Ok(())
         }
-        Err(fault) => {
+        Err(Fault::BadUri) => {
             assert!(rt; !is_pattern, "pattern {text}");
-            assert_eq!(rt; fault, Fault::BadUri);
+            Ok(())
         }
+        Err(fault) => Err(fault.into()),
     }
 }
 
