@@ -1,0 +1,258 @@
+use crate::{Command, Config, Fault, read_command, replay, report};
+use rawsocket::testing::OneByOne;
+use rawsocket::{MemorySink, MemorySource};
+use std::alloc::Global;
+use std::test::Fail;
+use wamp_ids::Topic;
+
+/// The WELCOME of a session without an authid.
+fn welcome(alloc: Global, number: u64) -> Result<String, Fail> {
+    Ok(format!(in alloc; "{number} [2,{number},{{\"authid\":\"anonymous\",\"authrole\":\"anonymous\",\"roles\":{{\"broker\":{{\"features\":{{\"event_retention\":true,\"pattern_based_subscription\":true,\"publisher_exclusion\":true,\"publisher_identification\":true,\"subscriber_blackwhite_listing\":true}}}}}}}}]\n")?)
+}
+
+fn config(alloc: Global) -> Result<Config, Fail> {
+    let realm = Topic::read(alloc, "r.one")?;
+    Ok(Config {
+        realms: vec![in alloc; realm]?,
+    })
+}
+
+/// What a replay of these lines writes, and its fault.
+fn told(alloc: Global, input: &str) -> Result<(String, Option<Fault>), Fail> {
+    let config = config(alloc)?;
+    let mut source = MemorySource::new(input.as_bytes().to_vec(alloc)?);
+    let mut sink = MemorySink::new(alloc);
+    if config.realms.is_empty() {
+        return Err("no realm".into());
+    }
+    let fault = replay(alloc, &mut source, &mut sink, &config).err();
+    let text = std::str::from_utf8(sink.octets()).map_err(|_| "no text")?;
+    Ok((String::from_str(alloc, text)?, fault))
+}
+
+/// The same, where the input comes one octet at a time.
+fn told_slowly(alloc: Global, input: &str) -> Result<String, Fail> {
+    let config = config(alloc)?;
+    let octets = input.as_bytes().to_vec(alloc)?;
+    let mut source = OneByOne::new(MemorySource::new(octets));
+    let mut sink = OneByOne::new(MemorySink::new(alloc));
+    if config.realms.is_empty() {
+        return Err("no realm".into());
+    }
+    replay(alloc, &mut source, &mut sink, &config)?;
+    let text = std::str::from_utf8(sink.device().octets()).map_err(|_| "no text")?;
+    Ok(String::from_str(alloc, text)?)
+}
+
+/// Two sessions, and then these lines: what the lines give after the two WELCOMEs.
+fn after_two(alloc: Global, lines: &str) -> Result<String, Fail> {
+    let opened = "1 [1,\"r.one\",{}]\n2 [1,\"r.one\",{}]\n";
+    let input = format!(in alloc; "{opened}{lines}")?;
+    let (output, fault) = told(alloc, input.as_str())?;
+    if fault.is_some() {
+        return Err("a fault".into());
+    }
+    let one = welcome(alloc, 1)?;
+    let two = welcome(alloc, 2)?;
+    let start = format!(in alloc; "{one}{two}")?;
+    match output.as_str().strip_prefix(start.as_str()) {
+        Some(rest) => Ok(String::from_str(alloc, rest)?),
+        None => Err("no two welcomes".into()),
+    }
+}
+
+const FIRST_PATH: &str = "1 [32,1,{},\"a.b\"]
+2 [16,1,{\"acknowledge\":true},\"a.b\",[\"hi\"]]
+2 [6,{},\"wamp.close.close_realm\"]
+";
+
+const FIRST_PATH_GIVES: &str = "1 [33,1,1]
+1 [36,1,3,{},[\"hi\"]]
+2 [17,1,3]
+2 [6,{},\"wamp.close.goodbye_and_out\"]
+2 end
+";
+
+#[test]
+fn welcomes(rt: HostRuntime) -> Result<(), Fail> {
+    let alloc = rt.alloc();
+    let want = welcome(alloc, 1)?;
+    for line in [
+        "1 [1,\"r.one\",{}]",
+        "1 [1,\"r.one\",{\"roles\":{\"publisher\":{},\"subscriber\":{}},\"authmethods\":[\"anonymous\"]}]\n",
+    ] {
+        let (output, fault) = told(alloc, line)?;
+        assert_eq!(rt; output.as_str(), want.as_str());
+        assert_eq!(rt; fault, None);
+    }
+    let (nothing, fault) = told(alloc, "")?;
+    assert_eq!(rt; nothing.as_str(), "");
+    assert_eq!(rt; fault, None);
+    Ok(())
+}
+
+#[test]
+fn first_path(rt: HostRuntime) -> Result<(), Fail> {
+    let alloc = rt.alloc();
+    assert_eq!(rt; after_two(alloc, FIRST_PATH)?.as_str(), FIRST_PATH_GIVES);
+    Ok(())
+}
+
+#[test]
+fn one_octet_at_a_time(rt: HostRuntime) -> Result<(), Fail> {
+    let alloc = rt.alloc();
+    let opened = "1 [1,\"r.one\",{}]\n2 [1,\"r.one\",{}]\n";
+    let input = format!(in alloc; "{opened}{FIRST_PATH}")?;
+    let (output, _) = told(alloc, input.as_str())?;
+    assert_eq!(rt; told_slowly(alloc, input.as_str())?.as_str(), output.as_str());
+    Ok(())
+}
+
+#[test]
+fn codec_and_messages(rt: HostRuntime) -> Result<(), Fail> {
+    let alloc = rt.alloc();
+    let lines = "1 [32,1,{},\"a.b\"]
+2 [16,1,{},\"a.b\",[\"\\u0000AQI=\"]]
+2 [16,2,{},\"a.b\",null,{\"k\":null}]
+2 [6,{},\"x\",7]
+1 [3,{},\"x\"]
+1 [32,2,{},\"a\"]
+";
+    let want = "1 [33,1,1]
+1 [36,1,3,{},[\"\\u0000AQI=\"]]
+1 [36,1,4,{},[],{\"k\":null}]
+2 [6,{},\"wamp.close.goodbye_and_out\"]
+2 end
+1 end
+";
+    assert_eq!(rt; after_two(alloc, lines)?.as_str(), want);
+    Ok(())
+}
+
+#[test]
+fn refused_publications(rt: HostRuntime) -> Result<(), Fail> {
+    let alloc = rt.alloc();
+    let lines = "1 [1,\"r.one\",{}]
+1 [16,1,{\"acknowledge\":true},\"a.b\",[1.5]]
+1 [16,2,{\"acknowledge\":true},\"a.b\"]
+1 [16,3,{\"acknowledge\":true},\"wamp.x\"]
+1 [32,4,{},\"a..b\"]
+1 [32,5,{},\"a.b\"]
+1 [16,6,{\"acknowledge\":true},\"a.b\"]
+";
+    let want = "1 [8,16,1,{},\"wamp.error.invalid_argument\"]
+1 [17,2,3]
+1 [8,16,3,{},\"wamp.error.invalid_uri\"]
+1 [8,32,4,{},\"wamp.error.invalid_uri\"]
+1 [33,5,1]
+1 [17,6,5]
+";
+    let (output, fault) = told(alloc, lines)?;
+    let one = welcome(alloc, 1)?;
+    assert_eq!(rt; output.as_str(), format!(in alloc; "{one}{want}")?.as_str());
+    assert_eq!(rt; fault, None);
+    Ok(())
+}
+
+#[test]
+fn refused_sessions_and_a_bad_line(rt: HostRuntime) -> Result<(), Fail> {
+    let alloc = rt.alloc();
+    let lines = "1 [1,\"r.one\",{}]
+1 [1,\"r.one\",{}]
+1 [32,1,{},\"a\"]
+2 [32,1,{},\"a\"]
+3 [1,\"r.two\",{}]
+4 [1,\"r.one\",{\"authid\":\"bob\"}]
+5 gone
+x
+1 gone
+";
+    let want = "1 [3,{},\"wamp.error.protocol_violation\"]
+1 end
+2 [3,{},\"wamp.error.protocol_violation\"]
+2 end
+3 [3,{},\"wamp.error.no_such_realm\"]
+3 end
+4 [3,{},\"wamp.error.not_authorized\"]
+4 end
+5 end
+";
+    let (output, fault) = told(alloc, lines)?;
+    let one = welcome(alloc, 1)?;
+    assert_eq!(rt; output.as_str(), format!(in alloc; "{one}{want}")?.as_str());
+    assert_eq!(rt; fault, Some(Fault::BadLine(8)));
+    Ok(())
+}
+
+#[test]
+fn bad_lines(rt: HostRuntime) -> Result<(), Fail> {
+    let alloc = rt.alloc();
+    for line in ["", "x", "0 gone", "01 gone", "257 gone", "1", "1 ", "1gone", " 1 gone", "+1 gone"] {
+        let input = format!(in alloc; "2 gone\n{line}\n")?;
+        let (output, fault) = told(alloc, input.as_str())?;
+        assert_eq!(rt; output.as_str(), "2 end\n", "at {line:?}");
+        assert_eq!(rt; fault, Some(Fault::BadLine(2)), "at {line:?}");
+    }
+    let (output, fault) = told(alloc, "256 gone")?;
+    assert_eq!(rt; output.as_str(), "256 end\n");
+    assert_eq!(rt; fault, None);
+    Ok(())
+}
+
+fn words(alloc: Global, line: &str) -> Result<Vec<String>, Fail> {
+    let mut words = Vec::new(alloc);
+    for word in line.split(' ') {
+        words.push(String::from_str(alloc, word)?)?;
+    }
+    Ok(words)
+}
+
+#[test]
+fn command_lines(rt: HostRuntime) -> Result<(), Fail> {
+    let alloc = rt.alloc();
+    match read_command(alloc, &words(alloc, "replay --realm r.one")?)? {
+        Command::Replay(config) => {
+            assert_eq!(rt; config.realms.len(), 1);
+            assert_eq!(rt; config.realms[0].text(), "r.one");
+        }
+        Command::Help(_) => return Err("help".into()),
+    }
+    match read_command(alloc, &words(alloc, "--help")?)? {
+        Command::Help(text) => assert!(rt; text.as_str().contains("replay")),
+        Command::Replay(_) => return Err("a replay".into()),
+    }
+    for line in [
+        "replay",
+        "replay --realm a..b",
+        "replay --realm r.one --realm r.two",
+        "replay --realm r.one --grants bob:ops",
+        "replay --realm r.one more",
+        "serve --port 9000 r.one",
+        "play",
+        "",
+    ] {
+        let fault = read_command(alloc, &words(alloc, line)?).err();
+        assert_eq!(rt; fault, Some(Fault::Usage), "at {line:?}");
+    }
+    Ok(())
+}
+
+#[test]
+fn reports(rt: HostRuntime) -> Result<(), Fail> {
+    let alloc = rt.alloc();
+    for (fault, line, status) in [
+        (Fault::NoMemory, "wampd: E1 no memory\n", 1),
+        (Fault::ReadFault, "wampd: E16 read fault\n", 1),
+        (Fault::WriteFault, "wampd: E17 write fault\n", 1),
+        (Fault::Usage, "wampd: E19 usage\n", 2),
+        (Fault::BadLine(8), "wampd: E20 bad line 8\n", 2),
+        (Fault::TooManyTurns, "wampd: E25 too many turns\n", 1),
+    ] {
+        let mut sink = MemorySink::new(alloc);
+        assert_eq!(rt; report(&fault, &mut sink), status);
+        assert_eq!(rt; sink.octets(), line.as_bytes());
+        let printed = format!(in alloc; "wampd: {fault}\n")?;
+        assert_eq!(rt; printed.as_str(), line);
+    }
+    Ok(())
+}

@@ -1,0 +1,164 @@
+ghost use Rattle.std.specs.Prelude.{◌≡◌, ◌≢◌, ◌++◌, ◌+◌, ◌<◌, ◌^◌, ℕ, [], ◌∷◌, drop, length, take, false, true, IfErr, IfNone, IfOk, IfSome, OnOk};
+ghost use Rattle.broker_server.specs.Lines.{has_line_feed};
+ghost use Rattle.broker_server.specs.Reading.{Completes, Goes, IsRefused, Stops, TellsMore};
+ghost use Rattle.broker_server.specs.Transcript.{starting};
+
+use crate::fault::Fault;
+use crate::line::{LONGEST, read_line};
+use crate::script::Script;
+use crate::speech::hear;
+use rawsocket::{Sink, Turns, write_all};
+use std::alloc::Global;
+use std::marker::Model;
+use wamp_ids::Topic;
+
+/// A replay in the midst of its input.
+#[derive(Drop)]
+pub struct Told {
+    script: Script,
+    rest: Vec<u8>,
+    count: u64,
+    out: Vec<u8>,
+}
+
+impl Model for Told {
+    ghost use Rattle.broker_server.specs.Reading.{Told as State};
+
+    ghost use Rattle.broker_server.specs.Codes.{told_code};
+
+    ghost Value = { State };
+
+    ghost coded = { told_code };
+
+    ghost view = { λ t. record { replay = t.script; rest = t.rest.items; count = t.count; out = t.out.items } };
+}
+
+impl Told {
+    /// Before the first octet.
+    pub fn new(alloc: Global, realm: &Topic) -> Result<Told, Fault>
+        ensures { IfOk result (λ told. told ≡ record { replay = starting realm.now; rest = []; count = 0; out = [] }) }
+    {
+        let script = Script::new(alloc, realm)?;
+        Ok(Told {
+            script,
+            rest: Vec::new(alloc),
+            count: 0,
+            out: Vec::new(alloc),
+        })
+    }
+
+    /// Tells the line that stands in `rest`.
+    fn end_line(&mut self, alloc: Global) -> Result<(), Fault>
+        requires { self.old.count + 1 < 2 ^ 64 }
+        ensures told { OnOk result (TellsMore self.old.replay self.old.rest self.new.replay self.old.out self.new.out) }
+        ensures rest { OnOk result (self.new.rest ≡ []) }
+        ensures count { OnOk result (self.new.count ≡ self.old.count + 1) }
+        ensures bad { (k : ℕ) → result ≡ Err (Fault.BadLine k) → IsRefused self.old k self.new }
+    {
+        let Some(line) = read_line(&self.rest) else {
+            return Err(Fault::BadLine(self.count + 1));
+        };
+        let number = line.number;
+        let speech = hear(alloc, line.text)?;
+        self.script.tell(alloc, number, speech, &mut self.out)?;
+        self.rest.clear();
+        self.count += 1;
+        Ok(())
+    }
+
+    /// Takes octets without LF.
+    fn hold(&mut self, octets: &[u8]) -> Result<(), Fault>
+        ensures held { OnOk result (self.new ≡ record self.old { rest = self.old.rest ++ octets.now }) }
+        ensures fault { IfErr result (λ fault. fault ≡ Fault.NoMemory) }
+    {
+        self.rest.extend_from_slice(octets)?;
+        Ok(())
+    }
+
+    /// Takes the octets up to the next LF, and tells the line.
+    fn take_line(&mut self, alloc: Global, octets: &[u8]) -> Result<(), Fault>
+        requires count { self.old.count + 1 < 2 ^ 64 }
+        requires clean { has_line_feed octets.now ≡ false }
+        ensures told { OnOk result (Goes self.old (octets.now ++ 10 ∷ []) self.new) }
+        ensures count { OnOk result (self.new.count ≡ self.old.count + 1) }
+        ensures bad { (k : ℕ) → result ≡ Err (Fault.BadLine k) → Stops self.old (octets.now ++ 10 ∷ []) false k self.new }
+    {
+        self.hold(octets)?;
+        self.end_line(alloc)?;
+        Ok(())
+    }
+
+    /// Takes the octets after the last LF.
+    fn take_rest(&mut self, octets: &[u8]) -> Result<(), Fault>
+        requires count { self.old.count + 1 < 2 ^ 64 }
+        requires clean { has_line_feed octets.now ≡ false }
+        ensures told { OnOk result (Goes self.old octets.now self.new) }
+        ensures bad { (k : ℕ) → result ≡ Err (Fault.BadLine k) → Stops self.old octets.now false k self.new }
+    {
+        self.hold(octets)?;
+        if self.rest.len() > LONGEST {
+            return Err(Fault::BadLine(self.count + 1));
+        }
+        Ok(())
+    }
+
+    /// Takes the next octets of the input, and tells each line that they end.
+    pub fn feed(&mut self, alloc: Global, piece: &[u8]) -> Result<(), Fault>
+        requires { self.old.count + length piece.now + 1 < 2 ^ 64 }
+        ensures told { OnOk result (Goes self.old piece.now self.new) }
+        ensures bad { (k : ℕ) → result ≡ Err (Fault.BadLine k) → Stops self.old piece.now false k self.new }
+    {
+        let mut left = piece;
+        while let Some(at) = line_feed_in(left) {
+            if let Err(fault) = self.take_line(alloc, &left[..at]) {
+                return Err(fault);
+            }
+            left = &left[at + 1..];
+        }
+        self.take_rest(left)
+    }
+
+    /// The input has ended: tells the last line, where it has no LF.
+    pub fn finish(&mut self, alloc: Global) -> Result<(), Fault>
+        requires { self.old.count + 1 < 2 ^ 64 }
+        ensures all { OnOk result (Completes self.old self.new) }
+        ensures bad { (k : ℕ) → result ≡ Err (Fault.BadLine k) → Stops self.old [] true k self.new }
+    {
+        if self.rest.is_empty() {
+            return Ok(());
+        }
+        self.end_line(alloc)?;
+        Ok(())
+    }
+
+    /// Writes the output that is gathered.
+    pub fn write_out<O: Sink>(&mut self, sink: &mut O, turns: &mut Turns) -> Result<(), Fault>
+        ensures written { OnOk result (O.taken sink.new ≡ O.taken sink.old ++ self.old.out) }
+        ensures emptied { OnOk result (self.new ≡ record self.old { out = [] }) }
+        ensures fault { (k : ℕ) → result ≢ Err (Fault.BadLine k) }
+    {
+        match write_all(sink, &self.out, turns) {
+            Ok(()) => {
+                self.out.clear();
+                Ok(())
+            }
+            Err(rawsocket::Fault::WriteFault) => Err(Fault::WriteFault),
+            Err(_) => Err(Fault::TooManyTurns),
+        }
+    }
+}
+
+/// Where the first LF is.
+fn line_feed_in(octets: &[u8]) -> Option<usize>
+    ensures none { IfNone result (has_line_feed octets.now ≡ false) }
+    ensures within { IfSome result (λ at. at < length octets.now) }
+    ensures clean { IfSome result (λ at. has_line_feed (take at octets.now) ≡ false) }
+    ensures at { IfSome result (λ at. octets.now ≡ take at octets.now ++ 10 ∷ drop (at + 1) octets.now) }
+{
+    for i in 0..octets.len() {
+        if octets[i] == b'\n' {
+            return Some(i);
+        }
+    }
+    None
+}
