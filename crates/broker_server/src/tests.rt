@@ -40,7 +40,7 @@ fn told_slowly(alloc: Global, input: &str) -> Result<String, Fail> {
         return Err("no realm".into());
     }
     replay(alloc, &mut source, &mut sink, &config)?;
-    let text = std::str::from_utf8(sink.device().octets()).map_err(|_| "no text")?;
+    let text = std::str::from_utf8(sink.device.octets()).map_err(|_| "no text")?;
     Ok(String::from_str(alloc, text)?)
 }
 
