@@ -174,7 +174,7 @@ pub Completes-empty : (t : Told) → t.rest ≡ [] → Completes t t
 Completes-empty t none start input written told = record {
   next = t.replay;
   transcript = subst (λ ls. IsTranscript start ls t.replay (written ++ t.out))
-    (sym (ap lines_of told.split ∙ (lines_of-joined told.lines t.rest told.lines_clean told.rest_clean ∙ (ap (λ r. told.lines ++ last_line r) none ∙ append-nil told.lines)))) told.transcript;
+      (sym (ap lines_of told.split ∙ (lines_of-joined told.lines t.rest told.lines_clean told.rest_clean ∙ (ap (λ r. told.lines ++ last_line r) none ∙ append-nil told.lines)))) told.transcript;
 }
 
 last-some : (xs : List ℕ) → 0 < length xs → last_line xs ≡ xs ∷ []
@@ -186,8 +186,8 @@ pub Completes-line : (t u : Told) → 0 < length t.rest → TellsMore t.replay t
 Completes-line t u some tells start input written told = record {
   next = u.replay;
   transcript = subst (λ ls. IsTranscript start ls u.replay (written ++ u.out))
-    (sym (ap lines_of told.split ∙ (lines_of-joined told.lines t.rest told.lines_clean told.rest_clean ∙ ap (λ r. told.lines ++ r) (last-some t.rest some))))
-    (subst (λ o. IsTranscript start (told.lines ++ t.rest ∷ []) u.replay o) (append_assoc written t.out tells.out ∙ ap (λ o. written ++ o) (sym tells.is)) (more told.transcript tells.tells));
+      (sym (ap lines_of told.split ∙ (lines_of-joined told.lines t.rest told.lines_clean told.rest_clean ∙ ap (λ r. told.lines ++ r) (last-some t.rest some))))
+      (subst (λ o. IsTranscript start (told.lines ++ t.rest ∷ []) u.replay o) (append_assoc written t.out tells.out ∙ ap (λ o. written ++ o) (sym tells.is)) (more told.transcript tells.tells));
 }
 
 lines-le : (lines : List (List ℕ)) → length lines ≤ length (joined lines)
@@ -227,7 +227,7 @@ Consumed-nothing t piece = record { octets = []; split = refl; goes = Goes-nothi
 pub Stops-piece : (t u v : Told) (piece left line rest : List ℕ) (k : ℕ) → Consumed t piece left u → left ≡ line ++ 10 ∷ rest → Stops u (line ++ 10 ∷ []) false k v → Stops t piece false k v
 Stops-piece t u v piece left line rest k so_far is stops =
     let whole : so_far.octets ++ ((line ++ 10 ∷ []) ++ rest) ≡ piece =
-        ap (λ l. so_far.octets ++ l) (append_assoc line (10 ∷ []) rest ∙ sym is) ∙ sym so_far.split in
+    ap (λ l. so_far.octets ++ l) (append_assoc line (10 ∷ []) rest ∙ sym is) ∙ sym so_far.split in
     subst (λ o. Stops t o false k v) whole (Stops-after t u v so_far.octets ((line ++ 10 ∷ []) ++ rest) false k so_far.goes (Stops-more u v (line ++ 10 ∷ []) rest k stops))
 
 pub Stops-rest : (t u v : Told) (piece left : List ℕ) (k : ℕ) → Consumed t piece left u → Stops u left false k v → Stops t piece false k v

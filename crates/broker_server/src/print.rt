@@ -61,11 +61,7 @@ fn print_message(
 }
 
 /// The lines of what was given.
-pub fn print_all(
-    alloc: Global,
-    out: &mut Vec<u8>,
-    given: &Vec<(Conn, Item)>,
-) -> Result<(), Fault>
+pub fn print_all(alloc: Global, out: &mut Vec<u8>, given: &Vec<(Conn, Item)>) -> Result<(), Fault>
     ensures printed { OnOk result (out.new.items ≡ out.old.items ++ printed_all given.now.items) }
     ensures fault { IfErr result (λ fault. fault ≡ Fault.NoMemory) }
 {

@@ -28,8 +28,7 @@ pub struct Script {
 impl Model for Script {
     ghost use Rattle.std.specs.Prelude.{◌≡◌, true};
     ghost use Rattle.broker_server.specs.Lines.{is_number};
-ghost use Rattle.broker_server.specs.Transcript.{Replay, next_word};
-
+    ghost use Rattle.broker_server.specs.Transcript.{Replay, next_word};
     ghost use Rattle.broker_server.specs.Codes.{replay_code};
 
     ghost Value = { Replay };
@@ -58,7 +57,8 @@ fn draws(entry: &Entry) -> u64
             ..
         } => 0,
         Entry::Said {
-            said: Said::Abort, ..
+            said: Said::Abort,
+            ..
         } => 0,
         Entry::Said {
             said: Said::Goodbye,

@@ -7,7 +7,9 @@ use wamp_ids::Topic;
 
 /// The WELCOME of a session without an authid.
 fn welcome(alloc: Global, number: u64) -> Result<String, Fail> {
-    Ok(format!(in alloc; "{number} [2,{number},{{\"authid\":\"anonymous\",\"authrole\":\"anonymous\",\"roles\":{{\"broker\":{{\"features\":{{\"event_retention\":true,\"pattern_based_subscription\":true,\"publisher_exclusion\":true,\"publisher_identification\":true,\"subscriber_blackwhite_listing\":true}}}}}}}}]\n")?)
+    Ok(format!(in alloc;
+        "{number} [2,{number},{{\"authid\":\"anonymous\",\"authrole\":\"anonymous\",\"roles\":{{\"broker\":{{\"features\":{{\"event_retention\":true,\"pattern_based_subscription\":true,\"publisher_exclusion\":true,\"publisher_identification\":true,\"subscriber_blackwhite_listing\":true}}}}}}}}]\n"
+    )?)
 }
 
 fn config(alloc: Global) -> Result<Config, Fail> {
@@ -104,7 +106,10 @@ fn one_octet_at_a_time(rt: HostRuntime) -> Result<(), Fail> {
     let opened = "1 [1,\"r.one\",{}]\n2 [1,\"r.one\",{}]\n";
     let input = format!(in alloc; "{opened}{FIRST_PATH}")?;
     let (output, _) = told(alloc, input.as_str())?;
-    assert_eq!(rt; told_slowly(alloc, input.as_str())?.as_str(), output.as_str());
+    assert_eq!(rt;
+        told_slowly(alloc, input.as_str())?.as_str(),
+        output.as_str()
+    );
     Ok(())
 }
 
@@ -187,7 +192,9 @@ x
 #[test]
 fn bad_lines(rt: HostRuntime) -> Result<(), Fail> {
     let alloc = rt.alloc();
-    for line in ["", "x", "0 gone", "01 gone", "257 gone", "1", "1 ", "1gone", " 1 gone", "+1 gone"] {
+    for line in [
+        "", "x", "0 gone", "01 gone", "257 gone", "1", "1 ", "1gone", " 1 gone", "+1 gone",
+    ] {
         let input = format!(in alloc; "2 gone\n{line}\n")?;
         let (output, fault) = told(alloc, input.as_str())?;
         assert_eq!(rt; output.as_str(), "2 end\n", "at {line:?}");

@@ -23,7 +23,6 @@ pub struct Told {
 
 impl Model for Told {
     ghost use Rattle.broker_server.specs.Reading.{Told as State};
-
     ghost use Rattle.broker_server.specs.Codes.{told_code};
 
     ghost Value = { State };

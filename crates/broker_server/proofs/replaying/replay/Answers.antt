@@ -10,5 +10,5 @@ returns-in-Err-BadLine-clause-bad g c = λ k is.
     let written = StopsAt-written _ _ _ _ _ _ _ _ k c.in_default-write_rest-2.ensures.written stops in
     let is_first : c.index.result.now ≡ get_or c.args.config.now.realms.items 0 c.index.result.now = search rules in
     let P : Replay → Type 0 = λ start. StopsAt start (g.I.Source.given c.args.source.now) (g.I.Source.given c.tell_all.new.source) (g.I.Source.is_ended c.tell_all.new.source)
-        (g.O.Sink.taken c.args.sink.now) (g.O.Sink.taken c.write_rest-in-Err-BadLine.new.sink) [] k in
+    (g.O.Sink.taken c.args.sink.now) (g.O.Sink.taken c.write_rest-in-Err-BadLine.new.sink) [] k in
     from-realm c.args.config.now.realms.items P c.index.result.now is_first c.requires (subst P (ap (λ t. t.replay) c.in-Ok.ensures) written)
