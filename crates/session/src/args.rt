@@ -46,9 +46,10 @@ impl Args {
         requires shallow { depth args ≤ 99 }
         ensures { result ≡ record { args = Some args; kwargs = None } }
     {
+        let kwargs = None;
         Args {
             args: Some(args),
-            kwargs: None,
+            kwargs,
         }
     }
 

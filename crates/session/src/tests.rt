@@ -82,6 +82,15 @@ fn json(alloc: Global, tree: Tree) -> Result<String, Fail> {
     }
 }
 
+fn may_cross_threads<T: Send + Sync>() {}
+
+#[test]
+fn publications_may_cross_threads() {
+    may_cross_threads::<Said>();
+    may_cross_threads::<Publication>();
+    may_cross_threads::<Shared<Publication>>();
+}
+
 const SHAPE: &str = "E13 Shape";
 
 fn reads(rt: &impl Abort, alloc: Global, rows: &[(&str, &str)]) -> Result<(), Fail> {
