@@ -4,3 +4,4 @@ pub mod Printing
 pub mod Fresh
 pub mod Telling
 pub mod Midst
+pub mod Granting

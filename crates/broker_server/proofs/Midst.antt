@@ -1,6 +1,7 @@
 -- A replay in the midst of its input, with what was read and written so far.
-use Rattle.std.proofs.Common.{◌≡◌, ℕ, ◌+◌, ◌*◌, ◌<◌, ◌≤◌, Bool, false, List, [], ◌∷◌, ◌++◌, length, length-append, get_or, refl, sym, ap, ◌∙◌, append_assoc, append-nil, subst, ◌⊎◌, inl, inr, arith}
+use Rattle.std.proofs.Common.{◌≡◌, ℕ, ◌+◌, ◌*◌, ◌<◌, ◌≤◌, Bool, false, List, [], ◌∷◌, ◌++◌, length, length-append, get_or, refl, sym, ap, ◌∙◌, append_assoc, append-nil, subst, inl, inr, arith}
 use Rattle.broker_server.specs.Reading.{Completes, Goes, IsAllTold, IsBadAt, IsToldOf, IsWhole, Stops, Told}
+use Rattle.realm_core.specs.Granting.{Grants}
 use Rattle.broker_server.specs.Replayed.{FromRealm, IsFresh, IsReplayed, StopsAt}
 use Rattle.broker_server.specs.Transcript.{IsTranscript, Replay, nothing, starting}
 use Rattle.broker_server.proofs.Telling.{count-le}
@@ -137,6 +138,7 @@ StopsAt-written start given_before given taken_before taken left taken_after end
   bad = subst (λ o. IsBadAt start at.input ended k o) (sym (append-nil (at.written ++ left))) at.bad;
 }
 
-pub from-realm : (realms : List (List ℕ)) (P : Replay → Type 0) (realm : List ℕ) → realm ≡ get_or realms 0 realm → 0 < length realms → P (starting realm) → FromRealm realms P
-from-realm [] P realm is some p = absurd (omega arith)
-from-realm (r ∷ realms) P realm is some p = subst (λ x. P (starting x)) is p
+pub from-realm : (realms : List (List ℕ)) (grants : Grants) (P : Replay → Type 0) (realm : List ℕ) → realm ≡ get_or realms 0 realm → 0 < length realms → P (starting grants realm)
+    → FromRealm realms grants P
+from-realm [] grants P realm is some p = absurd (omega arith)
+from-realm (r ∷ realms) grants P realm is some p = subst (λ x. P (starting grants x)) is p

@@ -1,5 +1,6 @@
 -- What a replay has read and written at its end.
 use Rattle.std.specs.Prelude.{◌≡◌, ℕ, Bool, List, [], ◌∷◌, ◌++◌}
+use Rattle.realm_core.specs.Granting.{Grants}
 use Rattle.broker_server.specs.Reading.{IsAllTold, IsBadAt, Told}
 use Rattle.broker_server.specs.Transcript.{Replay, starting}
 
@@ -25,7 +26,7 @@ pub record StopsAt (start : Replay) (given_before given : List ℕ) (ended : Boo
   pub wrote : taken ≡ taken_before ++ written
   pub bad : IsBadAt start input ended k (written ++ left)
 
--- for a replay of the first of these realms
-abbrev pub FromRealm : List (List ℕ) → (Replay → Type 0) → Type 0
-FromRealm [] P = Unit {0}
-FromRealm (realm ∷ others) P = P (starting realm)
+-- for a replay of the first of these realms, with these grants
+abbrev pub FromRealm : List (List ℕ) → Grants → (Replay → Type 0) → Type 0
+FromRealm [] grants P = Unit {0}
+FromRealm (realm ∷ others) grants P = P (starting grants realm)

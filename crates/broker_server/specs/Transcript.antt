@@ -1,5 +1,5 @@
 -- The transcript of a replay: what each line of the input gives, as it is printed.
-use Rattle.std.specs.Prelude.{◌≡◌, ◌==◌, ◌+◌, ◌%◌, ◌^◌, ℕ, Bool, true, false, cond, List, [], ◌∷◌, ◌++◌, codes, decimal, pos, None, Some}
+use Rattle.std.specs.Prelude.{◌≡◌, ◌==◌, ◌+◌, ◌%◌, ◌^◌, ℕ, Bool, cond, List, [], ◌∷◌, ◌++◌, codes, decimal, pos, None, Some}
 use Rattle.std.specs.declared.option.Option.{Option}
 use Rattle.std.specs.List.{list_any, flat_map}
 use Rattle.message_tree.specs.Data.{Data, whole, text, list, dict, no_items, item, no_entries}
@@ -12,6 +12,7 @@ use Rattle.session.specs.declared.fault.Fault.TheVariants.{NoSuchRealm, Shape}
 use Rattle.session.specs.Opening.{abort_uri_of, first_of, is_hello}
 use Rattle.realm_core.specs.declared.entry.Entry.{Entry}
 use Rattle.realm_core.specs.declared.entry.Entry.TheVariants as entry
+use Rattle.realm_core.specs.Granting.{Grants}
 use Rattle.realm_core.specs.History.{History, begun, ◌▷◌}
 use Rattle.realm_core.specs.Sessions.{live}
 use Rattle.realm_core.specs.Given.{GivesExactly}
@@ -26,8 +27,9 @@ pub record Replay : Type 0 where
   pub named : List ℕ
   pub history : History
 
-abbrev pub starting : List ℕ → Replay
-starting realm = record { realm = realm; named = []; history = begun [] }
+-- before the first line, where these grants are given
+abbrev pub starting : Grants → List ℕ → Replay
+starting grants realm = record { realm = realm; named = []; history = begun grants }
 
 abbrev pub is_named : Replay → ℕ → Bool
 is_named r n = list_any (λ m. m == n) r.named
@@ -40,6 +42,8 @@ draws (entry.Said c word say.Abort) = 0
 draws (entry.Said c word say.Goodbye) = 0
 draws (entry.Said c word (say.Publish request options topic args)) = 1
 draws (entry.Said c word (say.Subscribe request options topic)) = 0
+draws (entry.Said c word (say.Unsubscribe request subscription)) = 0
+draws (entry.Ping c payload) = 0
 draws (entry.Spoilt c) = 0
 draws (entry.Gone c) = 0
 

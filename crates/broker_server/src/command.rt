@@ -3,6 +3,7 @@ ghost use Rattle.broker_server.specs.Commands.{IsRunnable};
 
 use crate::config::Config;
 use crate::fault::Fault;
+use crate::grants::read_grants;
 use clap::error::ErrorKind;
 use clap::{Arg, ArgAction, ArgMatches};
 use std::alloc::Global;
@@ -28,9 +29,13 @@ pub fn read_command(alloc: Global, words: &[String]) -> Result<Command, Fault>
         .long("realm")
         .required(true)
         .action(ArgAction::Set);
+    let grants = Arg::new(alloc, "grants")
+        .long("grants")
+        .action(ArgAction::Set);
     let replay = clap::Command::new(alloc, "replay")
         .about("Runs one realm on lines of input")
-        .arg(realm)?;
+        .arg(realm)?
+        .arg(grants)?;
     let command = clap::Command::new(alloc, "wampd")
         .about("A publish-subscribe broker for WAMP")
         .no_binary_name(true)
@@ -60,6 +65,10 @@ fn read_matches(alloc: Global, matches: &ArgMatches<'_>) -> Result<Command, Faul
         Err(wamp_ids::Fault::BadUri) => return Err(Fault::Usage),
         Err(_) => return Err(Fault::NoMemory),
     };
+    let grants = match replay.get_str("grants") {
+        Some(grants) => read_grants(alloc, grants)?,
+        None => Vec::new(alloc),
+    };
     let realms = vec![in alloc; realm]?;
-    Ok(Command::Replay(Config { realms }))
+    Ok(Command::Replay(Config { realms, grants }))
 }

@@ -1,4 +1,5 @@
 ghost use Rattle.std.specs.Prelude.{◌≡◌, ◌≢◌, ◌++◌, ◌+◌, ◌<◌, ◌≤◌, ℕ, [], length, take, true, IfOk, OnOk};
+ghost use Rattle.broker_server.specs.Grants.{bytes_of};
 ghost use Rattle.broker_server.specs.Replayed.{IsReplayed, StopsAt, IsFresh, FromRealm};
 
 use crate::config::Config;
@@ -70,6 +71,7 @@ fn tell_all<I: Source, O: Sink>(
 fn write_rest<O: Sink>(told: &mut Told, sink: &mut O, writing: &mut Turns) -> Result<(), Fault>
     ensures written { OnOk result (O.taken sink.new ≡ O.taken sink.old ++ told.old.out) }
     ensures emptied { OnOk result (told.new ≡ record told.old { out = [] }) }
+    ensures device { result ≡ Err Fault.WriteFault → O.failures sink.old < O.failures sink.new }
     ensures fault { (k : ℕ) → result ≢ Err (Fault.BadLine k) }
 {
     told.write_out(sink, writing)?;
@@ -92,10 +94,10 @@ pub fn replay<I: Source, O: Sink>(
 ) -> Result<(), Fault>
     requires { 0 < length config.now.realms.items }
     ensures ended { OnOk result (I.is_ended source.new ≡ true) }
-    ensures told { OnOk result (FromRealm config.now.realms.items (λ start. IsReplayed start (I.given source.old) (I.given source.new) (O.taken sink.old) (O.taken sink.new) [])) }
-    ensures bad { (k : ℕ) → result ≡ Err (Fault.BadLine k) → FromRealm config.now.realms.items (λ start. StopsAt start (I.given source.old) (I.given source.new) (I.is_ended source.new) (O.taken sink.old) (O.taken sink.new) [] k) }
+    ensures told { OnOk result (FromRealm config.now.realms.items (bytes_of config.now.grants.items) (λ start. IsReplayed start (I.given source.old) (I.given source.new) (O.taken sink.old) (O.taken sink.new) [])) }
+    ensures bad { (k : ℕ) → result ≡ Err (Fault.BadLine k) → FromRealm config.now.realms.items (bytes_of config.now.grants.items) (λ start. StopsAt start (I.given source.old) (I.given source.new) (I.is_ended source.new) (O.taken sink.old) (O.taken sink.new) [] k) }
 {
-    let Ok(mut told) = Told::new(alloc, &config.realms[0]) else {
+    let Ok(mut told) = Told::new(alloc, &config.realms[0], &config.grants) else {
         return Err(Fault::NoMemory);
     };
     let Ok(mut buffer) = vec![in alloc; 0; PIECE] else {

@@ -1,11 +1,13 @@
 ghost use Rattle.std.specs.Prelude.{◌≡◌, ◌++◌, ℕ, true, IfErr, IfOk, OnOk};
 ghost use Rattle.realm_core.specs.History.{◌▷◌};
 ghost use Rattle.realm_core.specs.Sessions.{conn_of, live, may_come, may_join};
+ghost use Rattle.broker_server.specs.Grants.{bytes_of};
 ghost use Rattle.broker_server.specs.Lines.{is_number};
 ghost use Rattle.broker_server.specs.Transcript.{PrintsEntry, PrintsMore, after, draws, history_with, is_named, later, opening, refused, starting};
 ghost use Rattle.broker_server.specs.Scripts.{PrintsOpening};
 
 use crate::fault::Fault;
+use crate::grants::copy_grants;
 use crate::print::{print_abort, print_all, print_end};
 use crate::speech::Speech;
 use message_tree::Text;
@@ -68,18 +70,24 @@ fn draws(entry: &Entry) -> u64
             said: Said::Subscribe { .. },
             ..
         } => 0,
+        Entry::Said {
+            said: Said::Unsubscribe { .. },
+            ..
+        } => 0,
+        Entry::Ping { .. } => 0,
         Entry::Spoilt(_) => 0,
         Entry::Gone(_) => 0,
     }
 }
 
 impl Script {
-    /// A replay of the realm of this name, before its first line.
-    pub fn new(alloc: Global, name: &Topic) -> Result<Script, Fault>
-        ensures { IfOk result (λ script. script ≡ starting name.now) }
+    /// A replay of the realm of this name, with these grants, before its first line.
+    pub fn new(alloc: Global, name: &Topic, grants: &[(String, String)]) -> Result<Script, Fault>
+        ensures { IfOk result (λ script. script ≡ starting (bytes_of grants.now) name.now) }
     {
         let config = RealmConfig {
             name: name.try_copy(alloc)?,
+            grants: copy_grants(alloc, grants)?,
         };
         let Ok(realm) = Realm::new(alloc, config) else {
             return Err(Fault::NoMemory);

@@ -1,27 +1,41 @@
-use crate::{Command, Config, Fault, read_command, replay, report};
+use crate::{Command, Config, Fault, read_command, read_grants, replay, report};
 use rawsocket::testing::OneByOne;
 use rawsocket::{MemorySink, MemorySource};
 use std::alloc::Global;
 use std::test::Fail;
 use wamp_ids::Topic;
 
+mod rows;
+mod script_check;
+
 /// The WELCOME of a session without an authid.
 fn welcome(alloc: Global, number: u64) -> Result<String, Fail> {
+    welcome_of(alloc, number, "anonymous", "anonymous")
+}
+
+/// The WELCOME of a session with this authid and this role.
+fn welcome_of(alloc: Global, number: u64, authid: &str, role: &str) -> Result<String, Fail> {
     Ok(format!(in alloc;
-        "{number} [2,{number},{{\"authid\":\"anonymous\",\"authrole\":\"anonymous\",\"roles\":{{\"broker\":{{\"features\":{{\"event_retention\":true,\"pattern_based_subscription\":true,\"publisher_exclusion\":true,\"publisher_identification\":true,\"subscriber_blackwhite_listing\":true}}}}}}}}]\n"
+        "{number} [2,{number},{{\"authid\":\"{authid}\",\"authrole\":\"{role}\",\"roles\":{{\"broker\":{{\"features\":{{\"event_retention\":true,\"pattern_based_subscription\":true,\"publisher_exclusion\":true,\"publisher_identification\":true,\"subscriber_blackwhite_listing\":true}}}}}}}}]\n"
     )?)
 }
 
-fn config(alloc: Global) -> Result<Config, Fail> {
+fn config(alloc: Global, grants: &str) -> Result<Config, Fail> {
     let realm = Topic::read(alloc, "r.one")?;
     Ok(Config {
         realms: vec![in alloc; realm]?,
+        grants: read_grants(alloc, grants)?,
     })
 }
 
 /// What a replay of these lines writes, and its fault.
 fn told(alloc: Global, input: &str) -> Result<(String, Option<Fault>), Fail> {
-    let config = config(alloc)?;
+    told_with(alloc, input, "")
+}
+
+/// The same, with these grants.
+fn told_with(alloc: Global, input: &str, grants: &str) -> Result<(String, Option<Fault>), Fail> {
+    let config = config(alloc, grants)?;
     let mut source = MemorySource::new(input.as_bytes().to_vec(alloc)?);
     let mut sink = MemorySink::new(alloc);
     if config.realms.is_empty() {
@@ -34,7 +48,7 @@ fn told(alloc: Global, input: &str) -> Result<(String, Option<Fault>), Fail> {
 
 /// The same, where the input comes one octet at a time.
 fn told_slowly(alloc: Global, input: &str) -> Result<String, Fail> {
-    let config = config(alloc)?;
+    let config = config(alloc, "")?;
     let octets = input.as_bytes().to_vec(alloc)?;
     let mut source = OneByOne::new(MemorySource::new(octets));
     let mut sink = OneByOne::new(MemorySink::new(alloc));
@@ -221,6 +235,18 @@ fn command_lines(rt: HostRuntime) -> Result<(), Fail> {
         Command::Replay(config) => {
             assert_eq!(rt; config.realms.len(), 1);
             assert_eq!(rt; config.realms[0].text(), "r.one");
+            assert!(rt; config.grants.is_empty());
+        }
+        Command::Help(_) => return Err("help".into()),
+    }
+    match read_command(
+        alloc,
+        &words(alloc, "replay --realm r.one --grants bob:ops")?,
+    )? {
+        Command::Replay(config) => {
+            assert_eq!(rt; config.grants.len(), 1);
+            assert_eq!(rt; config.grants[0].0.as_str(), "bob");
+            assert_eq!(rt; config.grants[0].1.as_str(), "ops");
         }
         Command::Help(_) => return Err("help".into()),
     }
@@ -232,7 +258,8 @@ fn command_lines(rt: HostRuntime) -> Result<(), Fail> {
         "replay",
         "replay --realm a..b",
         "replay --realm r.one --realm r.two",
-        "replay --realm r.one --grants bob:ops",
+        "replay --realm r.one --grants bob",
+        "replay --realm r.one --grants bob:ops,bob:dev",
         "replay --realm r.one more",
         "serve --port 9000 r.one",
         "play",
@@ -241,6 +268,67 @@ fn command_lines(rt: HostRuntime) -> Result<(), Fail> {
         let fault = read_command(alloc, &words(alloc, line)?).err();
         assert_eq!(rt; fault, Some(Fault::Usage), "at {line:?}");
     }
+    Ok(())
+}
+
+/// The pairs of a text of grants in words, or its fault.
+fn grants(alloc: Global, text: &str) -> Result<String, Fail> {
+    match read_grants(alloc, text) {
+        Ok(grants) => {
+            let mut words = String::new(alloc);
+            for (authid, role) in &grants {
+                words.push_str(format!(in alloc; "{authid} is {role}; ")?.as_str())?;
+            }
+            Ok(words)
+        }
+        Err(fault) => Ok(format!(in alloc; "{fault}")?),
+    }
+}
+
+const USAGE: &str = "E19 usage";
+
+#[test]
+fn reads_grants(rt: HostRuntime) -> Result<(), Fail> {
+    let alloc = rt.alloc();
+    for (text, words) in [
+        ("", ""),
+        ("bob:ops", "bob is ops; "),
+        ("bob:ops,ann:dev", "bob is ops; ann is dev; "),
+        ("ann:dev,bob:dev", "ann is dev; bob is dev; "),
+        ("é: ,bo:é", "é is  ; bo is é; "),
+        ("bob", USAGE),
+        ("bob:", USAGE),
+        (":ops", USAGE),
+        (":", USAGE),
+        ("bob:ops,", USAGE),
+        (",bob:ops", USAGE),
+        ("bob:ops,,ann:dev", USAGE),
+        ("bob:ops,bob:dev", USAGE),
+        ("bob:ops,ann:dev,bob:ops", USAGE),
+        ("a:b:c", USAGE),
+        ("bob::ops", USAGE),
+    ] {
+        assert!(rt; grants(alloc, text)?.as_str() == words, "at {text:?}");
+    }
+    Ok(())
+}
+
+/// So many pairs.
+fn many_grants(alloc: Global, count: u64) -> Result<String, Fail> {
+    let mut text = String::from_str(alloc, "a0:r")?;
+    for number in 1..count {
+        text.push_str(format!(in alloc; ",a{number}:r")?.as_str())?;
+    }
+    Ok(text)
+}
+
+#[test]
+fn a_thousand_grants(rt: HostRuntime) -> Result<(), Fail> {
+    let alloc = rt.alloc();
+    let thousand = read_grants(alloc, many_grants(alloc, 1000)?.as_str())?;
+    assert_eq!(rt; thousand.len(), 1000);
+    let more = read_grants(alloc, many_grants(alloc, 1001)?.as_str()).err();
+    assert_eq!(rt; more, Some(Fault::Usage));
     Ok(())
 }
 

@@ -1,4 +1,5 @@
 ghost use Rattle.std.specs.Prelude.{◌≡◌, ◌≢◌, ◌++◌, ◌+◌, ◌<◌, ◌^◌, ℕ, [], ◌∷◌, drop, length, take, false, true, IfErr, IfNone, IfOk, IfSome, OnOk};
+ghost use Rattle.broker_server.specs.Grants.{bytes_of};
 ghost use Rattle.broker_server.specs.Lines.{has_line_feed};
 ghost use Rattle.broker_server.specs.Reading.{Completes, Goes, IsRefused, Stops, TellsMore};
 ghost use Rattle.broker_server.specs.Transcript.{starting};
@@ -34,10 +35,10 @@ impl Model for Told {
 
 impl Told {
     /// Before the first octet.
-    pub fn new(alloc: Global, realm: &Topic) -> Result<Told, Fault>
-        ensures { IfOk result (λ told. told ≡ record { replay = starting realm.now; rest = []; count = 0; out = [] }) }
+    pub fn new(alloc: Global, realm: &Topic, grants: &[(String, String)]) -> Result<Told, Fault>
+        ensures { IfOk result (λ told. told ≡ record { replay = starting (bytes_of grants.now) realm.now; rest = []; count = 0; out = [] }) }
     {
-        let script = Script::new(alloc, realm)?;
+        let script = Script::new(alloc, realm, grants)?;
         Ok(Told {
             script,
             rest: Vec::new(alloc),
@@ -134,7 +135,9 @@ impl Told {
     pub fn write_out<O: Sink>(&mut self, sink: &mut O, turns: &mut Turns) -> Result<(), Fault>
         ensures written { OnOk result (O.taken sink.new ≡ O.taken sink.old ++ self.old.out) }
         ensures emptied { OnOk result (self.new ≡ record self.old { out = [] }) }
-        ensures fault { (k : ℕ) → result ≢ Err (Fault.BadLine k) }
+        ensures fine { OnOk result (O.failures sink.new ≡ O.failures sink.old) }
+        ensures device { result ≡ Err Fault.WriteFault → O.failures sink.old < O.failures sink.new }
+        ensures fault { IfErr result (λ fault. fault ≢ Fault.WriteFault → fault ≡ Fault.TooManyTurns) }
     {
         match write_all(sink, &self.out, turns) {
             Ok(()) => {

@@ -1,5 +1,5 @@
 -- A connection whose session has ended stays without one.
-use Rattle.std.proofs.Common.{◌≡◌, ℕ, Bool, true, false, cond, not, ◌&&◌, ◌||◌, eqb, ltb, List, [], ◌∷◌, refl, sym, ap, ◌∙◌, None, Ok, Err, is_some, arith}
+use Rattle.std.proofs.Common.{◌≡◌, ℕ, Bool, true, false, cond, not, ◌&&◌, ◌||◌, eqb, ltb, List, [], ◌∷◌, refl, sym, ap, ◌∙◌, None, Ok, Err, arith}
 use Rattle.std.specs.declared.option.Option.{Option}
 use Rattle.std.specs.declared.result.Result.{Result}
 use Rattle.std.specs.List.{list_any, list_all}
@@ -8,16 +8,15 @@ use Rattle.std.proofs.lemmas.Bool.Decides.{nat_tests}
 use Rattle.wamp_ids.specs.Numbers.{seat_of}
 use Rattle.wamp_ids.specs.Pattern.{PatternText}
 use Rattle.realm_core.specs.declared.entry.Entry.{Entry}
-use Rattle.realm_core.specs.declared.entry.Entry.TheVariants.{Join, Said, Spoilt, Gone}
-use Rattle.session.specs.declared.said.Said.TheVariants.{Publish}
+use Rattle.realm_core.specs.declared.entry.Entry.TheVariants.{Join, Said, Ping, Spoilt, Gone}
+use Rattle.session.specs.declared.said.Said.TheVariants.{Publish, Subscribe}
 use Rattle.eligibility.specs.declared.who.Who.{Who}
-use Rattle.session.specs.declared.item.Publication.{Publication}
 use Rattle.session.specs.declared.item.Reason.{Reason}
-use Rattle.realm_core.specs.History.{History, begun, ◌▷◌, Begins, same, longer}
+use Rattle.realm_core.specs.History.{History, ◌▷◌, Begins, same, longer}
 use Rattle.realm_core.specs.Sessions.{who, live, ends, joined, conn_of, may_join, may_come, IsHistory, is_last_word}
 use Rattle.realm_core.specs.Subscriptions.{held}
-use Rattle.realm_core.specs.Publications.{published}
-use Rattle.realm_core.proofs.Gifts.{live-joined}
+use Rattle.realm_core.specs.Publications.{Made, published}
+use Rattle.realm_core.proofs.Joined.{live-joined}
 use Rattle.realm_core.specs.Yield.{yield, events, made_events}
 
 abbrev has : List ℕ → ℕ → Bool
@@ -32,7 +31,7 @@ ended-live : (h : History) (c : ℕ) → who h c ≡ None → live h c ≡ false
 ended-live h c e = rw e
 
 -- who has joined joins no more
-no_more : (xs : List ℕ) (c : ℕ) → has xs c ≡ true → list_all (λ d. not (eqb (seat_of d) (seat_of c)) || ltb d c) xs ≡ false
+pub no_more : (xs : List ℕ) (c : ℕ) → has xs c ≡ true → list_all (λ d. not (eqb (seat_of d) (seat_of c)) || ltb d c) xs ≡ false
 no_more [] c here = absurd (cc)
 no_more (x ∷ xs) c here = at (eqb x c) refl here (no_more xs c)
   where
@@ -67,6 +66,7 @@ over-entry h c (Join d word authid) over come = at (eqb d c) refl
     at true is = let same_conn : d ≡ c = eqb-true d c is in let never : may_join h d ≡ false = rw same_conn (no_more (joined h) c over.joined) in absurd (cc)
     at false is = refl
 over-entry h c (Said d word said) over come = other h d c over come
+over-entry h c (Ping d payload) over come = other h d c over come
 over-entry h c (Spoilt d) over come = other h d c over come
 over-entry h c (Gone d) over come = other h d c over come
 
@@ -92,12 +92,14 @@ and-first false b e = e
 ends-conn : (e : Entry) (c : ℕ) → ends e c ≡ true → eqb (conn_of e) c ≡ true
 ends-conn (Join d word authid) c ending = absurd (cc)
 ends-conn (Said d word said) c ending = and-first (eqb d c) (is_last_word said) ending
+ends-conn (Ping d payload) c ending = absurd (cc)
 ends-conn (Spoilt d) c ending = ending
 ends-conn (Gone d) c ending = ending
 
 over-ending : (h : History) (e : Entry) (c : ℕ) → ends e c ≡ true → may_come h e ≡ true → IsOver (h ▷ e) c
 unfolding who
 over-ending h (Join d word authid) c ending come = absurd (cc)
+over-ending h (Ping d payload) c ending come = absurd (cc)
 over-ending h e c ending come =
     let same_conn : conn_of e ≡ c = eqb-true (conn_of e) c (ends-conn e c ending) in
     record { joined = live-joined h c (sym (ap (live h) same_conn) ∙ come); ended = rw ending }
@@ -106,12 +108,13 @@ over-all : (b k : History) (c : ℕ) → Begins b k → (IsHistory b → IsOver 
 over-all b k c same over is_history = over is_history
 over-all b (k ▷ f) c (longer begins) over is_history = over-next k c f (over-all b k c begins over is_history.0) is_history.1
 
-made-none : (r : Result Publication Reason) (hs : List (ℕ × PatternText)) → made_events r None hs ≡ []
+made-none : (r : Result Made Reason) (hs : List (ℕ × PatternText)) → made_events r None hs ≡ []
 made-none (Err reason) hs = refl
 made-none (Ok made) hs = refl
 
 no_events : (k : History) (f : Entry) (c : ℕ) → who k c ≡ None → eqb (conn_of f) c ≡ false → events k f c ≡ []
 no_events k (Said d word (Publish request options topic args)) c ended elsewhere = rw ended (made-none (published k d word options topic args) (held k c))
+no_events k (Said d word (Subscribe request options topic)) c ended elsewhere = rw elsewhere refl
 no_events k f c ended elsewhere = refl
 
 pub nothing-given : (h k : History) (e f : Entry) (c : ℕ) → ends e c ≡ true → Begins (h ▷ e) k → IsHistory (k ▷ f) → yield k f c ≡ []

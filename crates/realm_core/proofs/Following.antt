@@ -1,5 +1,5 @@
 -- Each EVENT that a session is owed follows the SUBSCRIBED of its subscription.
-use Rattle.std.proofs.Common.{◌≡◌, ℕ, ◌+◌, Bool, true, false, cond, not, ◌&&◌, ◌||◌, eqb, List, [], ◌∷◌, ◌++◌, map, length, refl, sym, ap, ◌∙◌, append-nil, append_assoc, None, Some, Ok, Err, ◌⊎◌, inl, inr, ⊎_elim, arith}
+use Rattle.std.proofs.Common.{◌≡◌, ℕ, ◌+◌, Bool, true, false, cond, not, ◌&&◌, ◌||◌, eqb, List, [], ◌∷◌, ◌++◌, map, length, refl, sym, ap, ◌∙◌, append-nil, append_assoc, None, Some, Ok, Err, ⊎_elim}
 use Rattle.std.specs.declared.option.Option.{Option}
 use Rattle.std.specs.declared.result.Result.{Result}
 use Rattle.std.specs.List.{list_any, filter}
@@ -7,23 +7,23 @@ use Rattle.std.proofs.lemmas.Bool.{eqb-true, eq-eqb}
 use Rattle.std.proofs.lemmas.List.Folds.{list_any-append}
 use Rattle.wamp_ids.specs.Pattern.{PatternText, matches, same_pattern}
 use Rattle.realm_core.specs.declared.entry.Entry.{Entry}
-use Rattle.realm_core.specs.declared.entry.Entry.TheVariants.{Join, Said, Spoilt, Gone}
-use Rattle.session.specs.declared.said.Said.TheVariants.{Hello, Goodbye, Publish, Subscribe}
+use Rattle.realm_core.specs.declared.entry.Entry.TheVariants.{Join, Said, Ping, Spoilt, Gone}
+use Rattle.session.specs.declared.said.Said.TheVariants.{Hello, Publish, Subscribe, Unsubscribe}
 use Rattle.session.specs.declared.said.Said.TheVariants as say
 use Rattle.eligibility.specs.declared.who.Who.{Who}
 use Rattle.session.specs.declared.item.Publication.{Publication}
 use Rattle.session.specs.declared.item.Item.{Item}
-use Rattle.session.specs.declared.item.Item.TheVariants.{Welcome, Abort, Goodbye, Error, Published, Subscribed, Event}
+use Rattle.session.specs.declared.item.Item.TheVariants.{Welcome, Abort, Goodbye, Error, Published, Subscribed, Unsubscribed, Event, Pong}
 use Rattle.session.specs.declared.item.Reason.{Reason}
 use Rattle.realm_core.specs.History.{History, begun, ◌▷◌}
-use Rattle.realm_core.specs.Options.{acknowledge_of}
-use Rattle.realm_core.specs.Sessions.{who, live, ends, joined, conn_of, may_come, admission, IsHistory}
-use Rattle.realm_core.specs.Subscriptions.{holds, opened, held, held_among, number, number_among, numbered, if_new, is_of, subscribed}
-use Rattle.realm_core.specs.Publications.{published}
-use Rattle.realm_core.specs.Yield.{yield, owed, reply, events, events_of, made_events, welcome, publish_reply, subscribe_reply, names_topic, admits_who}
+use Rattle.realm_core.specs.Options.{acknowledge_of, get_retained_of}
+use Rattle.realm_core.specs.Sessions.{who, live, ends, joined, conn_of, admission, IsHistory}
+use Rattle.realm_core.specs.Subscriptions.{holds, opened, held, number, number_among, numbered, if_new, is_of, subscribed, holds_number}
+use Rattle.realm_core.specs.Publications.{Made, published, retained}
+use Rattle.realm_core.specs.Yield.{yield, owed, reply, events, retained_events_of, made_events, asked_events, welcome, publish_reply, subscribe_reply, unsubscribe_reply, names_topic, admits_who}
 use Rattle.realm_core.specs.Laws.{is_subscribed}
-use Rattle.realm_core.proofs.Numbers.{and-true, or-true, same_pattern-true, same_pattern-refl}
-use Rattle.realm_core.proofs.Gifts.{live-joined}
+use Rattle.realm_core.proofs.Numbers.{and-true, or-true, same_pattern-true}
+use Rattle.realm_core.proofs.Joined.{live-joined}
 
 abbrev has : List ℕ → ℕ → Bool
 has xs c = list_any (λ x. eqb x c) xs
@@ -37,7 +37,7 @@ or_left true b e = refl
 or_left false b e = absurd (cc)
 
 -- who holds something has joined
-holder-joined : (h : History) (c : ℕ) (p : PatternText) → IsHistory h → holds h c p ≡ true → has (joined h) c ≡ true
+pub holder-joined : (h : History) (c : ℕ) (p : PatternText) → IsHistory h → holds h c p ≡ true → has (joined h) c ≡ true
 unfolding holds
 holder-joined (begun grants) c p is_history held = absurd (cc)
 holder-joined (h ▷ Said d word (Subscribe request options topic)) c p is_history held =
@@ -46,11 +46,13 @@ holder-joined (h ▷ Said d word (Subscribe request options topic)) c p is_histo
     (λ new. let own : d ≡ c = eqb-true d c (and-true (eqb d c) (is_of p (subscribed h d options topic)) new).0 in
     live-joined h c (sym (ap (live h) own) ∙ is_history.1))
     (or-true (holds h c p) (eqb d c && is_of p (subscribed h d options topic)) held)
+holder-joined (h ▷ Said d word (Unsubscribe request n)) c p is_history held =
+    holder-joined h c p is_history.0 (and-true (holds h c p) (not (eqb d c && eqb (number_among (opened h) p) n)) held).0
 holder-joined (h ▷ Join d word authid) c p is_history held =
     or_right (eqb d c) (has (joined h) c) (holder-joined h c p is_history.0 (and-true (holds h c p) true held).0)
 holder-joined (h ▷ e) c p is_history held = holder-joined h c p is_history.0 (and-true (holds h c p) (not (ends e c)) held).0
 
-any-here : (P : ℕ → Bool) (xs : List ℕ) (c : ℕ) → has xs c ≡ true → P c ≡ true → list_any P xs ≡ true
+pub any-here : (P : ℕ → Bool) (xs : List ℕ) (c : ℕ) → has xs c ≡ true → P c ≡ true → list_any P xs ≡ true
 any-here P [] c here is = absurd (cc)
 any-here P (x ∷ xs) c here is = at (eqb x c) refl here (λ any. any-here P xs c any is)
   where
@@ -103,8 +105,11 @@ held-announced (h ▷ Said d word (Subscribe request options topic)) c q is_hist
     rw kept (announced-more (owed h c) (yield h e c) (number h q) (held-announced h c q is_history.0 before)))
     (λ new.
     let both = and-true (eqb d c) (is_of q r) new in
-    announced-new (owed h c) (yield h e c) (number (h ▷ e) q) (rw both.0 (replied request (number (h ▷ e)) r q (events h e c) both.1)))
+    announced-new (owed h c) (yield h e c) (number (h ▷ e) q) (rw both.0 (replied request (number (h ▷ e)) r q (asked_events (get_retained_of options) r (number (h ▷ e)) (retained h) (who h c)) both.1)))
     (or-true (holds h c q) (eqb d c && is_of q r) held)
+held-announced (h ▷ Said d word (Unsubscribe request n)) c q is_history held =
+    announced-more (owed h c) (yield h (Said d word (Unsubscribe request n)) c) (number h q)
+    (held-announced h c q is_history.0 (and-true (holds h c q) (not (eqb d c && eqb (number_among (opened h) q) n)) held).0)
 held-announced (h ▷ e) c q is_history held =
     announced-more (owed h c) (yield h e c) (number h q) (held-announced h c q is_history.0 (and-true (holds h c q) (not (ends e c)) held).0)
 
@@ -116,7 +121,9 @@ Allows seen (Goodbye reason) = Unit {0}
 Allows seen (Error kind request reason) = Unit {0}
 Allows seen (Published request publication) = Unit {0}
 Allows seen (Subscribed request n) = Unit {0}
+Allows seen (Unsubscribed request) = Unit {0}
 Allows seen (Event n p with_topic retained) = Announced seen n
+Allows seen (Pong payload) = Unit {0}
 
 abbrev AllowsEach : List Item → List Item → Type 0
 AllowsEach seen [] = Unit {0}
@@ -133,6 +140,8 @@ Allows-more seen more (Goodbye reason) is = tt
 Allows-more seen more (Error kind request reason) is = tt
 Allows-more seen more (Published request publication) is = tt
 Allows-more seen more (Subscribed request n) is = tt
+Allows-more seen more (Unsubscribed request) is = tt
+Allows-more seen more (Pong payload) is = tt
 Allows-more seen more (Event n p with_topic retained) is = announced-more seen more n is
 
 AllowsEach-more : (seen more xs : List Item) → AllowsEach seen xs → AllowsEach (seen ++ more) xs
@@ -153,7 +162,7 @@ AllowsEach-append seen [] ys first second = second
 AllowsEach-append seen (x ∷ xs) ys first second = (first.0, AllowsEach-append seen xs ys first.1 second)
 
 -- a reply is no EVENT
-publish-plain : (seen : List Item) (request : ℕ) (flag : Option Bool) (r : Result Publication Reason) → AllowsEach seen (publish_reply request flag r)
+publish-plain : (seen : List Item) (request : ℕ) (flag : Option Bool) (r : Result Made Reason) → AllowsEach seen (publish_reply request flag r)
 publish-plain seen request None (Err reason) = tt
 publish-plain seen request None (Ok p) = tt
 publish-plain seen request (Some true) (Err reason) = (tt, tt)
@@ -169,6 +178,10 @@ subscribe-plain : (seen : List Item) (request : ℕ) (num : PatternText → ℕ)
 subscribe-plain seen request num (Ok p) = (tt, tt)
 subscribe-plain seen request num (Err reason) = (tt, tt)
 
+unsubscribe-plain : (seen : List Item) (request : ℕ) (b : Bool) → AllowsEach seen (unsubscribe_reply request b ∷ [])
+unsubscribe-plain seen request true = (tt, tt)
+unsubscribe-plain seen request false = (tt, tt)
+
 reply-plain : (seen : List Item) (h : History) (e : Entry) → AllowsEach seen (reply h e)
 reply-plain seen h (Join c word authid) = welcome-plain seen (admission h c word authid)
 reply-plain seen h (Said c word (Hello realm authid)) = (tt, tt)
@@ -178,6 +191,8 @@ reply-plain seen h (Said c word (Publish request options topic args)) =
     publish-plain seen request (acknowledge_of options) (published h c word options topic args)
 reply-plain seen h (Said c word (Subscribe request options topic)) =
     subscribe-plain seen request (number (h ▷ Said c word (Subscribe request options topic))) (subscribed h c options topic)
+reply-plain seen h (Said c word (Unsubscribe request n)) = unsubscribe-plain seen request (holds_number h c n)
+reply-plain seen h (Ping c payload) = (tt, tt)
 reply-plain seen h (Spoilt c) = (tt, tt)
 reply-plain seen h (Gone c) = tt
 
@@ -208,24 +223,60 @@ module _ (seen : List Item) (P : PatternText → Bool) (num : PatternText → �
       at true is all = at_match (matches x.1 p.topic) is all
       at false is all = all
 
-made-allowed : (h : History) (c : ℕ) (r : Result Publication Reason) → IsHistory h → AllowsEach (owed h c) (made_events r (who h c) (held h c))
+made-allowed : (h : History) (c : ℕ) (r : Result Made Reason) → IsHistory h → AllowsEach (owed h c) (made_events r (who h c) (held h c))
 made-allowed h c (Err reason) is_history = tt
-made-allowed h c (Ok p) is_history =
-    if-plain (owed h c) (admits_who p (who h c)) _ (held-allowed (owed h c) (holds h c) (number h) (λ q. held-announced h c q is_history) p (numbered (opened h)))
+made-allowed h c (Ok made) is_history =
+    if-plain (owed h c) (admits_who made.publication (who h c)) _ (held-allowed (owed h c) (holds h c) (number h) (λ q. held-announced h c q is_history) made.publication (numbered (opened h)))
 
-events-allowed : (h : History) (e : Entry) (c : ℕ) → IsHistory h → AllowsEach (owed h c) (events h e c)
-events-allowed h (Said d word (Publish request options topic args)) c is_history = made-allowed h c (published h d word options topic args) is_history
+-- what is retained follows the SUBSCRIBED of the same entry
+retained-allowed : (seen : List Item) (n : ℕ) (pattern : PatternText) (receiver : Option Who) (ps : List Publication)
+    → Announced seen n → AllowsEach seen (retained_events_of ps receiver n pattern)
+retained-allowed seen n pattern receiver [] announced = tt
+retained-allowed seen n pattern receiver (p ∷ ps) announced = at (matches pattern p.topic && admits_who p receiver) (retained-allowed seen n pattern receiver ps announced)
+  where
+    event : Publication → Item
+    event q = Event n q (names_topic pattern.policy) true
+
+    at : (b : Bool) → AllowsEach seen (retained_events_of ps receiver n pattern)
+        → AllowsEach seen (map event (cond b (p ∷ filter (λ q. matches pattern q.topic && admits_who q receiver) ps) (filter (λ q. matches pattern q.topic && admits_who q receiver) ps)))
+    at true all = (announced, all)
+    at false all = all
+
+asked-allowed : (seen : List Item) (request : ℕ) (flag : Option Bool) (r : Result PatternText Reason) (num : PatternText → ℕ) (ps : List Publication) (receiver : Option Who)
+    → AllowsEach (seen ++ subscribe_reply request num r ∷ []) (asked_events flag r num ps receiver)
+asked-allowed seen request None (Ok p) num ps receiver = tt
+asked-allowed seen request None (Err reason) num ps receiver = tt
+asked-allowed seen request (Some false) (Ok p) num ps receiver = tt
+asked-allowed seen request (Some false) (Err reason) num ps receiver = tt
+asked-allowed seen request (Some true) (Err reason) num ps receiver = tt
+asked-allowed seen request (Some true) (Ok p) num ps receiver =
+    let same : eqb (num p) (num p) ≡ true = eq-eqb (num p) (num p) refl in
+    retained-allowed (seen ++ Subscribed request (num p) ∷ []) (num p) p receiver ps (announced-new seen (Subscribed request (num p) ∷ []) (num p) (rw same refl))
+
+-- the EVENTs of an entry follow what is owed before it, and its reply
+events-allowed : (h : History) (e : Entry) (c : ℕ) → IsHistory h → AllowsEach (owed h c ++ cond (eqb (conn_of e) c) (reply h e) []) (events h e c)
+events-allowed h (Said d word (Publish request options topic args)) c is_history =
+    AllowsEach-more (owed h c) (cond (eqb d c) (reply h (Said d word (Publish request options topic args))) []) _ (made-allowed h c (published h d word options topic args) is_history)
+events-allowed h (Said d word (Subscribe request options topic)) c is_history = at (eqb d c)
+  where
+    num : PatternText → ℕ
+    num = number (h ▷ Said d word (Subscribe request options topic))
+
+    at : (b : Bool) → AllowsEach (owed h c ++ cond b (subscribe_reply request num (subscribed h d options topic) ∷ []) [])
+        (cond b (asked_events (get_retained_of options) (subscribed h d options topic) num (retained h) (who h c)) [])
+    at true = asked-allowed (owed h c) request (get_retained_of options) (subscribed h d options topic) num (retained h) (who h c)
+    at false = tt
 events-allowed h e c is_history = tt
 
 owed-in_turn : (h : History) (c : ℕ) → IsHistory h → InTurn [] (owed h c)
 unfolding yield
 owed-in_turn (begun grants) c is_history = tt
 owed-in_turn (h ▷ e) c is_history =
+    let own = cond (eqb (conn_of e) c) (reply h e) [] in
     InTurn-append [] (owed h c) (yield h e c) (owed-in_turn h c is_history.0)
-    (InTurn-from_each (owed h c) (yield h e c)
-    (AllowsEach-append (owed h c) (cond (eqb (conn_of e) c) (reply h e) []) (events h e c)
-    (if-plain (owed h c) (eqb (conn_of e) c) (reply h e) (reply-plain (owed h c) h e))
-    (events-allowed h e c is_history.0)))
+    (InTurn-append (owed h c) own (events h e c)
+    (InTurn-from_each (owed h c) own (if-plain (owed h c) (eqb (conn_of e) c) (reply h e) (reply-plain (owed h c) h e)))
+    (InTurn-from_each (owed h c ++ own) (events h e c) (events-allowed h e c is_history.0)))
 
 in-turn-at : (seen xs before after : List Item) (n : ℕ) (p : Publication) (with_topic retained : Bool)
     → InTurn seen xs → xs ≡ before ++ Event n p with_topic retained ∷ after → Announced (seen ++ before) n

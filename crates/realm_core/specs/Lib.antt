@@ -1,4 +1,5 @@
 -- What a reader has to believe: the model of a realm, and its laws.
+pub mod Granting
 pub mod History
 pub mod Options
 pub mod Sessions
@@ -7,10 +8,10 @@ pub mod Publications
 pub mod Yield
 pub mod Given
 pub mod Laws
-pub mod Rows
 -- What only the body and its proofs speak of.
 pub mod HistoryCode
-pub mod Kept
-pub mod Conns
-pub mod Openings
-pub mod Answers
+pub mod Live
+pub mod Agreeing
+pub mod Gifts
+pub mod Moves
+pub mod Turns

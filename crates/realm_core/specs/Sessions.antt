@@ -5,20 +5,21 @@ use Rattle.std.specs.declared.option.Option.{Option}
 use Rattle.std.specs.declared.result.Result.{Result}
 use Rattle.std.specs.Result.{result_ok}
 use Rattle.std.specs.List.{list_any, list_all}
-use Rattle.std.specs.Str.{bytes_eq}
 use Rattle.wamp_ids.specs.Numbers.{id_of_word, seat_of}
 use Rattle.realm_core.specs.declared.entry.Entry.{Entry}
-use Rattle.realm_core.specs.declared.entry.Entry.TheVariants.{Join, Said, Spoilt, Gone}
+use Rattle.realm_core.specs.declared.entry.Entry.TheVariants.{Join, Said, Ping, Spoilt, Gone}
 use Rattle.session.specs.declared.said.Said as spoken
-use Rattle.session.specs.declared.said.Said.TheVariants.{Hello, Abort, Goodbye, Publish, Subscribe}
+use Rattle.session.specs.declared.said.Said.TheVariants.{Hello, Abort, Goodbye, Publish, Subscribe, Unsubscribe}
 use Rattle.eligibility.specs.declared.who.Who.{Who}
 use Rattle.session.specs.declared.item.Reason.{Reason}
 use Rattle.session.specs.declared.item.Reason.TheVariants.{NotAuthorized, SessionIdTaken}
-use Rattle.realm_core.specs.History.{History, begun, ◌▷◌, Grants, grants_of}
+use Rattle.realm_core.specs.Granting.{Grants, role_in}
+use Rattle.realm_core.specs.History.{History, begun, ◌▷◌, grants_of}
 
 abbrev pub conn_of : Entry → ℕ
 conn_of (Join c word authid) = c
 conn_of (Said c word said) = c
+conn_of (Ping c payload) = c
 conn_of (Spoilt c) = c
 conn_of (Gone c) = c
 
@@ -29,11 +30,13 @@ is_last_word Abort = true
 is_last_word Goodbye = true
 is_last_word (Publish request options topic args) = false
 is_last_word (Subscribe request options topic) = false
+is_last_word (Unsubscribe request subscription) = false
 
 -- e ends the session of c
 abbrev pub ends : Entry → ℕ → Bool
 ends (Join d word authid) c = false
 ends (Said d word said) c = d == c && is_last_word said
+ends (Ping d payload) c = false
 ends (Spoilt d) c = d == c
 ends (Gone d) c = d == c
 
@@ -43,11 +46,7 @@ joined (begun grants) = []
 joined (h ▷ Join c word authid) = c ∷ joined h
 joined (h ▷ e) = joined h
 
--- the role that a Join gets: that of the first grant of its authid, and without an authid the anonymous one
-abbrev pub role_in : Grants → List ℕ → Option (List ℕ)
-role_in [] authid = None
-role_in (grant ∷ grants) authid = cond (bytes_eq grant.0 authid) (Some grant.1) (role_in grants authid)
-
+-- the role that a Join gets: that of its authid, and without an authid the anonymous one
 abbrev pub role_for : Grants → Option (List ℕ) → Option (List ℕ)
 role_for grants None = Some (codes "anonymous")
 role_for grants (Some authid) = role_in grants authid

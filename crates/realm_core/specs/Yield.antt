@@ -1,5 +1,5 @@
 -- What each entry gives each session, and what a history owes it.
-use Rattle.std.specs.Prelude.{ℕ, Bool, true, false, cond, ◌==◌, List, [], ◌∷◌, ◌++◌, map}
+use Rattle.std.specs.Prelude.{ℕ, Bool, true, false, cond, ◌==◌, ◌&&◌, List, [], ◌∷◌, ◌++◌, map}
 use Rattle.std.specs.Prelude.{None, Some, Ok, Err}
 use Rattle.std.specs.declared.option.Option.{Option}
 use Rattle.std.specs.declared.result.Result.{Result}
@@ -8,21 +8,21 @@ use Rattle.wamp_ids.specs.Pattern.{PatternText, matches}
 use Rattle.wamp_ids.specs.declared.pattern.Policy.{Policy}
 use Rattle.wamp_ids.specs.declared.pattern.Policy.TheVariants.{Exact, Prefix, Wildcard}
 use Rattle.realm_core.specs.declared.entry.Entry.{Entry}
-use Rattle.realm_core.specs.declared.entry.Entry.TheVariants.{Join, Said, Spoilt, Gone}
-use Rattle.session.specs.declared.said.Said.TheVariants.{Hello, Publish, Subscribe}
+use Rattle.realm_core.specs.declared.entry.Entry.TheVariants.{Join, Said, Ping, Spoilt, Gone}
+use Rattle.session.specs.declared.said.Said.TheVariants.{Hello, Publish, Subscribe, Unsubscribe}
 use Rattle.session.specs.declared.said.Said.TheVariants as say
 use Rattle.eligibility.specs.declared.who.Who.{Who}
 use Rattle.session.specs.declared.item.Publication.{Publication}
 use Rattle.session.specs.declared.item.Item.{Item}
-use Rattle.session.specs.declared.item.Item.TheVariants.{Welcome, Abort, Goodbye, Error, Published, Subscribed, Event}
+use Rattle.session.specs.declared.item.Item.TheVariants.{Welcome, Abort, Goodbye, Error, Published, Subscribed, Unsubscribed, Event, Pong}
 use Rattle.session.specs.declared.item.Request.TheVariants as kind
 use Rattle.session.specs.declared.item.Reason.{Reason}
-use Rattle.session.specs.declared.item.Reason.TheVariants.{ProtocolViolation, GoodbyeAndOut}
+use Rattle.session.specs.declared.item.Reason.TheVariants.{ProtocolViolation, GoodbyeAndOut, NoSuchSubscription}
 use Rattle.realm_core.specs.History.{History, begun, ◌▷◌}
-use Rattle.realm_core.specs.Options.{acknowledge_of}
+use Rattle.realm_core.specs.Options.{acknowledge_of, get_retained_of}
 use Rattle.realm_core.specs.Sessions.{who, conn_of, admission}
-use Rattle.realm_core.specs.Subscriptions.{held, number, subscribed}
-use Rattle.realm_core.specs.Publications.{published, admits}
+use Rattle.realm_core.specs.Subscriptions.{held, number, subscribed, holds_number}
+use Rattle.realm_core.specs.Publications.{Made, published, retained, admits}
 
 -- the reply to a Join: WELCOME, or ABORT with the reason
 abbrev pub welcome : Result Who Reason → List Item
@@ -30,8 +30,8 @@ welcome (Ok w) = Welcome w ∷ []
 welcome (Err reason) = Abort reason ∷ []
 
 -- PUBLISHED or ERROR, where the publisher asked for it
-abbrev pub publish_reply : ℕ → Option Bool → Result Publication Reason → List Item
-publish_reply request (Some true) (Ok made) = Published request made.id ∷ []
+abbrev pub publish_reply : ℕ → Option Bool → Result Made Reason → List Item
+publish_reply request (Some true) (Ok made) = Published request made.publication.id ∷ []
 publish_reply request (Some true) (Err reason) = Error kind.Publish request reason ∷ []
 publish_reply request _ _ = []
 
@@ -39,6 +39,10 @@ publish_reply request _ _ = []
 abbrev pub subscribe_reply : ℕ → (PatternText → ℕ) → Result PatternText Reason → Item
 subscribe_reply request number (Ok p) = Subscribed request (number p)
 subscribe_reply request number (Err reason) = Error kind.Subscribe request reason
+
+-- UNSUBSCRIBED where the number is held, or ERROR
+abbrev pub unsubscribe_reply : ℕ → Bool → Item
+unsubscribe_reply request held = cond held (Unsubscribed request) (Error kind.Unsubscribe request NoSuchSubscription)
 
 -- the reply to the entry's own connection
 abbrev pub reply : History → Entry → List Item
@@ -50,6 +54,8 @@ reply h (Said c word (Publish request options topic args)) =
     publish_reply request (acknowledge_of options) (published h c word options topic args)
 reply h (Said c word (Subscribe request options topic)) =
     subscribe_reply request (number (h ▷ Said c word (Subscribe request options topic))) (subscribed h c options topic) ∷ []
+reply h (Said c word (Unsubscribe request n)) = unsubscribe_reply request (holds_number h c n) ∷ []
+reply h (Ping c payload) = Pong payload ∷ []
 reply h (Spoilt c) = Abort ProtocolViolation ∷ []
 reply h (Gone c) = []
 
@@ -68,14 +74,27 @@ abbrev pub events_of : Publication → Option Who → List (ℕ × PatternText) 
 events_of p receiver held =
     cond (admits_who p receiver) (map (λ s. Event s.0 p (names_topic s.1.policy) false) (filter (λ s. matches s.1 p.topic) held)) []
 
-abbrev pub made_events : Result Publication Reason → Option Who → List (ℕ × PatternText) → List Item
+-- the EVENTs of what is retained, for one who subscribes to the pattern by this number
+abbrev pub retained_events_of : List Publication → Option Who → ℕ → PatternText → List Item
+retained_events_of retained receiver n pattern =
+    map (λ p. Event n p (names_topic pattern.policy) true) (filter (λ p. matches pattern p.topic && admits_who p receiver) retained)
+
+abbrev pub made_events : Result Made Reason → Option Who → List (ℕ × PatternText) → List Item
 made_events (Err reason) receiver held = []
-made_events (Ok made) receiver held = events_of made receiver held
+made_events (Ok made) receiver held = events_of made.publication receiver held
+
+abbrev pub asked_events : Option Bool → Result PatternText Reason → (PatternText → ℕ) → List Publication → Option Who → List Item
+asked_events (Some true) (Ok p) number retained receiver = retained_events_of retained receiver (number p) p
+asked_events _ _ number retained receiver = []
 
 -- the EVENTs that e, coming after h, gives c
 abbrev pub events : History → Entry → ℕ → List Item
 events h (Said d word (Publish request options topic args)) c =
     made_events (published h d word options topic args) (who h c) (held h c)
+events h (Said d word (Subscribe request options topic)) c =
+    cond (d == c)
+    (asked_events (get_retained_of options) (subscribed h d options topic) (number (h ▷ Said d word (Subscribe request options topic))) (retained h) (who h c))
+    []
 events h e c = []
 
 -- what e, coming after h, gives c: the reply, and then EVENTs

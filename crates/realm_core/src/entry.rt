@@ -1,4 +1,4 @@
-use message_tree::Text;
+use message_tree::{Octets, Text};
 use session::Said;
 use wamp_ids::Conn;
 
@@ -24,6 +24,13 @@ pub enum Entry {
         word: u64,
         /// What it said.
         said: Said,
+    },
+    /// A live session sent a PING.
+    Ping {
+        /// The session's connection.
+        conn: Conn,
+        /// The octets that the PONG carries back.
+        payload: Octets,
     },
     /// A live session sent what is no message of a client.
     Spoilt(Conn),

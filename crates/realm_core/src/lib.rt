@@ -3,16 +3,20 @@
 //! The model stands in `specs/` and looks back over the history; [`Realm`] is a body that meets it.
 #![tactic(auto)]
 
-mod answer;
+mod answering;
 mod entry;
 mod fault;
-mod kept;
+mod giving;
+mod grants;
+mod joining;
 pub mod laws;
 mod publishing;
 mod realm;
+mod seats;
 mod sessions;
+mod state;
 mod subscribing;
-mod subscriptions;
+mod wishes;
 
 pub use entry::Entry;
 pub use fault::Fault;

@@ -1,31 +1,25 @@
-ghost use Rattle.std.specs.Prelude.{◌≡◌, ◌==◌, cond, [], ◌∷◌, true, IfOk, OnOk};
-ghost use Rattle.std.specs.Option.{option_to_list};
-ghost use Rattle.eligibility.specs.declared.who.Who.{Who};
-ghost use Rattle.eligibility.specs.Audience.{everyone};
+ghost use Rattle.std.specs.Prelude.{◌≡◌, true, is_some, None, Some, IfOk, OnOk, OnErr};
+ghost use Rattle.retained.specs.Retained.{has_room, set_topic};
 ghost use Rattle.session.specs.Arguments.{is_all_carried};
-ghost use Rattle.realm_core.specs.declared.entry.Entry.TheVariants.{Said};
-ghost use Rattle.session.specs.declared.said.Said.TheVariants.{Publish};
-ghost use Rattle.realm_core.specs.History.{begun};
-ghost use Rattle.realm_core.specs.Sessions.{live, who};
-ghost use Rattle.realm_core.specs.Kept.{AreTrue, history_of};
-ghost use Rattle.realm_core.specs.Publications.{publication_of, published_by};
+ghost use Rattle.eligibility.specs.declared.who.Who.{Who};
 ghost use Rattle.realm_core.specs.Options.{acknowledge_of};
-ghost use Rattle.realm_core.specs.Given.{GivesExactly, GivesEach};
-ghost use Rattle.realm_core.specs.Answers.{gift, is_some_true, made_with};
+ghost use Rattle.realm_core.specs.Live.{session_of};
+ghost use Rattle.realm_core.specs.Publications.{published_by, wishes_of, made_by};
+ghost use Rattle.realm_core.specs.Moves.{IsPublished, made_with, is_some_true, refused, told};
 
-use crate::answer::{anonymous_session, one};
 use crate::fault::Fault;
-use crate::kept::Kept;
-use crate::sessions::{id_of, live_conns};
-use crate::subscriptions::{id_of_number, is_held_by, openings_of};
-use message_tree::{Options, Shared, Text, Tree};
-use session::{Args, CarriedArgs, Item, Lists, Publication, Reason, Request};
+use crate::giving::{Given, all_events, one, put_before};
+use crate::state::State;
+use crate::wishes::{Wishes, flag, read_wishes};
+use message_tree::{Options, Shared, Text};
+use retained::Store;
+use session::{Args, CarriedArgs, Item, Publication, Reason, Request, Who};
 use std::alloc::Global;
 use wamp_ids::{Conn, Id, Topic};
 
 /// A PUBLISH.
 #[derive(Drop)]
-pub struct Wanted<'a> {
+pub struct Asked<'a> {
     pub conn: Conn,
     pub word: u64,
     pub request: Id,
@@ -34,40 +28,35 @@ pub struct Wanted<'a> {
     pub args: &'a Args,
 }
 
-/// The flag `acknowledge`; `None` where it has a wrong type.
-fn acknowledge(options: &Options) -> Option<bool>
-    ensures { result ≡ acknowledge_of options.now }
+/// The topic and the wishes of a PUBLISH that is accepted, or why it is refused.
+fn accepted(
+    alloc: Global,
+    store: &Store,
+    asked: &Asked<'_>,
+) -> Result<Result<(Topic, Wishes), Reason>, Fault>
+    ensures answer { IfOk result (λ accepted. (w : Who) → published_by (has_room store.now asked.now.topic.now) asked.now.word w asked.now.topic.now asked.now.args.now (wishes_of asked.now.options.now)
+        ≡ made_with asked.now.word w asked.now.args.now accepted) }
+    ensures carried { IfOk result (λ accepted. OnOk accepted (is_all_carried asked.now.args.now ≡ true)) }
+    ensures room { IfOk result (λ accepted. IfOk accepted (λ a. a.1.retained ≡ true → has_room store.now a.0 ≡ true)) }
 {
-    match options.get("acknowledge") {
-        None => Some(false),
-        Some(Tree::Null) => Some(false),
-        Some(Tree::Flag(flag)) => Some(*flag),
-        Some(_) => None,
+    let Some(wishes) = read_wishes(alloc, asked.options)? else {
+        return Ok(Err(Reason::InvalidArgument));
+    };
+    let topic = match Topic::read(alloc, asked.topic.as_str()) {
+        Ok(topic) => topic,
+        Err(wamp_ids::Fault::BadUri) => return Ok(Err(Reason::InvalidUri)),
+        Err(_) => return Err(Fault::NoMemory),
+    };
+    if topic.is_reserved() {
+        return Ok(Err(Reason::InvalidUri));
     }
-}
-
-/// The topic of a PUBLISH, or why it is refused.
-fn accepted_topic(alloc: Global, wanted: &Wanted<'_>) -> Result<Result<Topic, Reason>, Fault>
-    ensures answer { IfOk result (λ topic. (w : Who) → published_by wanted.now.word w wanted.now.topic.now wanted.now.args.now (acknowledge_of wanted.now.options.now)
-        ≡ made_with wanted.now.word w wanted.now.args.now topic) }
-    ensures carried { IfOk result (λ topic. OnOk topic (is_all_carried wanted.now.args.now ≡ true)) }
-{
-    if acknowledge(wanted.options).is_none() {
+    if !asked.args.is_carried() {
         return Ok(Err(Reason::InvalidArgument));
     }
-    match Topic::read(alloc, wanted.topic.as_str()) {
-        Ok(topic) => {
-            if topic.is_reserved() {
-                Ok(Err(Reason::InvalidUri))
-            } else if !wanted.args.is_carried() {
-                Ok(Err(Reason::InvalidArgument))
-            } else {
-                Ok(Ok(topic))
-            }
-        }
-        Err(wamp_ids::Fault::BadUri) => Ok(Err(Reason::InvalidUri)),
-        Err(_) => Err(Fault::NoMemory),
+    if wishes.retained && !store.has_room(asked.topic.as_str()) {
+        return Ok(Err(Reason::RetainedFull));
     }
+    Ok(Ok((topic, wishes)))
 }
 
 /// A copy of arguments that can be carried.
@@ -87,146 +76,104 @@ fn carried_copy(alloc: Global, args: &Args) -> Result<CarriedArgs, Fault>
 /// The publication that an accepted PUBLISH makes.
 fn publication(
     alloc: Global,
-    kept: &[Kept],
-    wanted: &Wanted<'_>,
+    publisher: &Who,
+    asked: &Asked<'_>,
     topic: Topic,
+    wishes: Wishes,
 ) -> Result<Publication, Fault>
-    requires truth { AreTrue (begun []) kept.now }
-    requires live { live (history_of kept.now) wanted.now.conn ≡ true }
-    requires carried { is_all_carried wanted.now.args.now ≡ true }
-    ensures publisher { IfOk result (λ p. who (history_of kept.now) wanted.now.conn ≡ Some p.publisher) }
-    ensures conn { IfOk result (λ p. p.publisher.conn ≡ wanted.now.conn) }
-    ensures made { IfOk result (λ p. p ≡ publication_of wanted.now.word p.publisher topic wanted.now.args.now) }
+    requires { is_all_carried asked.now.args.now ≡ true }
+    ensures { IfOk result (λ p. p ≡ (made_by asked.now.word publisher.now topic asked.now.args.now wishes).publication) }
 {
-    let Some(id) = id_of(kept, wanted.conn) else {
-        unreachable!()
-    };
-    let publisher = anonymous_session(alloc, wanted.conn, id)?;
-    let args = carried_copy(alloc, wanted.args)?;
+    let publisher = publisher.try_copy(alloc)?;
+    let args = carried_copy(alloc, asked.args)?;
     Ok(Publication {
-        id: Id::of_word(wanted.word),
+        id: Id::of_word(asked.word),
         topic,
-        lists: Lists::everyone(),
+        lists: wishes.lists,
         publisher,
-        disclosed: false,
+        disclosed: wishes.disclosed,
         args,
     })
 }
 
-fn is_acknowledged(wanted: &Wanted<'_>) -> bool
-    ensures { result ≡ is_some_true (acknowledge_of wanted.now.options.now) }
+fn is_acknowledged(options: &Options) -> bool
+    ensures { result ≡ is_some_true (acknowledge_of options.now) }
 {
-    match acknowledge(wanted.options) {
+    match flag(options, "acknowledge") {
         Some(flag) => flag,
         None => false,
     }
 }
 
 /// ERROR for a PUBLISH that is refused, where it asked for an answer.
-fn refused(
-    alloc: Global,
-    wanted: &Wanted<'_>,
-    reason: Reason,
-    acknowledged: bool,
-) -> Result<Vec<(Conn, Item)>, Fault>
-    ensures { IfOk result (λ given. given.items ≡ cond acknowledged ((wanted.now.conn, Item.Error Request.Publish wanted.now.request reason) ∷ []) []) }
+fn refused(alloc: Global, asked: &Asked<'_>, reason: Reason) -> Result<Given, Fault>
+    ensures { IfOk result (λ given. given.items ≡ refused asked.now.conn asked.now.request (acknowledge_of asked.now.options.now) reason) }
 {
-    if acknowledged {
-        let item = Item::Error {
-            kind: Request::Publish,
-            request: wanted.request,
-            reason,
+    if !is_acknowledged(asked.options) {
+        return Ok(Vec::new(alloc));
+    }
+    let item = Item::Error {
+        kind: Request::Publish,
+        request: asked.request,
+        reason,
+    };
+    one(alloc, asked.conn, item)
+}
+
+/// What an accepted publication gives: EVENTs, and PUBLISHED where that was asked for.
+fn told(
+    alloc: Global,
+    state: &State,
+    asked: &Asked<'_>,
+    made: &Shared<Publication>,
+) -> Result<Given, Fault>
+    ensures { IfOk result (λ given. given.items ≡ told state.now asked.now.conn asked.now.request (acknowledge_of asked.now.options.now) made.now) }
+{
+    let mut given = all_events(alloc, &state.sessions, &state.index, made)?;
+    if is_acknowledged(asked.options) {
+        let published = Item::Published {
+            request: asked.request,
+            publication: made.value().id,
         };
-        one(alloc, wanted.conn, item)
-    } else {
-        Ok(Vec::new(alloc))
+        put_before(&mut given, asked.conn, published)?;
+    }
+    Ok(given)
+}
+
+/// Retains a publication for which there is room.
+fn retain(alloc: Global, store: &mut Store, made: Shared<Publication>) -> Result<(), Fault>
+    requires { has_room store.old made.topic ≡ true }
+    ensures kept { OnOk result (store.new ≡ set_topic made store.old) }
+    ensures unchanged { OnErr result (store.new ≡ store.old) }
+{
+    match store.keep(alloc, made) {
+        Ok(()) => Ok(()),
+        Err(retained::Fault::NoMemory) => Err(Fault::NoMemory),
+        Err(retained::Fault::RetainedFull) => unreachable!(),
     }
 }
 
-/// What a PUBLISH gives each session.
-pub fn publish(
-    alloc: Global,
-    kept: &[Kept],
-    wanted: &Wanted<'_>,
-) -> Result<Vec<(Conn, Item)>, Fault>
-    requires truth { AreTrue (begun []) kept.now }
-    requires live { live (history_of kept.now) wanted.now.conn ≡ true }
-    ensures { IfOk result (λ given. GivesExactly (history_of kept.now)
-        (Said wanted.now.conn wanted.now.word (Publish wanted.now.request wanted.now.options.now wanted.now.topic.now wanted.now.args.now)) given.items) }
+/// Answers a PUBLISH of a live session.
+pub fn publish(alloc: Global, state: &mut State, asked: &Asked<'_>) -> Result<Given, Fault>
+    requires { is_some (session_of state.old.sessions asked.now.conn) ≡ true }
+    ensures ok { IfOk result (λ given. (w : Who) → session_of state.old.sessions asked.now.conn ≡ Some w
+        → IsPublished state.old asked.now.conn asked.now.request (acknowledge_of asked.now.options.now)
+        (published_by (has_room state.old.store asked.now.topic.now) asked.now.word w asked.now.topic.now asked.now.args.now (wishes_of asked.now.options.now)) state.new given.items) }
+    ensures unchanged { OnErr result (state.new ≡ state.old) }
 {
-    let acknowledged = is_acknowledged(wanted);
-    match accepted_topic(alloc, wanted)? {
-        Err(reason) => refused(alloc, wanted, reason, acknowledged),
-        Ok(topic) => {
-            let made = publication(alloc, kept, wanted, topic)?;
-            let shared = Shared::new(alloc, made)?;
-            hand_out(alloc, kept, &shared, wanted.request, acknowledged)
-        }
-    }
-}
-
-fn is_same(a: Conn, b: Conn) -> bool
-    ensures { result ≡ (a == b) }
-{
-    a.value() == b.value()
-}
-
-/// What a publication gives one session. The publisher itself isn't admitted; any other is.
-fn gift_for(
-    kept: &[Kept],
-    made: &Shared<Publication>,
-    request: Id,
-    acknowledged: bool,
-    conn: Conn,
-) -> Result<Option<Item>, Fault>
-    requires truth { AreTrue (begun []) kept.now }
-    requires live { live (history_of kept.now) conn ≡ true }
-    requires lists { made.now.lists ≡ everyone }
-    ensures { IfOk result (λ item. option_to_list item ≡ gift (history_of kept.now) made.now request acknowledged conn) }
-{
-    let publication = made.value();
-    let topic = publication.topic.text();
-    if is_same(publication.publisher.conn, conn) {
-        if acknowledged {
-            return Ok(Some(Item::Published {
-                request,
-                publication: publication.id,
-            }));
-        }
-        return Ok(None);
-    }
-    if !is_held_by(kept, conn, topic) {
-        return Ok(None);
-    }
-    let openings = openings_of(kept, topic);
-    let publication = made.twin()?;
-    Ok(Some(Item::Event {
-        subscription: id_of_number(openings.number),
-        publication,
-        with_topic: false,
-        retained: false,
-    }))
-}
-
-/// What a publication gives each session.
-fn hand_out(
-    alloc: Global,
-    kept: &[Kept],
-    made: &Shared<Publication>,
-    request: Id,
-    acknowledged: bool,
-) -> Result<Vec<(Conn, Item)>, Fault>
-    requires truth { AreTrue (begun []) kept.now }
-    requires live { live (history_of kept.now) made.now.publisher.conn ≡ true }
-    requires lists { made.now.lists ≡ everyone }
-    ensures { IfOk result (λ given. GivesEach (gift (history_of kept.now) made.now request acknowledged) given.items) }
-{
-    let conns = live_conns(alloc, kept)?;
-    let mut given = Vec::new(alloc);
-    for conn in &conns {
-        if let Some(item) = gift_for(kept, made, request, acknowledged, *conn)? {
-            given.push((*conn, item))?;
-        }
+    let (topic, wishes) = match accepted(alloc, &state.store, asked)? {
+        Ok(accepted) => accepted,
+        Err(reason) => return refused(alloc, asked, reason),
+    };
+    let Some(publisher) = state.sessions.find(asked.conn) else {
+        unreachable!()
+    };
+    let retained = wishes.retained;
+    let made = publication(alloc, publisher, asked, topic, wishes)?;
+    let made = Shared::new(alloc, made)?;
+    let given = told(alloc, state, asked, &made)?;
+    if retained {
+        retain(alloc, &mut state.store, made)?;
     }
     Ok(given)
 }

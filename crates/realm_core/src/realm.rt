@@ -1,16 +1,22 @@
-ghost use Rattle.std.specs.Prelude.{◌≡◌, ℕ, [], true, OnOk, OnErr, IfOk};
+ghost use Rattle.std.specs.Prelude.{◌≡◌, true, OnOk, OnErr, IfOk};
+ghost use Rattle.realm_core.specs.Granting.{pairs_of};
 ghost use Rattle.realm_core.specs.History.{begun, ◌▷◌};
 ghost use Rattle.realm_core.specs.Sessions.{live, may_come, may_join};
 ghost use Rattle.realm_core.specs.Given.{GivesExactly};
 
-use crate::answer::answer_to;
+use crate::answering::answer;
 use crate::entry::Entry;
 use crate::fault::Fault;
-use crate::kept::Kept;
-use crate::sessions::{id_of, joins_above};
+use crate::grants::Grants;
+use crate::seats::Seats;
+use crate::sessions::Sessions;
+use crate::state::State;
+use retained::Store;
 use session::Item;
 use std::alloc::Global;
 use std::marker::Model;
+use std::snapshot::Snapshot;
+use subscription_index::Index;
 use wamp_ids::{Conn, Topic};
 
 /// What a realm is made from.
@@ -18,16 +24,21 @@ use wamp_ids::{Conn, Topic};
 pub struct RealmConfig {
     /// Its name, by which a HELLO asks for it.
     pub name: Topic,
+    /// The authids that a HELLO may ask for, each with its role. Of two pairs of one authid the
+    /// first counts.
+    pub grants: Vec<(String, String)>,
 }
 
-/// A realm, which contracts see as its history. It stores the entries and looks through them.
+/// A realm. Contracts see it as its history, whose entries take no memory: what is kept is the
+/// sessions, what they hold, and what is retained.
 #[derive(Drop)]
 pub struct Realm {
-    kept: Vec<Kept>,
+    state: State,
+    past: Vec<Snapshot<Entry>>,
 }
 
 impl Model for Realm {
-    ghost use Rattle.std.specs.Prelude.{[]};
+    ghost use Rattle.std.specs.Prelude.{map};
     ghost use Rattle.realm_core.specs.History.{History, begun};
 
     ghost Value = { History };
@@ -36,22 +47,30 @@ impl Model for Realm {
 
     ghost coded = { history_code };
 
-    ghost use Rattle.realm_core.specs.Kept.{history_of, AreTrue};
+    ghost use Rattle.realm_core.specs.Turns.{history_after};
+    ghost use Rattle.realm_core.specs.Agreeing.{Agrees};
 
-    ghost view = { λ r. history_of r.kept.items };
+    ghost view = { λ r. history_after (begun r.state.grants) (map (λ s. s.value) r.past.items) };
 
-    ghost invariant = { λ r. AreTrue (begun []) r.kept.items };
+    ghost invariant = { λ r. Agrees (history_after (begun r.state.grants) (map (λ s. s.value) r.past.items)) r.state };
 }
 
 impl Realm {
-    /// A realm with an empty history. It grants no authid yet.
-    #[tactic(auto, unfolding(crate::specs::Kept::history_of))]
+    /// A realm with these grants and an empty history.
     pub fn new(alloc: Global, config: RealmConfig) -> Result<Realm, Fault>
-        ensures { IfOk result (λ realm. realm ≡ begun []) }
+        ensures { IfOk result (λ realm. realm ≡ begun (pairs_of config.grants.items)) }
     {
-        let RealmConfig { name: _ } = config;
+        let RealmConfig { name: _, grants } = config;
+        let state = State {
+            grants: Grants::of(alloc, grants)?,
+            sessions: Sessions::new(alloc),
+            seats: Seats::new(alloc)?,
+            index: Index::new(alloc),
+            store: Store::new(alloc),
+        };
         Ok(Realm {
-            kept: Vec::new(alloc),
+            state,
+            past: Vec::new(alloc),
         })
     }
 
@@ -59,7 +78,7 @@ impl Realm {
     pub fn is_live(&self, conn: Conn) -> bool
         ensures { result ≡ live self.now conn }
     {
-        id_of(&self.kept, conn).is_some()
+        self.state.sessions.find(conn).is_some()
     }
 
     /// Whether the connection may join: its number is greater than that of every earlier Join
@@ -67,7 +86,7 @@ impl Realm {
     pub fn may_join(&self, conn: Conn) -> bool
         ensures { result ≡ may_join self.now conn }
     {
-        joins_above(&self.kept, conn)
+        self.state.seats.may_join(conn)
     }
 
     /// Adds the entry to the history, and gives each session what it is owed for it: ascending by
@@ -82,12 +101,9 @@ impl Realm {
         ensures given { IfOk result (λ given. GivesExactly self.old entry given.items) }
         ensures unchanged { OnErr result (self.new ≡ self.old) }
     {
-        let answer = answer_to(alloc, &self.kept, &entry)?;
-        self.kept.push(Kept {
-            entry,
-            accepted: answer.accepted,
-            opens: answer.opens,
-        })?;
-        Ok(answer.given)
+        self.past.reserve(1)?;
+        let given = answer(alloc, &mut self.state, &entry)?;
+        self.past.push_reserved(Snapshot::of(&entry));
+        Ok(given)
     }
 }

@@ -1,114 +1,220 @@
-ghost use Rattle.std.specs.Prelude.{◌≡◌, [], true, is_some, IfOk};
-ghost use Rattle.realm_core.specs.declared.entry.Entry.TheVariants.{Said};
-ghost use Rattle.session.specs.declared.said.Said.TheVariants.{Subscribe};
-ghost use Rattle.realm_core.specs.History.{begun};
-ghost use Rattle.realm_core.specs.Kept.{AreTrue, history_of, exactly};
-ghost use Rattle.realm_core.specs.Options.{match_of};
+ghost use Rattle.std.specs.Prelude.{◌≡◌, ◌+◌, ◌≤◌, ◌++◌, ◌∷◌, [], true, length, vec_len, map, is_some, None, Some, Ok, Err, IfOk, OnOk, OnErr};
+ghost use Rattle.std.specs.Vec.{vec_capacity};
+ghost use Rattle.std.specs.List.{filter};
+ghost use Rattle.eligibility.specs.declared.who.Who.{Who};
+ghost use Rattle.realm_core.specs.Options.{match_of, policy_named, get_retained_of};
 ghost use Rattle.realm_core.specs.Subscriptions.{pattern_of};
-ghost use Rattle.realm_core.specs.Openings.{IsNextNumber, somebody_holds};
-ghost use Rattle.realm_core.specs.Answers.{Answers};
+ghost use Rattle.realm_core.specs.Publications.{admits};
+ghost use Rattle.realm_core.specs.Live.{session_of};
+ghost use Rattle.realm_core.specs.Gifts.{all_for};
+ghost use Rattle.realm_core.specs.Moves.{IsHeld, IsSubscribed, IsUnsubscribed, wanted, retained_event};
 
-use crate::answer::{Answer, one, tell};
 use crate::fault::Fault;
-use crate::kept::Kept;
-use crate::subscriptions::{id_of_number, is_held, openings_of};
-use message_tree::{Options, Text, Tree};
-use session::{Item, Reason, Request};
+use crate::giving::{Given, admits, names_topic, one};
+use crate::state::State;
+use crate::wishes::flag;
+use message_tree::{Options, Shared, Text, Tree};
+use retained::Store;
+use session::{Item, Publication, Reason, Request, Who};
 use std::alloc::Global;
 use wamp_ids::{Conn, Id, Pattern, Policy};
 
-/// How many subscriptions a realm opens at the most: 2^53.
-const MOST_OPENINGS: u64 = 9007199254740992;
+/// A SUBSCRIBE.
+#[derive(Drop)]
+pub struct Asked<'a> {
+    pub conn: Conn,
+    pub request: Id,
+    pub options: &'a Options,
+    pub topic: &'a Text,
+}
 
-/// Whether the options ask for exact matching.
-fn is_exact(options: &Options) -> bool
-    ensures { result ≡ is_some (match_of options.now) }
+/// The policy of this name.
+fn policy_named(name: &str) -> Option<Policy>
+    ensures { result ≡ policy_named name.now }
+{
+    if name == "exact" {
+        Some(Policy::Exact)
+    } else if name == "prefix" {
+        Some(Policy::Prefix)
+    } else if name == "wildcard" {
+        Some(Policy::Wildcard)
+    } else {
+        None
+    }
+}
+
+/// How the pattern is to be compared; `None` where the options say nothing that is known.
+fn policy_of(options: &Options) -> Option<Policy>
+    ensures { result ≡ match_of options.now }
 {
     match options.get("match") {
-        None => true,
-        Some(Tree::Null) => true,
-        Some(Tree::Text(policy)) => policy.as_str() == "exact",
-        Some(_) => false,
+        None => Some(Policy::Exact),
+        Some(Tree::Null) => Some(Policy::Exact),
+        Some(Tree::Text(name)) => policy_named(name.as_str()),
+        Some(_) => None,
     }
 }
 
 /// The pattern that a SUBSCRIBE asks for, or why it is malformed.
-fn asked_pattern(
+fn pattern_of(
     alloc: Global,
     options: &Options,
     topic: &Text,
 ) -> Result<Result<Pattern, Reason>, Fault>
-    ensures asked { IfOk result (λ asked. asked ≡ pattern_of options.now topic.now) }
-    ensures exact { IfOk result (λ asked. IfOk asked (λ pattern. pattern ≡ exactly topic.now)) }
+    ensures { IfOk result (λ pattern. pattern ≡ pattern_of options.now topic.now) }
 {
-    if !is_exact(options) {
+    let Some(policy) = policy_of(options) else {
+        return Ok(Err(Reason::InvalidArgument));
+    };
+    if flag(options, "get_retained").is_none() {
         return Ok(Err(Reason::InvalidArgument));
     }
-    match Pattern::read(alloc, Policy::Exact, topic.as_str()) {
+    match Pattern::read(alloc, policy, topic.as_str()) {
         Ok(pattern) => Ok(Ok(pattern)),
         Err(wamp_ids::Fault::BadUri) => Ok(Err(Reason::InvalidUri)),
         Err(_) => Err(Fault::NoMemory),
     }
 }
 
-/// The number that a SUBSCRIBE of the topic gets, where there is one left.
-fn next_number(kept: &[Kept], text: &str, held: bool) -> Option<Id>
-    requires truth { AreTrue (begun []) kept.now }
-    requires held { held ≡ somebody_holds (history_of kept.now) (exactly text.now) }
-    ensures { IsNextNumber (history_of kept.now) (exactly text.now) result }
+/// Those of the publications that admit the session.
+fn admitted(
+    alloc: Global,
+    found: Vec<Shared<Publication>>,
+    who: &Who,
+) -> Result<Vec<Shared<Publication>>, Fault>
+    ensures { IfOk result (λ kept. kept.items ≡ filter (λ p. admits p who.now) found.items) }
 {
-    let openings = openings_of(kept, text);
-    if held {
-        return Some(id_of_number(openings.number));
+    let mut kept = Vec::new(alloc);
+    for publication in found {
+        if admits(publication.value(), who) {
+            kept.push(publication)?;
+        }
     }
-    if openings.count < MOST_OPENINGS {
-        return Some(id_of_number(openings.count + 1));
-    }
-    None
+    Ok(kept)
 }
 
-/// The ERROR that refuses a SUBSCRIBE.
-fn refusal(request: Id, reason: Reason) -> Item
-    ensures { result ≡ Item.Error Request.Subscribe request reason }
+/// The retained publications that a SUBSCRIBE asks for, of those that match and admit the session.
+fn wanted(
+    alloc: Global,
+    store: &Store,
+    options: &Options,
+    pattern: &Pattern,
+    who: &Who,
+) -> Result<Vec<Shared<Publication>>, Fault>
+    ensures { IfOk result (λ kept. kept.items ≡ wanted store.now (get_retained_of options.now) pattern.now who.now) }
+{
+    match flag(options, "get_retained") {
+        Some(true) => admitted(alloc, store.matching(alloc, pattern)?, who),
+        _ => Ok(Vec::new(alloc)),
+    }
+}
+
+/// Gives the connection the EVENTs of what is retained, for which there is room.
+fn give_retained(
+    given: &mut Given,
+    conn: Conn,
+    subscription: Id,
+    policy: Policy,
+    publications: Vec<Shared<Publication>>,
+)
+    requires { vec_len given.old + length publications.items ≤ vec_capacity given.old }
+    ensures { given.new.items ≡ given.old.items ++ all_for conn (map (retained_event subscription policy) publications.items) }
+{
+    for publication in publications {
+        given.push_reserved((
+            conn,
+            Item::Event {
+                subscription,
+                publication,
+                with_topic: names_topic(policy),
+                retained: true,
+            },
+        ));
+    }
+}
+
+/// The ERROR that refuses a request.
+fn refusal(kind: Request, request: Id, reason: Reason) -> Item
+    ensures { result ≡ Item.Error kind request reason }
 {
     Item::Error {
-        kind: Request::Subscribe,
+        kind,
         request,
         reason,
     }
 }
 
-/// The answer to a SUBSCRIBE.
-pub fn subscribe(
-    alloc: Global,
-    kept: &[Kept],
-    conn: Conn,
-    word: u64,
-    request: Id,
-    options: &Options,
-    topic: &Text,
-) -> Result<Answer, Fault>
-    requires { AreTrue (begun []) kept.now }
-    ensures { IfOk result (Answers (history_of kept.now) (Said conn word (Subscribe request options.now topic.now))) }
+/// Answers a SUBSCRIBE of a live session.
+pub fn subscribe(alloc: Global, state: &mut State, asked: &Asked<'_>) -> Result<Given, Fault>
+    requires { is_some (session_of state.old.sessions asked.now.conn) ≡ true }
+    ensures ok { IfOk result (λ given. (w : Who) → session_of state.old.sessions asked.now.conn ≡ Some w
+        → IsSubscribed state.old asked.now.conn asked.now.request (get_retained_of asked.now.options.now) w (pattern_of asked.now.options.now asked.now.topic.now) state.new given.items) }
+    ensures unchanged { OnErr result (state.new ≡ state.old) }
 {
-    let pattern = match asked_pattern(alloc, options, topic)? {
+    let pattern = match pattern_of(alloc, asked.options, asked.topic)? {
         Ok(pattern) => pattern,
-        Err(reason) => return tell(alloc, conn, refusal(request, reason)),
+        Err(reason) => {
+            let item = refusal(Request::Subscribe, asked.request, reason);
+            return one(alloc, asked.conn, item);
+        }
     };
-    let held = is_held(kept, pattern.text());
-    match next_number(kept, pattern.text(), held) {
-        None => tell(alloc, conn, refusal(request, Reason::TooManySubscriptions)),
-        Some(subscription) => {
+    let Some(who) = state.sessions.find(asked.conn) else {
+        unreachable!()
+    };
+    let retained = wanted(alloc, &state.store, asked.options, &pattern, who)?;
+    hold(alloc, state, asked, pattern, retained)
+}
+
+/// Answers a SUBSCRIBE of a pattern, after which these retained publications are given.
+fn hold(
+    alloc: Global,
+    state: &mut State,
+    asked: &Asked<'_>,
+    pattern: Pattern,
+    retained: Vec<Shared<Publication>>,
+) -> Result<Given, Fault>
+    ensures ok { IfOk result (λ given. IsHeld state.old asked.now.conn asked.now.request pattern retained.items state.new given.items) }
+    ensures unchanged { OnErr result (state.new ≡ state.old) }
+{
+    let policy = pattern.policy();
+    let mut given = Vec::with_capacity(alloc, retained.len() + 1)?;
+    match state.index.hold(alloc, asked.conn, pattern) {
+        Ok(subscription) => {
             let subscribed = Item::Subscribed {
-                request,
+                request: asked.request,
                 subscription,
             };
-            let given = one(alloc, conn, subscribed)?;
-            Ok(Answer {
-                given,
-                accepted: true,
-                opens: !held,
-            })
+            given.push_reserved((asked.conn, subscribed));
+            give_retained(&mut given, asked.conn, subscription, policy, retained);
+            Ok(given)
         }
+        Err(subscription_index::Fault::TooManySubscriptions) => {
+            let reason = Reason::TooManySubscriptions;
+            let item = refusal(Request::Subscribe, asked.request, reason);
+            given.push_reserved((asked.conn, item));
+            Ok(given)
+        }
+        Err(subscription_index::Fault::NoMemory) => Err(Fault::NoMemory),
     }
+}
+
+/// Answers an UNSUBSCRIBE.
+pub fn unsubscribe(
+    alloc: Global,
+    state: &mut State,
+    conn: Conn,
+    request: Id,
+    subscription: Id,
+) -> Result<Given, Fault>
+    ensures ok { IfOk result (λ given. IsUnsubscribed state.old conn request subscription state.new given.items) }
+    ensures unchanged { OnErr result (state.new ≡ state.old) }
+{
+    let mut given = Vec::with_capacity(alloc, 1)?;
+    let item = if state.index.release(conn, subscription) {
+        Item::Unsubscribed { request }
+    } else {
+        refusal(Request::Unsubscribe, request, Reason::NoSuchSubscription)
+    };
+    given.push_reserved((conn, item));
+    Ok(given)
 }

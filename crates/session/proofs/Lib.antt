@@ -1,2 +1,7 @@
 pub mod DetailsLemmas
 pub mod BrokerMessages
+pub mod Walking
+pub mod Conversing
+pub mod Openings
+pub mod Causes
+pub mod Within

@@ -2,5 +2,8 @@ pub mod Arguments
 pub mod Reading
 pub mod Telling
 pub mod Opening
+pub mod Serializing
+pub mod Opened
+pub mod Walks
 pub mod Handing
 pub mod Laws

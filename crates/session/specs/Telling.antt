@@ -9,7 +9,7 @@ use Rattle.session.specs.declared.item.Reason.TheVariants.{ProtocolViolation, No
 use Rattle.session.specs.declared.item.Request as request
 use Rattle.session.specs.declared.item.Request.TheVariants as kind
 use Rattle.session.specs.declared.item.Item as items
-use Rattle.session.specs.declared.item.Item.TheVariants.{Welcome, Abort, Goodbye, Error, Published, Subscribed, Event}
+use Rattle.session.specs.declared.item.Item.TheVariants.{Welcome, Abort, Goodbye, Error, Published, Subscribed, Unsubscribed, Event, Pong}
 
 abbrev pub number : ℕ → Data
 number n = whole (pos n)
@@ -17,6 +17,7 @@ number n = whole (pos n)
 abbrev pub type_of : request.Request → ℕ
 type_of kind.Publish = 16
 type_of kind.Subscribe = 32
+type_of kind.Unsubscribe = 34
 
 abbrev pub uri_of : Reason → List ℕ
 uri_of ProtocolViolation = codes "wamp.error.protocol_violation"
@@ -64,6 +65,10 @@ last_items (Some a) (Some k) = item a (item k no_items)
 abbrev pub triple : ℕ → ℕ → ℕ → Data
 triple type n m = list (item (number type) (item (number n) (item (number m) no_items)))
 
+-- [UNSUBSCRIBED, Request]
+abbrev pub unsubscribed : ℕ → Data
+unsubscribed request = list (item (number 35) (item (number request) no_items))
+
 -- [type, {}, Reason]
 abbrev pub farewell : ℕ → Reason → Data
 farewell type reason = list (item (number type) (item (dict no_entries) (item (text (uri_of reason)) no_items)))
@@ -82,7 +87,7 @@ abbrev pub event : ℕ → Publication → Bool → Bool → Data
 event n p with_topic retained =
     list (item (number 36) (item (number n) (item (number p.id) (item (dict (event_details p with_topic retained)) (last_items p.args.args p.args.kwargs)))))
 
--- the message of an item
+-- the message of an item; a PONG is a frame of its own and no message
 abbrev pub message_of : items.Item → Option Data
 message_of (Welcome w) = Some (welcome w)
 message_of (Abort reason) = Some (farewell 3 reason)
@@ -90,4 +95,6 @@ message_of (Goodbye reason) = Some (farewell 6 reason)
 message_of (Error of request reason) = Some (error of request reason)
 message_of (Published request n) = Some (triple 17 request n)
 message_of (Subscribed request n) = Some (triple 33 request n)
+message_of (Unsubscribed request) = Some (unsubscribed request)
 message_of (Event n p with_topic retained) = Some (event n p with_topic retained)
+message_of (Pong payload) = None

@@ -2,7 +2,7 @@ use crate::{
     Args, CarriedArgs, Fault, First, Item, Lists, Publication, Reason, Request, Said, Who,
     abort_uri, first, item_message, read_said,
 };
-use message_tree::{Content, Message, Shared, Text, Tree};
+use message_tree::{Content, Message, Octets, Shared, Text, Tree};
 use std::alloc::Global;
 use std::process::Abort;
 use std::test::Fail;
@@ -43,6 +43,14 @@ fn in_words(alloc: Global, said: Said) -> Result<String, Fail> {
             let topic = topic.as_str();
             let options = json(alloc, Tree::Dict(options.into_dict()))?;
             Ok(format!(in alloc; "subscribe {number} {options} {topic}")?)
+        }
+        Said::Unsubscribe {
+            request,
+            subscription,
+        } => {
+            let number = request.value();
+            let subscription = subscription.value();
+            Ok(format!(in alloc; "unsubscribe {number} {subscription}")?)
         }
     }
 }
@@ -221,6 +229,31 @@ fn reads_subscribe_and_nothing_else(rt: HostRuntime) -> Result<(), Fail> {
     reads(&rt, rt.alloc(), &rows)
 }
 
+#[test]
+fn reads_unsubscribe(rt: HostRuntime) -> Result<(), Fail> {
+    let rows = [
+        ("[34,1,2]", "unsubscribe 1 2"),
+        (
+            "[34,9007199254740992,9007199254740992]",
+            "unsubscribe 9007199254740992 9007199254740992",
+        ),
+        ("[34,9007199254740993,1]", SHAPE),
+        ("[34,1,9007199254740993]", SHAPE),
+        ("[34,0,1]", SHAPE),
+        ("[34,1,0]", SHAPE),
+        ("[34,1,-1]", SHAPE),
+        ("[34,1.0,1]", SHAPE),
+        (r#"[34,1,"1"]"#, SHAPE),
+        ("[34,1,null]", SHAPE),
+        ("[34,1,{},1]", SHAPE),
+        ("[34,1,1,{}]", SHAPE),
+        ("[34,1]", SHAPE),
+        ("[34]", SHAPE),
+        ("[35,1]", SHAPE),
+    ];
+    reads(&rt, rt.alloc(), &rows)
+}
+
 fn anonymous(alloc: Global, conn: u64, id: u64) -> Result<Who, Fail> {
     Ok(Who {
         conn: Conn::new(conn).ok_or("a connection number")?,
@@ -261,6 +294,21 @@ fn tells_replies(rt: HostRuntime) -> Result<(), Fail> {
         told(alloc, &published)?.as_str(),
         "[17,2,9007199254740992]"
     );
+    let unsubscribed = Item::Unsubscribed {
+        request: Id::new(9007199254740992)?,
+    };
+    assert_eq!(rt;
+        told(alloc, &unsubscribed)?.as_str(),
+        "[35,9007199254740992]"
+    );
+    Ok(())
+}
+
+#[test]
+fn tells_no_message_for_a_pong(rt: HostRuntime) -> Result<(), Fail> {
+    let alloc = rt.alloc();
+    let pong = Item::Pong(Octets::of(alloc, b"abcd".as_slice())?);
+    assert!(rt; item_message(alloc, &pong)?.is_none());
     Ok(())
 }
 
@@ -310,6 +358,14 @@ fn tells_reason(rt: &impl Abort, alloc: Global, reason: Reason, uri: &str) -> Re
     assert_eq!(rt; told(alloc, &item)?.as_str(), error.as_str());
     let kind = Request::Subscribe;
     let error = format!(in alloc; "[8,32,7,{{}},\"{uri}\"]")?;
+    let item = Item::Error {
+        kind,
+        request,
+        reason,
+    };
+    assert_eq!(rt; told(alloc, &item)?.as_str(), error.as_str());
+    let kind = Request::Unsubscribe;
+    let error = format!(in alloc; "[8,34,7,{{}},\"{uri}\"]")?;
     let item = Item::Error {
         kind,
         request,
@@ -435,9 +491,21 @@ fn faults_as_printed_and_told(rt: HostRuntime) -> Result<(), Fail> {
         (Fault::NoMemory, "E1 no memory", None),
         (Fault::TooDeep, "E4 TooDeep", violation),
         (Fault::Malformed, "E5 Malformed", violation),
+        (Fault::NotRawSocket, "E7 NotRawSocket", None),
+        (
+            Fault::SerializerUnsupported,
+            "E8 SerializerUnsupported",
+            None,
+        ),
+        (Fault::ReservedBits, "E9 ReservedBits", None),
         (Fault::FrameTooLong, "E11 FrameTooLong", violation),
         (Fault::FrameType, "E12 FrameType", violation),
         (Fault::Shape, "E13 Shape", violation),
+        (Fault::ReadFault, "E16 read fault", None),
+        (Fault::WriteFault, "E17 write fault", None),
+        (Fault::TooLongForClient, "E18 TooLongForClient", None),
+        (Fault::Ended, "E23 Ended", None),
+        (Fault::TooManyTurns, "E25 too many turns", None),
         (
             Fault::NoSuchRealm,
             "E24 NoSuchRealm",

@@ -1,4 +1,4 @@
-use Rattle.std.proofs.Common.{ℕ, List, ◌+◌, ◌<◌, ◌≤◌, ◌≡◌, false, length, length-take, take, ◌∙◌, arith}
+use Rattle.std.proofs.Common.{ℕ, List, ◌≤◌, ◌≡◌, false, length, length-take, take, arith}
 use Rattle.broker_server.proofs.Midst.{Midst-count, Midst-fed, Midst-start, Midst-stops, Midst-written, StopsAt-weaker}
 use Rattle.broker_server.proofs.replaying.tell_all.Goals as goal
 

@@ -1,0 +1,109 @@
+ghost use Rattle.std.specs.Prelude.{◌≡◌, true, [], is_some, IfOk, OnErr};
+ghost use Rattle.realm_core.specs.declared.entry.Entry.TheVariants as entries;
+ghost use Rattle.realm_core.specs.Live.{session_of};
+ghost use Rattle.realm_core.specs.Moves.{ended};
+ghost use Rattle.realm_core.specs.Turns.{Turns, may_turn};
+
+use crate::entry::Entry;
+use crate::fault::Fault;
+use crate::giving::{Given, one};
+use crate::joining::join;
+use crate::publishing::{self, publish};
+use crate::state::State;
+use crate::subscribing::{self, subscribe, unsubscribe};
+use session::{Item, Reason, Said};
+use std::alloc::Global;
+use wamp_ids::Conn;
+
+/// Ends the session of the connection.
+fn end(state: &mut State, conn: Conn)
+    ensures { state.new ≡ ended state.old conn }
+{
+    state.sessions.remove(conn);
+    state.index.drop_all(conn);
+}
+
+/// What an entry gives; what is kept after it.
+pub fn answer(alloc: Global, state: &mut State, entry: &Entry) -> Result<Given, Fault>
+    requires { may_turn state.old entry.now ≡ true }
+    ensures ok { IfOk result (λ given. Turns state.old entry.now state.new given.items) }
+    ensures unchanged { OnErr result (state.new ≡ state.old) }
+{
+    match entry {
+        Entry::Join { conn, word, authid } => join(alloc, state, *conn, *word, authid),
+        Entry::Said { conn, word, said } => answer_said(alloc, state, *conn, *word, said),
+        Entry::Ping { conn, payload } => one(alloc, *conn, Item::Pong(payload.try_copy(alloc)?)),
+        Entry::Spoilt(conn) => {
+            let given = one(alloc, *conn, Item::Abort(Reason::ProtocolViolation))?;
+            end(state, *conn);
+            Ok(given)
+        }
+        Entry::Gone(conn) => {
+            end(state, *conn);
+            Ok(Vec::new(alloc))
+        }
+    }
+}
+
+/// What a message of a live session gives.
+fn answer_said(
+    alloc: Global,
+    state: &mut State,
+    conn: Conn,
+    word: u64,
+    said: &Said,
+) -> Result<Given, Fault>
+    requires { is_some (session_of state.old.sessions conn) ≡ true }
+    ensures ok { IfOk result (λ given. Turns state.old (entries.Said conn word said.now) state.new given.items) }
+    ensures unchanged { OnErr result (state.new ≡ state.old) }
+{
+    match said {
+        Said::Hello { .. } => {
+            let given = one(alloc, conn, Item::Abort(Reason::ProtocolViolation))?;
+            end(state, conn);
+            Ok(given)
+        }
+        Said::Abort => {
+            end(state, conn);
+            Ok(Vec::new(alloc))
+        }
+        Said::Goodbye => {
+            let given = one(alloc, conn, Item::Goodbye(Reason::GoodbyeAndOut))?;
+            end(state, conn);
+            Ok(given)
+        }
+        Said::Publish {
+            request,
+            options,
+            topic,
+            args,
+        } => {
+            let asked = publishing::Asked {
+                conn,
+                word,
+                request: *request,
+                options,
+                topic,
+                args,
+            };
+            publish(alloc, state, &asked)
+        }
+        Said::Subscribe {
+            request,
+            options,
+            topic,
+        } => {
+            let asked = subscribing::Asked {
+                conn,
+                request: *request,
+                options,
+                topic,
+            };
+            subscribe(alloc, state, &asked)
+        }
+        Said::Unsubscribe {
+            request,
+            subscription,
+        } => unsubscribe(alloc, state, conn, *request, *subscription),
+    }
+}

@@ -1,0 +1,2 @@
+pub mod Retaining
+mod Putting

@@ -1,0 +1,11 @@
+use Rattle.std.proofs.Common.{◌∙◌}
+use Rattle.std.proofs.lemmas.List.{take_all}
+use Rattle.wamp_ids.specs.Pattern.{matches}
+use Rattle.retained.proofs.Retaining.{AreByTopic-filter}
+use Rattle.retained.proofs.store.Store.matching.Goals as goal
+
+pub returns-clause-order : goal.returns-clause-order
+returns-clause-order c =
+    let whole = take_all c.loop-publication.publication-index c.deref-publication-items.result.now c.loop-publication-test.false ∙ c.deref-publication-items.ensures.value in
+    rw (c.loop-publication.invariant, whole)
+    (AreByTopic-filter (λ p. matches c.args.pattern.now p.topic) c.self.inside.publications.items c.self.invariant)

@@ -1,0 +1,119 @@
+ghost use Rattle.std.specs.Prelude.{◌≡◌, ◌↔◌, [], true, false, Err, IfOk, IsOk, OnOk, OnErr, MatchResult};
+ghost use Rattle.std.specs.List.{filter};
+ghost use Rattle.wamp_ids.specs.Pattern.{matches};
+ghost use Rattle.retained.specs.Places.{GoesAt, IsAt};
+ghost use Rattle.retained.specs.Retained.{AreByTopic, has_room, has_topic, set_topic};
+
+use crate::fault::Fault;
+use message_tree::Shared;
+use session::Publication;
+use std::alloc::{AllocError, Global};
+use std::cmp::Ordering;
+use std::marker::Model;
+use wamp_ids::Pattern;
+
+/// How many topics may have a retained publication.
+const MOST_RETAINED: usize = 1000;
+
+/// The retained publications of a realm: of each topic at most one, and of at most 1,000 topics.
+/// Contracts see them in strictly ascending order of the topics' bytes.
+#[derive(Drop)]
+pub struct Store {
+    publications: Vec<Shared<Publication>>,
+}
+
+impl Model for Store {
+    ghost use Rattle.std.specs.Coded.{coded_list};
+    ghost use Rattle.std.specs.Prelude.{List};
+    ghost use Rattle.retained.specs.Retained.{AreByTopic};
+    ghost use Rattle.session.specs.contracts.item.Publication.{the_row};
+    ghost use Rattle.session.specs.declared.item.Publication.{Publication};
+
+    ghost Value = { List Publication };
+
+    ghost coded = { coded_list the_row.coded };
+
+    ghost view = { λ s. s.publications.items };
+
+    ghost invariant = { λ s. AreByTopic s.publications.items };
+}
+
+impl Store {
+    /// A store with nothing in it.
+    pub fn new(alloc: Global) -> Store
+        ensures { result ≡ [] }
+    {
+        Store {
+            publications: Vec::new(alloc),
+        }
+    }
+
+    /// Whether a publication of this topic may be kept: its topic has one already, or fewer than
+    /// 1,000 topics have.
+    pub fn has_room(&self, topic: &str) -> bool
+        ensures { result ≡ has_room self.now topic.now }
+    {
+        self.publications.len() < MOST_RETAINED || place_of(&self.publications, topic).is_ok()
+    }
+
+    /// Keeps a publication, in the place of what its topic had.
+    ///
+    /// # Errors
+    /// `RetainedFull` exactly where there is no room for the topic; `NoMemory` where a growth was
+    /// refused, which a topic that has one needs not. Nothing is changed then.
+    pub fn keep(&mut self, _alloc: Global, publication: Shared<Publication>) -> Result<(), Fault>
+        ensures kept { OnOk result (self.new ≡ set_topic publication self.old) }
+        ensures full { (result ≡ Err Fault.RetainedFull) ↔ (has_room self.old publication.topic ≡ false) }
+        ensures replaced { has_topic publication.topic self.old ≡ true → IsOk result }
+        ensures unchanged { OnErr result (self.new ≡ self.old) }
+    {
+        match place_of(&self.publications, publication.value().topic.text()) {
+            Ok(place) => {
+                self.publications[place] = publication;
+                Ok(())
+            }
+            Err(place) => {
+                if self.publications.len() >= MOST_RETAINED {
+                    return Err(Fault::RetainedFull);
+                }
+                self.publications.insert(place, publication)?;
+                Ok(())
+            }
+        }
+    }
+
+    /// Those whose topic the pattern matches, in strictly ascending order of the topics' bytes.
+    ///
+    /// # Errors
+    /// `AllocError` where a growth was refused.
+    pub fn matching(
+        &self,
+        alloc: Global,
+        pattern: &Pattern,
+    ) -> Result<Vec<Shared<Publication>>, AllocError>
+        ensures found { IfOk result (λ found. found.items ≡ filter (λ p. matches pattern.now p.topic) self.now) }
+        ensures order { IfOk result (λ found. AreByTopic found.items) }
+    {
+        let mut found = Vec::new(alloc);
+        for publication in &self.publications {
+            if pattern.matches(&publication.value().topic) {
+                found.push(publication.twin()?)?;
+            }
+        }
+        Ok(found)
+    }
+}
+
+/// Where the topic is among publications in order, or where it goes.
+fn place_of(publications: &[Shared<Publication>], topic: &str) -> Result<usize, usize>
+    ensures { MatchResult result (λ i. IsAt publications.now i topic.now) (λ i. GoesAt publications.now i topic.now) }
+{
+    for i in 0..publications.len() {
+        match topic.cmp(publications[i].value().topic.text()) {
+            Ordering::Less => return Err(i),
+            Ordering::Equal => return Ok(i),
+            Ordering::Greater => {}
+        }
+    }
+    Err(publications.len())
+}

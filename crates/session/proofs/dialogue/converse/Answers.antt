@@ -1,0 +1,93 @@
+use Rattle.std.proofs.Common.{◌≡◌, ◌<◌, ◌+◌, ◌⊎◌, false, inl, inr, ◌∙◌, List, ℕ, take, Ok, refl, sym, ap, subst, arith}
+use Rattle.session.specs.Opened.{AreUsedUp, Undecided, Refuses}
+use Rattle.session.specs.Walks.{verdict_of}
+use Rattle.session.proofs.Conversing.{Conversing, Conversing-start, Conversing-more, Conversing-answered, answers_end}
+use Rattle.session.proofs.Causes.{weaker, NeedsNoCause, Leads-needs_no_cause}
+use Rattle.session.proofs.dialogue.converse.Goals as goal
+
+pub pieces-init : goal.pieces-init
+pieces-init g c = record {
+  so_far = Conversing-start c.args.client.serializer c.args.client.limit c.args.realms.now (g.I.Source.given c.args.source.now) (g.O.Sink.taken c.args.sink.now) c.new-deframer.result c.new-deframer.ensures.empty c.new-deframer.ensures.reads;
+  reads = ap (λ t. g.I.Source.calls c.args.source.now + t) c.new-reading.ensures;
+  read_failures = omega arith;
+  writes = refl;
+  write_failures = omega arith;
+}
+
+pub read_piece-requires : goal.read_piece-requires
+read_piece-requires g c = omega (arith, c.pieces.auto.buffer, c.requires.room)
+
+pub returns-in-Err-clause-refused : goal.returns-in-Err-clause-refused
+returns-in-Err-clause-refused g c = λ decided.
+    Conversing-answered c.args.client.serializer c.args.client.limit c.args.realms.now (g.I.Source.given c.args.source.now) (g.I.Source.given c.read_piece.new.source) (g.O.Sink.taken c.args.sink.now) (g.O.Sink.taken c.pieces.sink)
+    c.pieces.deframer Undecided _
+    (subst (λ (x : List ℕ). Conversing c.args.client.serializer c.args.client.limit c.args.realms.now (g.I.Source.given c.args.source.now) x (g.O.Sink.taken c.args.sink.now) (g.O.Sink.taken c.pieces.sink) c.pieces.deframer Undecided)
+    (sym c.in-Err.ensures.kept) c.pieces.invariant.so_far)
+    (answers_end c.in-Err.fault (c.in-Err.ensures.fault decided))
+
+pub pieces-preserved : goal.pieces-preserved
+pieces-preserved g c =
+    let more = Conversing-more c.args.client.serializer c.args.client.limit c.args.realms.now (g.I.Source.given c.args.source.now) (g.I.Source.given c.pieces.source) (g.I.Source.given c.read_piece.new.source)
+    (g.O.Sink.taken c.args.sink.now) (g.O.Sink.taken c.pieces.sink) (g.O.Sink.taken c.go_on.new.sink) c.pieces.deframer c.go_on.new.deframer (take c.in-Ok.count c.read_piece.new.buffer) (verdict_of c.in-Ok-go_on.verdict)
+    c.in-Ok.ensures.given c.in-Ok-go_on.ensures.goes_on c.pieces.invariant.so_far in
+    record {
+      so_far = subst (λ v. Conversing c.args.client.serializer c.args.client.limit c.args.realms.now (g.I.Source.given c.args.source.now) (g.I.Source.given c.read_piece.new.source) (g.O.Sink.taken c.args.sink.now) (g.O.Sink.taken c.go_on.new.sink)
+          c.go_on.new.deframer (verdict_of v)) c.in-Undecided.is more;
+      reads = c.read_piece.ensures.calls ∙ c.pieces.invariant.reads;
+      read_failures = omega (arith, c.pieces.invariant.read_failures, c.read_piece.ensures.failures);
+      writes = c.go_on.ensures.calls ∙ c.pieces.invariant.writes;
+      write_failures = omega (arith, c.pieces.invariant.write_failures, c.go_on.ensures.failures);
+    }
+
+pub returns-in-Refuses-clause-refused : goal.returns-in-Refuses-clause-refused
+returns-in-Refuses-clause-refused g c = λ decided.
+    let more = Conversing-more c.args.client.serializer c.args.client.limit c.args.realms.now (g.I.Source.given c.args.source.now) (g.I.Source.given c.pieces.source) (g.I.Source.given c.read_piece.new.source)
+    (g.O.Sink.taken c.args.sink.now) (g.O.Sink.taken c.pieces.sink) (g.O.Sink.taken c.go_on.new.sink) c.pieces.deframer c.go_on.new.deframer (take c.in-Ok.count c.read_piece.new.buffer) (verdict_of c.in-Ok-go_on.verdict)
+    c.in-Ok.ensures.given c.in-Ok-go_on.ensures.goes_on c.pieces.invariant.so_far in
+    let refused = subst (λ v. Conversing c.args.client.serializer c.args.client.limit c.args.realms.now (g.I.Source.given c.args.source.now) (g.I.Source.given c.read_piece.new.source) (g.O.Sink.taken c.args.sink.now) (g.O.Sink.taken c.go_on.new.sink)
+    c.go_on.new.deframer (verdict_of v)) c.in-Refuses.is more in
+    Conversing-answered c.args.client.serializer c.args.client.limit c.args.realms.now (g.I.Source.given c.args.source.now) (g.I.Source.given c.read_piece.new.source) (g.O.Sink.taken c.args.sink.now) (g.O.Sink.taken c.go_on.new.sink)
+    c.go_on.new.deframer (Refuses c.in-Refuses.fault) _ refused refl
+
+pub returns-in-Opens-clause-opened : goal.returns-in-Opens-clause-opened
+returns-in-Opens-clause-opened g c =
+    let more = Conversing-more c.args.client.serializer c.args.client.limit c.args.realms.now (g.I.Source.given c.args.source.now) (g.I.Source.given c.pieces.source) (g.I.Source.given c.read_piece.new.source)
+    (g.O.Sink.taken c.args.sink.now) (g.O.Sink.taken c.pieces.sink) (g.O.Sink.taken c.go_on.new.sink) c.pieces.deframer c.go_on.new.deframer (take c.in-Ok.count c.read_piece.new.buffer) (verdict_of c.in-Ok-go_on.verdict)
+    c.in-Ok.ensures.given c.in-Ok-go_on.ensures.goes_on c.pieces.invariant.so_far in
+    let opens = subst (λ v. Conversing c.args.client.serializer c.args.client.limit c.args.realms.now (g.I.Source.given c.args.source.now) (g.I.Source.given c.read_piece.new.source) (g.O.Sink.taken c.args.sink.now) (g.O.Sink.taken c.go_on.new.sink)
+    c.go_on.new.deframer (verdict_of v)) c.in-Opens.is more in
+    Conversing-answered c.args.client.serializer c.args.client.limit c.args.realms.now (g.I.Source.given c.args.source.now) (g.I.Source.given c.read_piece.new.source) (g.O.Sink.taken c.args.sink.now) (g.O.Sink.taken c.go_on.new.sink)
+    c.go_on.new.deframer _ _ opens (ap Ok c.opened.ensures)
+
+pub returns-in-Err-clause-cause : goal.returns-in-Err-clause-cause
+returns-in-Err-clause-cause g c =
+    weaker c.in-Err.fault (g.I.Source.is_ended c.read_piece.new.source) (g.I.Source.is_ended c.read_piece.new.source) (g.I.Source.failures c.pieces.source < g.I.Source.failures c.read_piece.new.source)
+    (g.I.Source.failures c.args.source.now < g.I.Source.failures c.read_piece.new.source) ⊥ (g.O.Sink.failures c.args.sink.now < g.O.Sink.failures c.pieces.sink) (c.read_piece.new.turns ≡ 0)
+    (AreUsedUp (g.I.Source.calls c.args.source.now) (g.I.Source.calls c.read_piece.new.source) ⊎ (c.pieces.writing ≡ 0))
+    (λ e. e) (λ rose. omega (arith, rose, c.pieces.invariant.read_failures)) (λ never. absurd never) (λ zero. inl (omega (arith, zero, c.read_piece.ensures.calls, c.pieces.invariant.reads))) c.in-Err.ensures.cause
+
+pub returns-in-Err-go_on-clause-cause : goal.returns-in-Err-go_on-clause-cause
+returns-in-Err-go_on-clause-cause g c =
+    weaker c.in-Err-go_on.fault false (g.I.Source.is_ended c.read_piece.new.source) ⊥ (g.I.Source.failures c.args.source.now < g.I.Source.failures c.read_piece.new.source)
+    (g.O.Sink.failures c.pieces.sink < g.O.Sink.failures c.go_on.new.sink) (g.O.Sink.failures c.args.sink.now < g.O.Sink.failures c.go_on.new.sink) (c.go_on.new.turns ≡ 0)
+    (AreUsedUp (g.I.Source.calls c.args.source.now) (g.I.Source.calls c.read_piece.new.source) ⊎ (c.go_on.new.turns ≡ 0))
+    (λ e. absurd (cc)) (λ never. absurd never) (λ rose. omega (arith, rose, c.pieces.invariant.write_failures)) (λ zero. inr zero) c.in-Err-go_on.ensures.cause
+
+pub returns-in-Refuses-clause-cause : goal.returns-in-Refuses-clause-cause
+returns-in-Refuses-clause-cause g c =
+    let goes = c.in-Ok-go_on.ensures.goes_on in
+    let free = subst (λ v. NeedsNoCause (verdict_of v)) c.in-Refuses.is
+    (Leads-needs_no_cause c.args.client.serializer c.args.client.limit c.args.realms.now c.go_on.new.deframer goes.frames goes.out (verdict_of c.in-Ok-go_on.verdict) goes.leads) in
+    free _ _ _ _
+
+pub returns-in-Err-clause-calls : goal.returns-in-Err-clause-calls
+returns-in-Err-clause-calls g c = c.pieces.invariant.writes
+
+pub returns-in-Err-go_on-clause-calls : goal.returns-in-Err-go_on-clause-calls
+returns-in-Err-go_on-clause-calls g c = c.go_on.ensures.calls ∙ c.pieces.invariant.writes
+
+pub returns-in-Refuses-clause-calls : goal.returns-in-Refuses-clause-calls
+returns-in-Refuses-clause-calls g c = c.go_on.ensures.calls ∙ c.pieces.invariant.writes
+
+pub returns-in-Opens-clause-calls : goal.returns-in-Opens-clause-calls
+returns-in-Opens-clause-calls g c = c.go_on.ensures.calls ∙ c.pieces.invariant.writes

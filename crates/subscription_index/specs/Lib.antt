@@ -1,0 +1,4 @@
+pub mod Held
+pub mod Members
+pub mod Commands
+pub mod Laws
