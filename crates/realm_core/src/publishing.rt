@@ -19,7 +19,7 @@ use wamp_ids::{Conn, Id, Topic};
 
 /// A PUBLISH.
 #[derive(Drop)]
-pub struct Asked<'a> {
+pub struct AskedPublication<'a> {
     pub conn: Conn,
     pub word: u64,
     pub request: Id,
@@ -32,7 +32,7 @@ pub struct Asked<'a> {
 fn accepted(
     alloc: Global,
     store: &Store,
-    asked: &Asked<'_>,
+    asked: &AskedPublication<'_>,
 ) -> Result<Result<(Topic, Wishes), Reason>, Fault>
     ensures answer { IfOk result (λ accepted. (w : Who) → published_by (has_room store.now asked.now.topic.now) asked.now.word w asked.now.topic.now asked.now.args.now (wishes_of asked.now.options.now)
         ≡ made_with asked.now.word w asked.now.args.now accepted) }
@@ -77,7 +77,7 @@ fn carried_copy(alloc: Global, args: &Args) -> Result<CarriedArgs, Fault>
 fn publication(
     alloc: Global,
     publisher: &Who,
-    asked: &Asked<'_>,
+    asked: &AskedPublication<'_>,
     topic: Topic,
     wishes: Wishes,
 ) -> Result<Publication, Fault>
@@ -96,6 +96,7 @@ fn publication(
     })
 }
 
+/// Whether a PUBLISH asks for an answer; where its option has a wrong type, it doesn't.
 fn is_acknowledged(options: &Options) -> bool
     ensures { result ≡ is_some_true (acknowledge_of options.now) }
 {
@@ -106,7 +107,7 @@ fn is_acknowledged(options: &Options) -> bool
 }
 
 /// ERROR for a PUBLISH that is refused, where it asked for an answer.
-fn refused(alloc: Global, asked: &Asked<'_>, reason: Reason) -> Result<Given, Fault>
+fn refused(alloc: Global, asked: &AskedPublication<'_>, reason: Reason) -> Result<Given, Fault>
     ensures { IfOk result (λ given. given.items ≡ refused asked.now.conn asked.now.request (acknowledge_of asked.now.options.now) reason) }
 {
     if !is_acknowledged(asked.options) {
@@ -124,7 +125,7 @@ fn refused(alloc: Global, asked: &Asked<'_>, reason: Reason) -> Result<Given, Fa
 fn told(
     alloc: Global,
     state: &State,
-    asked: &Asked<'_>,
+    asked: &AskedPublication<'_>,
     made: &Shared<Publication>,
 ) -> Result<Given, Fault>
     ensures { IfOk result (λ given. given.items ≡ told state.now asked.now.conn asked.now.request (acknowledge_of asked.now.options.now) made.now) }
@@ -154,7 +155,7 @@ fn retain(alloc: Global, store: &mut Store, made: Shared<Publication>) -> Result
 }
 
 /// Answers a PUBLISH of a live session.
-pub fn publish(alloc: Global, state: &mut State, asked: &Asked<'_>) -> Result<Given, Fault>
+pub fn publish(alloc: Global, state: &mut State, asked: &AskedPublication<'_>) -> Result<Given, Fault>
     requires { is_some (session_of state.old.sessions asked.now.conn) ≡ true }
     ensures ok { IfOk result (λ given. (w : Who) → session_of state.old.sessions asked.now.conn ≡ Some w
         → IsPublished state.old asked.now.conn asked.now.request (acknowledge_of asked.now.options.now)

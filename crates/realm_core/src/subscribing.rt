@@ -21,7 +21,7 @@ use wamp_ids::{Conn, Id, Pattern, Policy};
 
 /// A SUBSCRIBE.
 #[derive(Drop)]
-pub struct Asked<'a> {
+pub struct AskedSubscription<'a> {
     pub conn: Conn,
     pub request: Id,
     pub options: &'a Options,
@@ -145,7 +145,7 @@ fn refusal(kind: Request, request: Id, reason: Reason) -> Item
 }
 
 /// Answers a SUBSCRIBE of a live session.
-pub fn subscribe(alloc: Global, state: &mut State, asked: &Asked<'_>) -> Result<Given, Fault>
+pub fn subscribe(alloc: Global, state: &mut State, asked: &AskedSubscription<'_>) -> Result<Given, Fault>
     requires { is_some (session_of state.old.sessions asked.now.conn) ≡ true }
     ensures ok { IfOk result (λ given. (w : Who) → session_of state.old.sessions asked.now.conn ≡ Some w
         → IsSubscribed state.old asked.now.conn asked.now.request (get_retained_of asked.now.options.now) w (pattern_of asked.now.options.now asked.now.topic.now) state.new given.items) }
@@ -169,7 +169,7 @@ pub fn subscribe(alloc: Global, state: &mut State, asked: &Asked<'_>) -> Result<
 fn hold(
     alloc: Global,
     state: &mut State,
-    asked: &Asked<'_>,
+    asked: &AskedSubscription<'_>,
     pattern: Pattern,
     retained: Vec<Shared<Publication>>,
 ) -> Result<Given, Fault>
