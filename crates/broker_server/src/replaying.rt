@@ -1,6 +1,7 @@
-ghost use Rattle.std.specs.Prelude.{◌≡◌, ◌≢◌, ◌++◌, ◌+◌, ◌<◌, ◌≤◌, ℕ, [], length, take, true, IfOk, OnOk};
+ghost use Rattle.std.specs.Prelude.{◌≡◌, ◌≢◌, ◌++◌, ◌+◌, ◌<◌, ◌≤◌, ◌⊎◌, ℕ, [], length, take, true, IfErr, IfOk, OnOk};
 ghost use Rattle.broker_server.specs.Grants.{bytes_of};
-ghost use Rattle.broker_server.specs.Replayed.{IsReplayed, StopsAt, IsFresh, FromRealm};
+ghost use Rattle.broker_server.specs.Replayed.{IsReplayed, StopsAt, IsFresh, FromRealm, HasCause};
+ghost use Rattle.session.specs.Opened.{AreUsedUp};
 
 use crate::config::Config;
 use crate::fault::Fault;
@@ -22,6 +23,9 @@ fn read_piece<I: Source>(
     ensures given { IfOk result (λ n. I.given source.new ≡ I.given source.old ++ take n buffer.new) }
     ensures end { IfOk result (λ n. n ≡ 0 → I.is_ended source.new ≡ true) }
     ensures turn { OnOk result (turns.old ≡ turns.new + 1) }
+    ensures calls { I.calls source.new + turns.new ≡ I.calls source.old + turns.old }
+    ensures failures { I.failures source.old ≤ I.failures source.new }
+    ensures cause { IfErr result (HasCause (I.failures source.old < I.failures source.new) ⊥ (turns.new ≡ 0)) }
     ensures fault { (k : ℕ) → result ≢ Err (Fault.BadLine k) }
 {
     match read_turn(source, buffer, turns) {
@@ -45,6 +49,9 @@ fn tell_all<I: Source, O: Sink>(
     ensures ended { OnOk result (I.is_ended source.new ≡ true) }
     ensures told { OnOk result (IsReplayed told.old.replay (I.given source.old) (I.given source.new) (O.taken sink.old) (O.taken sink.new) told.new.out) }
     ensures bad { (k : ℕ) → result ≡ Err (Fault.BadLine k) → StopsAt told.old.replay (I.given source.old) (I.given source.new) (I.is_ended source.new) (O.taken sink.old) (O.taken sink.new) told.new.out k }
+    ensures calls { O.calls sink.new + writing.new ≡ O.calls sink.old + writing.old }
+    ensures failures { O.failures sink.old ≤ O.failures sink.new }
+    ensures cause { IfErr result (HasCause (I.failures source.old < I.failures source.new) (O.failures sink.old < O.failures sink.new) ((AreUsedUp (I.calls source.old) (I.calls source.new)) ⊎ (writing.new ≡ 0))) }
 {
     let mut reading = Turns::new();
     'pieces: loop {
@@ -71,10 +78,14 @@ fn tell_all<I: Source, O: Sink>(
 fn write_rest<O: Sink>(told: &mut Told, sink: &mut O, writing: &mut Turns) -> Result<(), Fault>
     ensures written { OnOk result (O.taken sink.new ≡ O.taken sink.old ++ told.old.out) }
     ensures emptied { OnOk result (told.new ≡ record told.old { out = [] }) }
-    ensures device { result ≡ Err Fault.WriteFault → O.failures sink.old < O.failures sink.new }
+    ensures calls { O.calls sink.new + writing.new ≡ O.calls sink.old + writing.old }
+    ensures failures { O.failures sink.old ≤ O.failures sink.new }
+    ensures cause { IfErr result (HasCause ⊥ (O.failures sink.old < O.failures sink.new) (writing.new ≡ 0)) }
     ensures fault { (k : ℕ) → result ≢ Err (Fault.BadLine k) }
 {
-    told.write_out(sink, writing)?;
+    if let Err(fault) = told.write_out(sink, writing) {
+        return Err(fault);
+    }
     match sink.flush() {
         Ok(()) => Ok(()),
         Err(_) => Err(Fault::WriteFault),
@@ -85,7 +96,8 @@ fn write_rest<O: Sink>(told: &mut Told, sink: &mut O, writing: &mut Turns) -> Re
 ///
 /// # Errors
 /// `BadLine` with the number of the first bad line; the transcript of the lines before it is
-/// written then. `ReadFault`, `WriteFault`, `TooManyTurns` of the devices, and `NoMemory`.
+/// written then. `ReadFault`, `WriteFault`, `TooManyTurns` of the devices, and `NoMemory`; how much
+/// is written then isn't said.
 pub fn replay<I: Source, O: Sink>(
     alloc: Global,
     source: &mut I,
@@ -96,6 +108,7 @@ pub fn replay<I: Source, O: Sink>(
     ensures ended { OnOk result (I.is_ended source.new ≡ true) }
     ensures told { OnOk result (FromRealm config.now.realms.items (bytes_of config.now.grants.items) (λ start. IsReplayed start (I.given source.old) (I.given source.new) (O.taken sink.old) (O.taken sink.new) [])) }
     ensures bad { (k : ℕ) → result ≡ Err (Fault.BadLine k) → FromRealm config.now.realms.items (bytes_of config.now.grants.items) (λ start. StopsAt start (I.given source.old) (I.given source.new) (I.is_ended source.new) (O.taken sink.old) (O.taken sink.new) [] k) }
+    ensures cause { IfErr result (HasCause (I.failures source.old < I.failures source.new) (O.failures sink.old < O.failures sink.new) ((AreUsedUp (I.calls source.old) (I.calls source.new)) ⊎ (AreUsedUp (O.calls sink.old) (O.calls sink.new)))) }
 {
     let Ok(mut told) = Told::new(alloc, &config.realms[0], &config.grants) else {
         return Err(Fault::NoMemory);

@@ -1,5 +1,5 @@
 use crate::{Command, Config, Fault, read_command, read_grants, replay, report};
-use rawsocket::testing::OneByOne;
+use rawsocket::testing::{FailsAt, OneByOne};
 use rawsocket::{MemorySink, MemorySource};
 use std::alloc::Global;
 use std::test::Fail;
@@ -217,6 +217,78 @@ fn bad_lines(rt: HostRuntime) -> Result<(), Fail> {
     let (output, fault) = told(alloc, "256 gone")?;
     assert_eq!(rt; output.as_str(), "256 end\n");
     assert_eq!(rt; fault, None);
+    Ok(())
+}
+
+const GOERS: &str = "2 gone\n3 gone\n";
+
+const GOERS_GIVE: &str = "2 end\n3 end\n";
+
+/// What a replay writes where this read of one octet fails, and its fault.
+fn told_where_a_read_fails(alloc: Global, call: u64) -> Result<(String, Option<Fault>), Fail> {
+    let config = config(alloc, "")?;
+    let octets = GOERS.as_bytes().to_vec(alloc)?;
+    let mut source = FailsAt::new(OneByOne::new(MemorySource::new(octets)), call);
+    let mut sink = MemorySink::new(alloc);
+    if config.realms.is_empty() {
+        return Err("no realm".into());
+    }
+    let fault = replay(alloc, &mut source, &mut sink, &config).err();
+    let text = std::str::from_utf8(sink.octets()).map_err(|_| "no text")?;
+    Ok((String::from_str(alloc, text)?, fault))
+}
+
+/// What a replay writes where this write or flush fails, and its fault.
+fn told_where_a_write_fails(alloc: Global, call: u64) -> Result<(String, Option<Fault>), Fail> {
+    let config = config(alloc, "")?;
+    let mut source = MemorySource::new(GOERS.as_bytes().to_vec(alloc)?);
+    let mut sink = FailsAt::new(MemorySink::new(alloc), call);
+    if config.realms.is_empty() {
+        return Err("no realm".into());
+    }
+    let fault = replay(alloc, &mut source, &mut sink, &config).err();
+    let text = std::str::from_utf8(sink.device.octets()).map_err(|_| "no text")?;
+    Ok((String::from_str(alloc, text)?, fault))
+}
+
+#[test]
+fn a_read_that_fails(rt: HostRuntime) -> Result<(), Fail> {
+    let alloc = rt.alloc();
+    for (call, want, faulty) in [
+        (0, "", true),
+        (6, "", true),
+        (7, "2 end\n", true),
+        (13, "2 end\n", true),
+        (14, GOERS_GIVE, true),
+        (15, GOERS_GIVE, false),
+    ] {
+        let (output, fault) = told_where_a_read_fails(alloc, call)?;
+        assert_eq!(rt; output.as_str(), want);
+        assert!(rt; fault == if faulty { Some(Fault::ReadFault) } else { None });
+    }
+    Ok(())
+}
+
+#[test]
+fn a_write_that_fails(rt: HostRuntime) -> Result<(), Fail> {
+    let alloc = rt.alloc();
+    for (call, want, faulty) in [
+        (0, "", true),
+        (1, GOERS_GIVE, true),
+        (2, GOERS_GIVE, true),
+        (3, GOERS_GIVE, false),
+    ] {
+        let (output, fault) = told_where_a_write_fails(alloc, call)?;
+        assert_eq!(rt; output.as_str(), want);
+        assert!(rt;
+            fault
+                == if faulty {
+                    Some(Fault::WriteFault)
+                } else {
+                    None
+                }
+        );
+    }
     Ok(())
 }
 

@@ -1,7 +1,8 @@
-ghost use Rattle.std.specs.Prelude.{◌≡◌, ◌≢◌, ◌++◌, ◌+◌, ◌<◌, ◌^◌, ℕ, [], ◌∷◌, drop, length, take, false, true, IfErr, IfNone, IfOk, IfSome, OnOk};
+ghost use Rattle.std.specs.Prelude.{◌≡◌, ◌≢◌, ◌++◌, ◌+◌, ◌<◌, ◌≤◌, ◌^◌, ℕ, [], ◌∷◌, drop, length, take, false, true, IfErr, IfNone, IfOk, IfSome, OnOk};
 ghost use Rattle.broker_server.specs.Grants.{bytes_of};
 ghost use Rattle.broker_server.specs.Lines.{has_line_feed};
 ghost use Rattle.broker_server.specs.Reading.{Completes, Goes, IsRefused, Stops, TellsMore};
+ghost use Rattle.broker_server.specs.Replayed.{HasCause};
 ghost use Rattle.broker_server.specs.Transcript.{starting};
 
 use crate::fault::Fault;
@@ -54,6 +55,7 @@ impl Told {
         ensures rest { OnOk result (self.new.rest ≡ []) }
         ensures count { OnOk result (self.new.count ≡ self.old.count + 1) }
         ensures bad { (k : ℕ) → result ≡ Err (Fault.BadLine k) → IsRefused self.old k self.new }
+        ensures cause { IfErr result (HasCause ⊥ ⊥ ⊥) }
     {
         let Some(line) = read_line(&self.rest) else {
             return Err(Fault::BadLine(self.count + 1));
@@ -82,6 +84,7 @@ impl Told {
         ensures told { OnOk result (Goes self.old (octets.now ++ 10 ∷ []) self.new) }
         ensures count { OnOk result (self.new.count ≡ self.old.count + 1) }
         ensures bad { (k : ℕ) → result ≡ Err (Fault.BadLine k) → Stops self.old (octets.now ++ 10 ∷ []) false k self.new }
+        ensures cause { IfErr result (HasCause ⊥ ⊥ ⊥) }
     {
         self.hold(octets)?;
         self.end_line(alloc)?;
@@ -94,6 +97,7 @@ impl Told {
         requires clean { has_line_feed octets.now ≡ false }
         ensures told { OnOk result (Goes self.old octets.now self.new) }
         ensures bad { (k : ℕ) → result ≡ Err (Fault.BadLine k) → Stops self.old octets.now false k self.new }
+        ensures cause { IfErr result (HasCause ⊥ ⊥ ⊥) }
     {
         self.hold(octets)?;
         if self.rest.len() > LONGEST {
@@ -107,6 +111,7 @@ impl Told {
         requires { self.old.count + length piece.now + 1 < 2 ^ 64 }
         ensures told { OnOk result (Goes self.old piece.now self.new) }
         ensures bad { (k : ℕ) → result ≡ Err (Fault.BadLine k) → Stops self.old piece.now false k self.new }
+        ensures cause { IfErr result (HasCause ⊥ ⊥ ⊥) }
     {
         let mut left = piece;
         while let Some(at) = line_feed_in(left) {
@@ -123,6 +128,7 @@ impl Told {
         requires { self.old.count + 1 < 2 ^ 64 }
         ensures all { OnOk result (Completes self.old self.new) }
         ensures bad { (k : ℕ) → result ≡ Err (Fault.BadLine k) → Stops self.old [] true k self.new }
+        ensures cause { IfErr result (HasCause ⊥ ⊥ ⊥) }
     {
         if self.rest.is_empty() {
             return Ok(());
@@ -135,8 +141,9 @@ impl Told {
     pub fn write_out<O: Sink>(&mut self, sink: &mut O, turns: &mut Turns) -> Result<(), Fault>
         ensures written { OnOk result (O.taken sink.new ≡ O.taken sink.old ++ self.old.out) }
         ensures emptied { OnOk result (self.new ≡ record self.old { out = [] }) }
-        ensures fine { OnOk result (O.failures sink.new ≡ O.failures sink.old) }
-        ensures device { result ≡ Err Fault.WriteFault → O.failures sink.old < O.failures sink.new }
+        ensures calls { O.calls sink.new + turns.new ≡ O.calls sink.old + turns.old }
+        ensures failures { O.failures sink.old ≤ O.failures sink.new }
+        ensures cause { IfErr result (HasCause ⊥ (O.failures sink.old < O.failures sink.new) (turns.new ≡ 0)) }
         ensures fault { IfErr result (λ fault. fault ≢ Fault.WriteFault → fault ≡ Fault.TooManyTurns) }
     {
         match write_all(sink, &self.out, turns) {

@@ -1,6 +1,4 @@
-ghost use Rattle.std.specs.Prelude.{◌≡◌, ◌∷◌, ◌++◌, ◌⊎◌, IfOk, IfErr, OnOk, true, false, string_bytes};
-ghost use Rattle.base64.specs.Engines.{standard};
-ghost use Rattle.base64.specs.GeneralPurpose.{encode_of};
+ghost use Rattle.std.specs.Prelude.{◌≡◌, ◌++◌, ◌⊎◌, IfOk, IfErr, OnOk, true, false};
 ghost use Rattle.json.specs.Tree.{json_tokens, items_tokens, members_tokens};
 ghost use Rattle.serde_json.specs.Written.{outline, items_outline, members_outline};
 ghost use Rattle.message_tree.specs.Data.{is_carried, items_carried, entries_carried, fits_codecs, whole, bytes as bytes_data};

@@ -139,6 +139,8 @@ fn tells_what_is_carried(rt: HostRuntime) -> Result<(), Fail> {
 #[test]
 fn copies_are_equal(rt: HostRuntime) -> Result<(), Fail> {
     let alloc = rt.alloc();
+    let uncarried = Tree::List(vec![in alloc; Tree::Uncarried]?);
+    assert_eq!(rt; uncarried.try_copy(alloc)?, uncarried);
     let tree = sample(alloc)?;
     assert_eq!(rt; tree.try_copy(alloc)?, tree);
     let content = Content::of(tree);
@@ -147,13 +149,30 @@ fn copies_are_equal(rt: HostRuntime) -> Result<(), Fail> {
         return Err("a message was refused".into());
     };
     assert_eq!(rt; message.try_copy(alloc)?.into_tree(), *message.tree());
-    assert_eq!(rt; message.get("dict"), message.tree().get("dict"));
     let Tree::Dict(dict) = message.into_tree() else {
         return Err("no dictionary".into());
     };
     let options = Options::of(dict);
     assert_eq!(rt; options.try_copy(alloc)?.into_dict(), *options.dict());
-    assert_eq!(rt; options.get("list").map(Tree::depth), Some(1));
+    Ok(())
+}
+
+#[test]
+fn finds_values_by_their_keys(rt: HostRuntime) -> Result<(), Fail> {
+    let alloc = rt.alloc();
+    let tree = Tree::Dict(numbered(alloc)?);
+    assert_eq!(rt; tree.get("ä"), Some(&Tree::Whole(2)));
+    assert_eq!(rt; tree.get("c"), None);
+    assert_eq!(rt; Tree::Null.get("ä"), None);
+    let content = Content::of(tree);
+    assert_eq!(rt; content.get("b"), Some(&Tree::Whole(4)));
+    let Ok(message) = Message::of(content.into_tree()) else {
+        return Err("a message was refused".into());
+    };
+    assert_eq!(rt; message.get("a"), Some(&Tree::Whole(3)));
+    let options = Options::of(numbered(alloc)?);
+    assert_eq!(rt; options.get("ab"), Some(&Tree::Whole(5)));
+    assert_eq!(rt; options.get(""), None);
     Ok(())
 }
 
@@ -165,7 +184,8 @@ fn holds_texts_and_octets(rt: HostRuntime) -> Result<(), Fail> {
     assert_eq!(rt; held.into_string().as_str(), "grüße");
     let octets = Octets::of(alloc, &[0, 255])?;
     assert_eq!(rt; octets.try_copy(alloc)?.as_slice(), [0, 255].as_slice());
-    assert_eq!(rt; octets.into_vec().as_slice(), [0, 255].as_slice());
+    let moved = Octets::from_vec(octets.into_vec());
+    assert_eq!(rt; moved.into_vec().as_slice(), [0, 255].as_slice());
     let shared = Shared::new(alloc, Text::from_string(text(alloc, "a")?))?;
     let twin = shared.twin()?;
     drop(shared);

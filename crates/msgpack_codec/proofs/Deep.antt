@@ -13,60 +13,9 @@ use Rattle.msgpack_codec.specs.Form.{form_of, bits_of}
 use Rattle.msgpack_codec.specs.Reading.{◌>>=◌, Found, octets_at, number_at, size_at, sized_at, push_item, items_at, dict_at, leaf_at, nest_at, value_at}
 use Rattle.msgpack_codec.specs.Values.{signed_from, text_from, keep_entry, is_text}
 use Rattle.msgpack_codec.specs.Grammar.{AreSpelled, Spells, Opens, IsDeepInside, IsDeep}
+use Rattle.msgpack_codec.proofs.Failing.{bind_err, size_fails, leaf_deep}
 use Rattle.msgpack_codec.proofs.Found.{done, Front, size_found, value_found}
 use Rattle.msgpack_codec.proofs.Again.{then_ok, size_again, value_again}
-
--- a step that failed, or a later one
-pub bind_err : {A B : Type 0} (r : Result A Fault) (f : A → Result B Fault) (e : Fault) → (r >>= f) ≡ Err e → (r ≡ Err e) ⊎ ((x : A) × (r ≡ Ok x) × (f x ≡ Err e))
-bind_err (Ok x) f e h = inr (x, refl, h)
-bind_err (Err d) f e h = inl cc
-
-guard_deep : {A : Type 0} (b : Bool) (x : A) → cond b (Err Malformed) (Ok x) ≡ Err TooDeep → ⊥
-guard_deep true x h = cc
-guard_deep false x h = cc
-
-octets_deep : (n : ℕ) (octets : List ℕ) → octets_at n octets ≡ Err TooDeep → ⊥
-octets_deep n octets h = guard_deep (ltb (length octets) n) (take n octets, drop n octets) h
-
-number_deep : (w : Width) (octets : List ℕ) → number_at w octets ≡ Err TooDeep → ⊥
-number_deep w octets h = guard_deep (ltb (length octets) (byte_len (bits_of w))) (from_be_bytes (bits_of w) (take (byte_len (bits_of w)) octets), drop (byte_len (bits_of w)) octets) h
-
-size_deep : (size : Size) (octets : List ℕ) → size_at size octets ≡ Err TooDeep → ⊥
-unfolding size_at
-size_deep (Here n) octets h = cc
-size_deep (Next w) octets h = number_deep w octets h
-
-sized_deep : (size : Size) (octets : List ℕ) → sized_at size octets ≡ Err TooDeep → ⊥
-unfolding sized_at
-sized_deep size octets h =
-    elim (bind_err (size_at size octets) (λ n. octets_at n.0 n.1) TooDeep h) [ inl e ↦ size_deep size octets e | inr p ↦ octets_deep p.0.0 p.0.1 p.2 ]
-
-leaf_deep : (form : Form) (octets : List ℕ) → leaf_at form octets ≡ Err TooDeep → Opens form
-unfolding leaf_at
-leaf_deep forms.Null octets h = cc
-leaf_deep (forms.Flag b) octets h = cc
-leaf_deep (forms.Whole z) octets h = cc
-leaf_deep (forms.Unsigned w) octets h =
-    elim (bind_err (number_at w octets) (λ n. done {A = tree.Data × List ℕ} (tree.whole (pos n.0), n.1)) TooDeep h) [ inl e ↦ number_deep w octets e | inr p ↦ cc (p.2) ]
-leaf_deep (forms.Signed w) octets h =
-    elim (bind_err (number_at w octets) (λ n. done {A = tree.Data × List ℕ} (tree.whole (signed_from w n.0), n.1)) TooDeep h) [ inl e ↦ number_deep w octets e | inr p ↦ cc (p.2) ]
-leaf_deep (forms.Text size) octets h =
-    elim (bind_err (sized_at size octets) (λ s. done {A = tree.Data × List ℕ} (text_from s.0, s.1)) TooDeep h) [ inl e ↦ sized_deep size octets e | inr p ↦ cc (p.2) ]
-leaf_deep (forms.Bytes size) octets h =
-    elim (bind_err (sized_at size octets) (λ s. done {A = tree.Data × List ℕ} (tree.bytes s.0, s.1)) TooDeep h) [ inl e ↦ sized_deep size octets e | inr p ↦ cc (p.2) ]
-leaf_deep (forms.List size) octets h = tt
-leaf_deep (forms.Dict size) octets h = tt
-leaf_deep (forms.Foreign size) octets h =
-    elim (bind_err (size_at size octets) (λ n. octets_at 1 n.1 >>= λ k. octets_at n.0 k.1 >>= λ s. done {A = tree.Data × List ℕ} (tree.uncarried, s.1)) TooDeep h) [
-      | inl e ↦ size_deep size octets e
-      | inr p ↦ elim (bind_err (octets_at 1 p.0.1) (λ k. octets_at p.0.0 k.1 >>= λ s. done {A = tree.Data × List ℕ} (tree.uncarried, s.1)) TooDeep p.2) [
-        | inl e ↦ octets_deep 1 p.0.1 e
-        | inr q ↦ elim (bind_err (octets_at p.0.0 q.0.1) (λ s. done {A = tree.Data × List ℕ} (tree.uncarried, s.1)) TooDeep q.2) [ inl e ↦ octets_deep p.0.0 q.0.1 e | inr r ↦ cc (r.2) ]
-      ]
-    ]
-leaf_deep (forms.Float w) octets h =
-    elim (bind_err (number_at w octets) (λ n. done {A = tree.Data × List ℕ} (tree.uncarried, n.1)) TooDeep h) [ inl e ↦ number_deep w octets e | inr p ↦ cc (p.2) ]
-leaf_deep forms.Never octets h = cc
 
 -- ---- members
 
@@ -131,7 +80,7 @@ nest_deep p S D tells deep (forms.Text size) octets h = leaf_deep (forms.Text si
 nest_deep p S D tells deep (forms.Bytes size) octets h = leaf_deep (forms.Bytes size) octets h
 nest_deep p S D tells deep (forms.List size) octets h =
     elim (bind_err (size_at size octets) (λ n. items_at p n.0 tree.no_items n.1 >>= λ x. done {A = tree.Data × List ℕ} (tree.list x.0, x.1)) TooDeep h) [
-      | inl e ↦ absurd (size_deep size octets e)
+      | inl e ↦ absurd (cc (size_fails size octets TooDeep e))
       | inr q ↦ elim (bind_err (items_at p q.0.0 tree.no_items q.0.1) (λ x. done {A = tree.Data × List ℕ} (tree.list x.0, x.1)) TooDeep q.2) [
         | inl e ↦
             let head = size_found size octets q.0.0 q.0.1 q.1 in
@@ -142,7 +91,7 @@ nest_deep p S D tells deep (forms.List size) octets h =
     ]
 nest_deep p S D tells deep (forms.Dict size) octets h =
     elim (bind_err (size_at size octets) (λ n. dict_at p n.0 tree.no_entries true n.1) TooDeep h) [
-      | inl e ↦ absurd (size_deep size octets e)
+      | inl e ↦ absurd (cc (size_fails size octets TooDeep e))
       | inr q ↦
           let head = size_found size octets q.0.0 q.0.1 q.1 in
           let m = dict_deep p S D tells deep q.0.0 tree.no_entries true q.0.1 q.2 in

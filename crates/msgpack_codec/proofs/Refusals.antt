@@ -12,55 +12,8 @@ use Rattle.msgpack_codec.specs.declared.form.Width.{Width}
 use Rattle.msgpack_codec.specs.Form.{form_of, bits_of}
 use Rattle.msgpack_codec.specs.Reading.{◌>>=◌, Found, octets_at, number_at, size_at, sized_at, push_item, items_at, dict_at, leaf_at, nest_at, value_at, message_at, Fails}
 use Rattle.msgpack_codec.specs.Values.{signed_from, text_from, keep_entry, is_text}
+use Rattle.msgpack_codec.proofs.Failing.{bind_err, size_fails, leaf_carried}
 use Rattle.msgpack_codec.proofs.Found.{done}
-use Rattle.msgpack_codec.proofs.Deep.{bind_err}
-
-guard_carried : {A : Type 0} (b : Bool) (x : A) → cond b (Err Malformed) (Ok x) ≡ Err UncarriedLeaf → ⊥
-guard_carried true x h = cc
-guard_carried false x h = cc
-
-octets_carried : (n : ℕ) (octets : List ℕ) → octets_at n octets ≡ Err UncarriedLeaf → ⊥
-octets_carried n octets h = guard_carried (ltb (length octets) n) (take n octets, drop n octets) h
-
-number_carried : (w : Width) (octets : List ℕ) → number_at w octets ≡ Err UncarriedLeaf → ⊥
-number_carried w octets h = guard_carried (ltb (length octets) (byte_len (bits_of w))) (from_be_bytes (bits_of w) (take (byte_len (bits_of w)) octets), drop (byte_len (bits_of w)) octets) h
-
-size_carried : (size : Size) (octets : List ℕ) → size_at size octets ≡ Err UncarriedLeaf → ⊥
-unfolding size_at
-size_carried (Here n) octets h = cc
-size_carried (Next w) octets h = number_carried w octets h
-
-sized_carried : (size : Size) (octets : List ℕ) → sized_at size octets ≡ Err UncarriedLeaf → ⊥
-unfolding sized_at
-sized_carried size octets h =
-    elim (bind_err (size_at size octets) (λ n. octets_at n.0 n.1) UncarriedLeaf h) [ inl e ↦ size_carried size octets e | inr p ↦ octets_carried p.0.0 p.0.1 p.2 ]
-
-leaf_carried : (form : Form) (octets : List ℕ) → leaf_at form octets ≡ Err UncarriedLeaf → ⊥
-unfolding leaf_at
-leaf_carried forms.Null octets h = cc
-leaf_carried (forms.Flag b) octets h = cc
-leaf_carried (forms.Whole z) octets h = cc
-leaf_carried (forms.Unsigned w) octets h =
-    elim (bind_err (number_at w octets) (λ n. done {A = tree.Data × List ℕ} (tree.whole (pos n.0), n.1)) UncarriedLeaf h) [ inl e ↦ number_carried w octets e | inr p ↦ cc (p.2) ]
-leaf_carried (forms.Signed w) octets h =
-    elim (bind_err (number_at w octets) (λ n. done {A = tree.Data × List ℕ} (tree.whole (signed_from w n.0), n.1)) UncarriedLeaf h) [ inl e ↦ number_carried w octets e | inr p ↦ cc (p.2) ]
-leaf_carried (forms.Text size) octets h =
-    elim (bind_err (sized_at size octets) (λ s. done {A = tree.Data × List ℕ} (text_from s.0, s.1)) UncarriedLeaf h) [ inl e ↦ sized_carried size octets e | inr p ↦ cc (p.2) ]
-leaf_carried (forms.Bytes size) octets h =
-    elim (bind_err (sized_at size octets) (λ s. done {A = tree.Data × List ℕ} (tree.bytes s.0, s.1)) UncarriedLeaf h) [ inl e ↦ sized_carried size octets e | inr p ↦ cc (p.2) ]
-leaf_carried (forms.List size) octets h = cc
-leaf_carried (forms.Dict size) octets h = cc
-leaf_carried (forms.Foreign size) octets h =
-    elim (bind_err (size_at size octets) (λ n. octets_at 1 n.1 >>= λ k. octets_at n.0 k.1 >>= λ s. done {A = tree.Data × List ℕ} (tree.uncarried, s.1)) UncarriedLeaf h) [
-      | inl e ↦ size_carried size octets e
-      | inr p ↦ elim (bind_err (octets_at 1 p.0.1) (λ k. octets_at p.0.0 k.1 >>= λ s. done {A = tree.Data × List ℕ} (tree.uncarried, s.1)) UncarriedLeaf p.2) [
-        | inl e ↦ octets_carried 1 p.0.1 e
-        | inr q ↦ elim (bind_err (octets_at p.0.0 q.0.1) (λ s. done {A = tree.Data × List ℕ} (tree.uncarried, s.1)) UncarriedLeaf q.2) [ inl e ↦ octets_carried p.0.0 q.0.1 e | inr r ↦ cc (r.2) ]
-      ]
-    ]
-leaf_carried (forms.Float w) octets h =
-    elim (bind_err (number_at w octets) (λ n. done {A = tree.Data × List ℕ} (tree.uncarried, n.1)) UncarriedLeaf h) [ inl e ↦ number_carried w octets e | inr p ↦ cc (p.2) ]
-leaf_carried forms.Never octets h = cc
 
 items_carried : (p : List ℕ → Found tree.Data) (never : (octets : List ℕ) → p octets ≡ Err UncarriedLeaf → ⊥) (n : ℕ) (found : tree.Items) (octets : List ℕ) → items_at p n found octets ≡ Err UncarriedLeaf → ⊥
 unfolding items_at
@@ -91,14 +44,14 @@ nest_carried p never (forms.Text size) octets h = leaf_carried (forms.Text size)
 nest_carried p never (forms.Bytes size) octets h = leaf_carried (forms.Bytes size) octets h
 nest_carried p never (forms.List size) octets h =
     elim (bind_err (size_at size octets) (λ n. items_at p n.0 tree.no_items n.1 >>= λ x. done {A = tree.Data × List ℕ} (tree.list x.0, x.1)) UncarriedLeaf h) [
-      | inl e ↦ size_carried size octets e
+      | inl e ↦ cc (size_fails size octets UncarriedLeaf e)
       | inr q ↦ elim (bind_err (items_at p q.0.0 tree.no_items q.0.1) (λ x. done {A = tree.Data × List ℕ} (tree.list x.0, x.1)) UncarriedLeaf q.2) [
         | inl e ↦ items_carried p never q.0.0 tree.no_items q.0.1 e
         | inr r ↦ cc (r.2)
       ]
     ]
 nest_carried p never (forms.Dict size) octets h =
-    elim (bind_err (size_at size octets) (λ n. dict_at p n.0 tree.no_entries true n.1) UncarriedLeaf h) [ inl e ↦ size_carried size octets e | inr q ↦ dict_carried p never q.0.0 tree.no_entries true q.0.1 q.2 ]
+    elim (bind_err (size_at size octets) (λ n. dict_at p n.0 tree.no_entries true n.1) UncarriedLeaf h) [ inl e ↦ cc (size_fails size octets UncarriedLeaf e) | inr q ↦ dict_carried p never q.0.0 tree.no_entries true q.0.1 q.2 ]
 nest_carried p never (forms.Foreign size) octets h = leaf_carried (forms.Foreign size) octets h
 nest_carried p never (forms.Float w) octets h = leaf_carried (forms.Float w) octets h
 nest_carried p never forms.Never octets h = leaf_carried forms.Never octets h

@@ -6,7 +6,7 @@ use Rattle.std.specs.Int.{w16, w32, w64, to_be_bytes}
 use Rattle.std.specs.Ordering.{ordering_reverse}
 use Rattle.std.specs.Cmp.Lexicographic.{slice_cmp}
 use Rattle.std.proofs.lemmas.Cmp.{nat_list_cmp_total}
-use Rattle.std.proofs.lemmas.Bool.{cases_lt, lt-ltb, le-ltb, ltb-true}
+use Rattle.std.proofs.lemmas.Bool.{and_parts, cases_lt, lt-ltb, le-ltb, ltb-true}
 use Rattle.std.proofs.lemmas.Nat.{from_be_bytes-to_be_bytes_2, from_be_bytes-to_be_bytes_4, from_be_bytes-to_be_bytes_8}
 use Rattle.message_tree.specs.Data as tree
 use Rattle.message_tree.specs.View.{items_of}
@@ -21,7 +21,7 @@ use Rattle.msgpack_codec.specs.Values.{signed_from}
 use Rattle.msgpack_codec.specs.Short.{text_head, bytes_head, list_head, dict_head, from_zero, below_zero, short, items_short, entries_short, item_count, has_short, items_have_short, entries_have_short}
 use Rattle.msgpack_codec.specs.Grammar.{IsSize, IsLeaf, IsNest, AreSpelled, ArePairsSpelled, map_from, Spells}
 use Rattle.msgpack_codec.proofs.Texts.{text_from-utf8}
-use Rattle.msgpack_codec.proofs.Members.{left_of, right_of, middle_of, last_of}
+use Rattle.msgpack_codec.proofs.Members.{middle_of, last_of}
 
 -- ---- heads
 
@@ -315,16 +315,16 @@ mutual
   short_spells (tree.bytes b) room s c h le = bytes_spelled room b (ltb-true (length b) (2 ^ 32) h)
   short_spells (tree.list ds) zero s c h le = absurd (omega arith)
   short_spells (tree.list ds) (suc room) s c h le =
-      list_spelled room ds (ltb-true (item_count ds) (2 ^ 32) (left_of _ _ h)) (items_spell ds room s c (right_of _ _ h) (omega arith))
+      list_spelled room ds (ltb-true (item_count ds) (2 ^ 32) (and_parts _ _ h).0) (items_spell ds room s c (and_parts _ _ h).1 (omega arith))
   short_spells (tree.dict es) zero s c h le = absurd (omega arith)
   short_spells (tree.dict es) (suc room) s c h le =
-      dict_spelled room es s.1 (ltb-true (tree.entry_count es) (2 ^ 32) (left_of _ _ h)) (entries_spell es room s.0 c (right_of _ _ h) (omega arith))
+      dict_spelled room es s.1 (ltb-true (tree.entry_count es) (2 ^ 32) (and_parts _ _ h).0) (entries_spell es room s.0 c (and_parts _ _ h).1 (omega arith))
   short_spells tree.uncarried room s c h le = absurd (cc)
 
   pub items_spell : (ds : tree.Items) (room : ℕ) → tree.AreSound ds → tree.items_carried ds ≡ true → items_have_short ds ≡ true → tree.items_depth ds ≤ room → AreSpelled (Spells room) (items_short ds) (list_of ds)
   items_spell tree.no_items room s c h le = refl
   items_spell (tree.item d ds) room s c h le =
-      (short d, items_short ds, refl, short_spells d room s.0 (left_of _ _ c) (left_of _ _ h) (omega arith), items_spell ds room s.1 (right_of _ _ c) (right_of _ _ h) (omega arith))
+      (short d, items_short ds, refl, short_spells d room s.0 (and_parts _ _ c).0 (and_parts _ _ h).0 (omega arith), items_spell ds room s.1 (and_parts _ _ c).1 (and_parts _ _ h).1 (omega arith))
 
   pub entries_spell : (es : tree.Entries) (room : ℕ) → tree.HasSoundEntries es → tree.entries_carried es ≡ true → entries_have_short es ≡ true → tree.entries_depth es ≤ room → ArePairsSpelled (Spells room) (entries_short es) (pairs_of es)
   entries_spell tree.no_entries room s c h le = refl
@@ -333,7 +333,7 @@ mutual
     short d,
     entries_short es,
     sym (append_assoc (text_head (length k)) k (short d ++ entries_short es)),
-    text_spelled room k s.0 (ltb-true (length k) (2 ^ 32) (left_of _ _ h)),
-    short_spells d room s.1 (left_of _ _ c) (middle_of _ _ _ h) (omega arith),
-    entries_spell es room s.2 (right_of _ _ c) (last_of _ _ _ h) (omega arith),
+    text_spelled room k s.0 (ltb-true (length k) (2 ^ 32) (and_parts _ _ h).0),
+    short_spells d room s.1 (and_parts _ _ c).0 (middle_of _ _ _ h) (omega arith),
+    entries_spell es room s.2 (and_parts _ _ c).1 (last_of _ _ _ h) (omega arith),
   )

@@ -1,5 +1,5 @@
 //! Messages to octets.
-ghost use Rattle.std.specs.Prelude.{◌≡◌, ◌≤◌, ◌<◌, nat_lt, ◌^◌, ◌++◌, ◌⊎◌, ℕ, length, IfOk, IfErr, OnOk, true, false};
+ghost use Rattle.std.specs.Prelude.{◌≡◌, ◌<◌, nat_lt, ◌^◌, ◌++◌, ◌⊎◌, length, IfOk, IfErr, OnOk, true, false};
 ghost use Rattle.message_tree.specs.Data.{is_carried, items_carried, entries_carried, fits_codecs, entry_count};
 ghost use Rattle.message_tree.specs.View.{view, dict_view, items_view};
 ghost use Rattle.message_tree.specs.Meaning.{meaning};

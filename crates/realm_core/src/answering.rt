@@ -8,9 +8,9 @@ use crate::entry::Entry;
 use crate::fault::Fault;
 use crate::giving::{Given, one};
 use crate::joining::join;
-use crate::publishing::{self, publish};
+use crate::publishing::{AskedPublication, publish};
 use crate::state::State;
-use crate::subscribing::{self, subscribe, unsubscribe};
+use crate::subscribing::{AskedSubscription, subscribe, unsubscribe};
 use session::{Item, Reason, Said};
 use std::alloc::Global;
 use wamp_ids::Conn;
@@ -78,7 +78,7 @@ fn answer_said(
             topic,
             args,
         } => {
-            let asked = publishing::Asked {
+            let asked = AskedPublication {
                 conn,
                 word,
                 request: *request,
@@ -93,7 +93,7 @@ fn answer_said(
             options,
             topic,
         } => {
-            let asked = subscribing::Asked {
+            let asked = AskedSubscription {
                 conn,
                 request: *request,
                 options,

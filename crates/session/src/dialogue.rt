@@ -1,9 +1,10 @@
 //! The octets that are exchanged with a client up to its HELLO.
 ghost use Rattle.std.specs.Prelude.{◌≡◌, ◌≤◌, ◌<◌, ◌+◌, ◌++◌, ◌⊎◌, Ok, Err, true, false, length, take, option_map, string_bytes, IfOk, IfErr, OnOk, OnErr};
+ghost use Rattle.rawsocket.specs.Devices.{GrowsByBeginning};
 ghost use Rattle.rawsocket.specs.Frames.{contents};
 ghost use Rattle.rawsocket.specs.Handshakes.{answered, reply_of};
-ghost use Rattle.session.specs.Opened.{AreUsedUp, HasCause, OpensSince, is_decided, or_nothing, session};
-ghost use Rattle.session.specs.Walks.{ConversesSince, EndsWithin, GoesOn, verdict_of};
+ghost use Rattle.session.specs.Opened.{AreUsedUp, AreWithinTurns, BeginsOpening, HasCause, OpensSince, is_decided, or_nothing, session};
+ghost use Rattle.session.specs.Walks.{BeginsConversing, ConversesSince, EndsWithin, Extends, GoesOn, GoesOnPartly, verdict_of};
 
 use crate::asked::First;
 use crate::fault::Fault;
@@ -26,6 +27,7 @@ fn read_piece<I: Source>(
     ensures within { IfOk result (λ n. n ≤ length buffer.new) }
     ensures given { IfOk result (λ n. I.given source.new ≡ I.given source.old ++ take n buffer.new) }
     ensures turn { OnOk result (turns.old ≡ turns.new + 1) }
+    ensures fine { OnOk result (I.failures source.new ≡ I.failures source.old) }
     ensures kept { OnErr result (I.given source.new ≡ I.given source.old) }
     ensures fault { IfErr result (λ f. is_decided f ≡ true → (f ≡ Fault.Ended) ⊎ (f ≡ Fault.ReadFault)) }
     ensures calls { I.calls source.new + turns.new ≡ I.calls source.old + turns.old }
@@ -43,6 +45,8 @@ fn read_piece<I: Source>(
 /// Writes octets, and passes them on.
 fn send<O: Sink>(sink: &mut O, octets: &[u8], turns: &mut Turns) -> Result<(), Fault>
     ensures written { OnOk result (O.taken sink.new ≡ O.taken sink.old ++ octets.now) }
+    ensures fine { OnOk result (O.failures sink.new ≡ O.failures sink.old) }
+    ensures begun { GrowsByBeginning (O.taken sink.old) (O.taken sink.new) octets.now }
     ensures fault { IfErr result (λ f. is_decided f ≡ false) }
     ensures calls { O.calls sink.new + turns.new ≡ O.calls sink.old + turns.old }
     ensures failures { O.failures sink.old ≤ O.failures sink.new }
@@ -60,20 +64,25 @@ fn send<O: Sink>(sink: &mut O, octets: &[u8], turns: &mut Turns) -> Result<(), F
 }
 
 /// Reads the four octets of a handshake, and no more.
-fn read_handshake<I: Source>(alloc: Global, source: &mut I) -> Result<Vec<u8>, Fault>
+fn read_handshake<I: Source>(
+    alloc: Global,
+    source: &mut I,
+    turns: &mut Turns,
+) -> Result<Vec<u8>, Fault>
     ensures read { IfOk result (λ h. I.given source.new ≡ I.given source.old ++ h.items) }
     ensures four { IfOk result (λ h. length h.items ≡ 4) }
+    ensures fine { OnOk result (I.failures source.new ≡ I.failures source.old) }
     ensures short { IfErr result (λ f. is_decided f ≡ true → EndsWithin 4 (I.given source.old) (I.given source.new) f) }
-    ensures calls { OnOk result (I.calls source.old ≤ I.calls source.new) }
+    ensures part { OnErr result (Extends (I.given source.old) (I.given source.new)) }
+    ensures calls { I.calls source.new + turns.new ≡ I.calls source.old + turns.old }
     ensures failures { I.failures source.old ≤ I.failures source.new }
-    ensures cause { IfErr result (HasCause (I.is_ended source.new) (I.failures source.old < I.failures source.new) ⊥ (AreUsedUp (I.calls source.old) (I.calls source.new))) }
+    ensures cause { IfErr result (HasCause (I.is_ended source.new) (I.failures source.old < I.failures source.new) ⊥ (turns.new ≡ 0)) }
 {
-    let mut turns = Turns::new();
     let mut octets = Vec::new(alloc);
     let mut piece = [0u8; 4];
     'octets: while octets.len() < 4 {
         let missing = 4 - octets.len();
-        let count = match read_piece(source, &mut piece[..missing], &mut turns) {
+        let count = match read_piece(source, &mut piece[..missing], turns) {
             Ok(count) => count,
             Err(fault) => return Err(fault),
         };
@@ -95,6 +104,8 @@ fn judge_handshake(octets: &[u8]) -> Handshake
 /// Replies to a handshake, if it is replied to.
 fn send_reply<O: Sink>(sink: &mut O, handshake: &Handshake, turns: &mut Turns) -> Result<(), Fault>
     ensures written { OnOk result (O.taken sink.new ≡ O.taken sink.old ++ or_nothing (reply_of handshake.now)) }
+    ensures fine { OnOk result (O.failures sink.new ≡ O.failures sink.old) }
+    ensures begun { GrowsByBeginning (O.taken sink.old) (O.taken sink.new) (or_nothing (reply_of handshake.now)) }
     ensures fault { IfErr result (λ f. is_decided f ≡ false) }
     ensures calls { O.calls sink.new + turns.new ≡ O.calls sink.old + turns.old }
     ensures failures { O.failures sink.old ≤ O.failures sink.new }
@@ -119,6 +130,8 @@ fn go_on<O: Sink>(
 ) -> Result<Verdict, Fault>
     requires { client.limit ≤ 16777215 }
     ensures goes_on { IfOk result (λ v. GoesOn client.serializer client.limit realms.now deframer.old piece.now deframer.new (O.taken sink.old) (O.taken sink.new) (verdict_of v)) }
+    ensures fine { OnOk result (O.failures sink.new ≡ O.failures sink.old) }
+    ensures begun { OnErr result ((O.taken sink.new ≡ O.taken sink.old) ⊎ GoesOnPartly client.serializer client.limit realms.now deframer.old piece.now (O.taken sink.old) (O.taken sink.new)) }
     ensures fault { IfErr result (λ f. is_decided f ≡ false) }
     ensures calls { O.calls sink.new + turns.new ≡ O.calls sink.old + turns.old }
     ensures failures { O.failures sink.old ≤ O.failures sink.new }
@@ -162,19 +175,22 @@ fn converse<I: Source, O: Sink>(
     sink: &mut O,
     realms: &[Topic],
     buffer: &mut [u8],
+    reading: &mut Turns,
     writing: &mut Turns,
 ) -> Result<Opened, Fault>
     requires fits { client.limit ≤ 16777215 }
     requires room { 0 < length buffer.old }
     ensures opened { IfOk result (λ o. ConversesSince client.serializer client.limit realms.now (I.given source.old) (I.given source.new) (O.taken sink.old) (O.taken sink.new) (Ok (session o))) }
     ensures refused { IfErr result (λ f. is_decided f ≡ true → ConversesSince client.serializer client.limit realms.now (I.given source.old) (I.given source.new) (O.taken sink.old) (O.taken sink.new) (Err f)) }
+    ensures begun { OnErr result (BeginsConversing client.serializer client.limit realms.now (I.given source.old) (I.given source.new) (O.taken sink.old) (O.taken sink.new)) }
+    ensures fine { OnOk result ((I.failures source.new ≡ I.failures source.old) × (O.failures sink.new ≡ O.failures sink.old)) }
+    ensures reads { I.calls source.new + reading.new ≡ I.calls source.old + reading.old }
     ensures calls { O.calls sink.new + writing.new ≡ O.calls sink.old + writing.old }
-    ensures cause { IfErr result (HasCause (I.is_ended source.new) (I.failures source.old < I.failures source.new) (O.failures sink.old < O.failures sink.new) ((AreUsedUp (I.calls source.old) (I.calls source.new)) ⊎ (writing.new ≡ 0))) }
+    ensures cause { IfErr result (HasCause (I.is_ended source.new) (I.failures source.old < I.failures source.new) (O.failures sink.old < O.failures sink.new) ((reading.new ≡ 0) ⊎ (writing.new ≡ 0))) }
 {
-    let mut reading = Turns::new();
     let mut deframer = Deframer::new(alloc);
     'pieces: loop {
-        let count = match read_piece(source, buffer, &mut reading) {
+        let count = match read_piece(source, buffer, reading) {
             Ok(count) => count,
             Err(fault) => return Err(fault),
         };
@@ -206,7 +222,7 @@ fn converse<I: Source, O: Sink>(
 /// - [`Fault::TooLongForClient`]: a PONG has more octets than the client takes, and isn't written.
 /// - [`Fault::Ended`], [`Fault::ReadFault`]: the stream ended or failed before that was decided.
 /// - [`Fault::WriteFault`], [`Fault::TooManyTurns`], [`Fault::NoMemory`], also in place of a fault
-///   whose answer could not be written.
+///   whose answer could not be written; what was written is a beginning of what is due.
 pub fn open_session<I: Source, O: Sink>(
     alloc: Global,
     source: &mut I,
@@ -216,10 +232,15 @@ pub fn open_session<I: Source, O: Sink>(
     ensures opened { IfOk result (λ o. OpensSince realms.now (I.given source.old) (I.given source.new) (O.taken sink.old) (O.taken sink.new) (Ok (session o))) }
     ensures in_list { IfOk result (λ o. o.realm < length realms.now) }
     ensures refused { IfErr result (λ f. is_decided f ≡ true → OpensSince realms.now (I.given source.old) (I.given source.new) (O.taken sink.old) (O.taken sink.new) (Err f)) }
+    ensures begun { OnErr result (BeginsOpening realms.now (I.given source.old) (I.given source.new) (O.taken sink.old) (O.taken sink.new)) }
+    ensures fine { OnOk result ((I.failures source.new ≡ I.failures source.old) × (O.failures sink.new ≡ O.failures sink.old)) }
+    ensures reads { AreWithinTurns (I.calls source.old) (I.calls source.new) }
+    ensures writes { AreWithinTurns (O.calls sink.old) (O.calls sink.new) }
     ensures cause { IfErr result (HasCause (I.is_ended source.new) (I.failures source.old < I.failures source.new) (O.failures sink.old < O.failures sink.new) ((AreUsedUp (I.calls source.old) (I.calls source.new)) ⊎ (AreUsedUp (O.calls sink.old) (O.calls sink.new)))) }
 {
+    let mut reading = Turns::new();
     let mut writing = Turns::new();
-    let octets = match read_handshake(alloc, source) {
+    let octets = match read_handshake(alloc, source, &mut reading) {
         Ok(octets) => octets,
         Err(fault) => return Err(fault),
     };
@@ -240,6 +261,7 @@ pub fn open_session<I: Source, O: Sink>(
                 sink,
                 realms,
                 &mut buffer,
+                &mut reading,
                 &mut writing,
             )
         }

@@ -19,6 +19,8 @@ mod said;
 mod serializing;
 mod telling;
 #[cfg(test)]
+mod telling_tests;
+#[cfg(test)]
 mod tests;
 mod verdict;
 

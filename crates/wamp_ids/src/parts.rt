@@ -1,6 +1,6 @@
 // The components of a text, read from its bytes: the dot is one byte of UTF-8, and part of no other
 // character.
-ghost use Rattle.std.specs.Prelude.{◌≡◌, ℕ, ◌<◌, ◌+◌, ◌^◌, take, drop, length, MatchOption, ◌||◌, ◌∷◌, []};
+ghost use Rattle.std.specs.Prelude.{◌≡◌, ◌<◌, ◌+◌, ◌^◌, take, drop, length, MatchOption, ◌||◌, ◌∷◌, []};
 ghost use Rattle.std.specs.Str.{bytes_eq};
 ghost use Rattle.wamp_ids.specs.Uri.{components, is_empty, first_is};
 ghost use Rattle.wamp_ids.specs.Pattern.{fits};

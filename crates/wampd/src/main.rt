@@ -1,7 +1,8 @@
 //! `wampd`: a publish-subscribe broker for WAMP.
 #![tactic(auto)]
 
-ghost use Rattle.std.specs.Prelude.{◌≡◌, ◌++◌, OnOk};
+ghost use Rattle.std.specs.Prelude.{◌≡◌, ◌++◌, IfErr, OnOk};
+ghost use Rattle.broker_server.specs.Commands.{status_of};
 
 use broker_server::{Command, Fault, read_command, replay, report};
 use rawsocket::{ReadSource, Sink, Turns, WriteSink, write_all};
@@ -9,12 +10,19 @@ use std::env;
 use std::process::ExitCode;
 
 fn main(rt: HostRuntime) -> ExitCode {
-    match run(&rt) {
-        Ok(()) => ExitCode::SUCCESS,
-        Err(fault) => {
-            let mut errors = WriteSink::new(rt.stderr());
-            ExitCode::from(report(&fault, &mut errors))
-        }
+    let ran = run(&rt);
+    let mut errors = WriteSink::new(rt.stderr());
+    ExitCode::from(status_after(ran, &mut errors))
+}
+
+/// Reports the fault, if there is one, and gives the exit status.
+fn status_after<S: Sink>(ran: Result<(), Fault>, errors: &mut S) -> u8
+    ensures fine { OnOk ran (result ≡ 0) }
+    ensures fault { IfErr ran (λ fault. result ≡ status_of fault) }
+{
+    match ran {
+        Ok(()) => 0,
+        Err(fault) => report(&fault, errors),
     }
 }
 
@@ -41,6 +49,7 @@ fn run(rt: &HostRuntime) -> Result<(), Fault> {
 /// Prints a text, given as its octets, whole.
 fn print<S: Sink>(output: &mut S, text: &[u8]) -> Result<(), Fault>
     ensures written { OnOk result (S.taken output.new ≡ S.taken output.old ++ text.now) }
+    ensures fine { OnOk result (S.failures output.new ≡ S.failures output.old) }
 {
     let mut turns = Turns::new();
     if write_all(output, text, &mut turns).is_err() || output.flush().is_err() {
