@@ -59,20 +59,16 @@ fn realms(alloc: Global, names: &[&str]) -> Result<Vec<Topic>, Fail> {
     Ok(realms)
 }
 
-/// The answer to these octets, and what was written.
+/// Opens a session in one of these realms for these octets.
 fn opened(
     alloc: Global,
     names: &[&str],
-    octets: &[u8],
-) -> Result<(Result<Opened, Fault>, Vec<u8>), Fail> {
+    octets: Vec<u8>,
+    sink: &mut MemorySink,
+) -> Result<Result<Opened, Fault>, Fail> {
     let realms = realms(alloc, names)?;
-    let mut source = MemorySource::new(octets.to_vec(alloc)?);
-    let mut sink = MemorySink::new(alloc);
-    let answer = open_session(alloc, &mut source, &mut sink, realms.as_slice());
-    match answer {
-        Err(Fault::NoMemory) | Err(Fault::WriteFault) => Err(Fail::new("no memory")),
-        answer => Ok((answer, sink.octets().to_vec(alloc)?)),
-    }
+    let mut source = MemorySource::new(octets);
+    Ok(open_session(alloc, &mut source, sink, realms.as_slice()))
 }
 
 /// That these octets are refused, for realm `r.one`, and what is written for them.
@@ -83,14 +79,15 @@ fn refuses(
     fault: Fault,
     written: &[&[u8]],
 ) -> Result<(), Fail> {
-    let octets = joined(alloc, octets)?;
-    let (answer, wrote) = opened(alloc, &["r.one"], &octets)?;
+    let mut sink = MemorySink::new(alloc);
+    let answer = opened(alloc, &["r.one"], joined(alloc, octets)?, &mut sink)?;
     let answered = answer.err().ok_or("a session")?;
+    if matches!(answered, Fault::NoMemory | Fault::WriteFault) {
+        return Err("no memory".into());
+    }
     assert_eq!(rt; answered, fault);
-    assert!(rt;
-        wrote.as_slice() == joined(alloc, written)?.as_slice(),
-        "{fault}: {wrote:?}"
-    );
+    let written = joined(alloc, written)?;
+    assert!(rt; sink.octets() == written.as_slice(), "{fault}");
     Ok(())
 }
 
@@ -102,15 +99,16 @@ fn is_frame(frame: &Frame, kind: Kind, payload: &[u8]) -> bool {
 fn opens_after_a_ping(rt: HostRuntime) -> Result<(), Fail> {
     let alloc = rt.alloc();
     let octets = joined(alloc, &[MSGPACK, PING, HELLO])?;
-    let (answer, written) = opened(alloc, &["r.one"], &octets)?;
-    let session = answer?;
+    let mut sink = MemorySink::new(alloc);
+    let session = opened(alloc, &["r.one"], octets, &mut sink)??;
     assert!(rt; session.serializer == Serializer::MsgPack);
     assert_eq!(rt; session.limit, 16_777_215);
     assert_eq!(rt; session.realm, 0);
     assert!(rt; session.authid.is_none());
     assert!(rt; session.early.is_empty());
     assert!(rt; session.deframer.fault().is_none());
-    assert!(rt; written.as_slice() == joined(alloc, &[MSGPACK_REPLY, PONG])?.as_slice());
+    let written = joined(alloc, &[MSGPACK_REPLY, PONG])?;
+    assert!(rt; sink.octets() == written.as_slice());
     Ok(())
 }
 
@@ -119,13 +117,13 @@ fn opens_in_json_after_a_pong(rt: HostRuntime) -> Result<(), Fail> {
     let alloc = rt.alloc();
     let hello = b"[1,\"r.two\",{\"authid\":\"bob\"}]".as_slice();
     let octets = joined(alloc, &[JSON, PONG, &[0, 0, 0, 28], hello])?;
-    let (answer, written) = opened(alloc, &["r.one", "r.two", "r.two"], &octets)?;
-    let session = answer?;
+    let mut sink = MemorySink::new(alloc);
+    let session = opened(alloc, &["r.one", "r.two", "r.two"], octets, &mut sink)??;
     assert!(rt; session.serializer == Serializer::Json);
     assert_eq!(rt; session.limit, 512);
     assert_eq!(rt; session.realm, 1);
     assert!(rt; session.authid.ok_or("no authid")?.as_str() == "bob");
-    assert!(rt; written.as_slice() == JSON_REPLY);
+    assert!(rt; sink.octets() == JSON_REPLY);
     Ok(())
 }
 
@@ -278,9 +276,9 @@ fn one_octet_at_a_time(rt: HostRuntime) -> Result<(), Fail> {
 fn keeps_what_stands_behind_hello(rt: HostRuntime) -> Result<(), Fail> {
     let alloc = rt.alloc();
     let octets = joined(alloc, &[MSGPACK, HELLO, PUBLISH, PING, &HELLO_TWO[..6]])?;
-    let (answer, written) = opened(alloc, &["r.one"], &octets)?;
-    let mut session = answer?;
-    assert!(rt; written.as_slice() == MSGPACK_REPLY);
+    let mut sink = MemorySink::new(alloc);
+    let mut session = opened(alloc, &["r.one"], octets, &mut sink)??;
+    assert!(rt; sink.octets() == MSGPACK_REPLY);
     assert_eq!(rt; session.early.len(), 2);
     assert!(rt; is_frame(&session.early[0], Kind::Message, &PUBLISH[4..]));
     assert!(rt; is_frame(&session.early[1], Kind::Ping, &PING[4..]));
@@ -294,8 +292,8 @@ fn keeps_what_stands_behind_hello(rt: HostRuntime) -> Result<(), Fail> {
 fn keeps_a_fault_behind_hello(rt: HostRuntime) -> Result<(), Fail> {
     let alloc = rt.alloc();
     let octets = joined(alloc, &[MSGPACK, HELLO, PING, &[8, 0, 0, 0]])?;
-    let (answer, _) = opened(alloc, &["r.one"], &octets)?;
-    let session = answer?;
+    let mut sink = MemorySink::new(alloc);
+    let session = opened(alloc, &["r.one"], octets, &mut sink)??;
     assert_eq!(rt; session.early.len(), 1);
     assert!(rt; session.deframer.fault() == Some(rawsocket::Fault::FrameType));
     Ok(())
@@ -316,29 +314,42 @@ fn the_longest_hello(rt: HostRuntime) -> Result<(), Fail> {
     let alloc = rt.alloc();
     let hello = long_hello(alloc, 1_048_576)?;
     let octets = joined(alloc, &[JSON, &[0, 0x10, 0, 0], &hello])?;
-    let (answer, written) = opened(alloc, &["r.one"], &octets)?;
-    assert_eq!(rt; answer?.realm, 0);
-    assert!(rt; written.as_slice() == JSON_REPLY);
+    let mut sink = MemorySink::new(alloc);
+    let session = opened(alloc, &["r.one"], octets, &mut sink)??;
+    assert_eq!(rt; session.realm, 0);
+    assert!(rt; sink.octets() == JSON_REPLY);
     let hello = long_hello(alloc, 1_048_577)?;
     let octets: &[&[u8]] = &[JSON, &[0, 0x10, 0, 1], &hello];
     let written = [JSON_REPLY, JSON_VIOLATION, JSON_VIOLATION_TEXT];
     refuses(&rt, alloc, octets, Fault::FrameTooLong, &written)
 }
 
+/// A handshake, a PING, and what is no HELLO.
+fn refused_after_a_ping(alloc: Global) -> Result<MemorySource, Fail> {
+    let octets = joined(alloc, &[MSGPACK, PING, PUBLISH])?;
+    Ok(MemorySource::new(octets))
+}
+
 #[test]
-fn devices_that_fail(rt: HostRuntime) -> Result<(), Fail> {
+fn a_source_that_fails(rt: HostRuntime) -> Result<(), Fail> {
     let alloc = rt.alloc();
     let realms = realms(alloc, &["r.one"])?;
-    let octets = joined(alloc, &[MSGPACK, PING, PUBLISH])?;
     for (call, count) in [(0, 0), (1, 4)] {
-        let mut source = FailsAt::new(MemorySource::new(octets.clone()?), call);
+        let mut source = FailsAt::new(refused_after_a_ping(alloc)?, call);
         let mut sink = MemorySink::new(alloc);
         let fault = open_session(alloc, &mut source, &mut sink, realms.as_slice()).err();
         assert!(rt; fault == Some(Fault::ReadFault));
         assert_eq!(rt; sink.octets().len(), count);
     }
+    Ok(())
+}
+
+#[test]
+fn a_sink_that_fails(rt: HostRuntime) -> Result<(), Fail> {
+    let alloc = rt.alloc();
+    let realms = realms(alloc, &["r.one"])?;
     for call in 0..4 {
-        let mut source = MemorySource::new(octets.clone()?);
+        let mut source = refused_after_a_ping(alloc)?;
         let mut sink = FailsAt::new(MemorySink::new(alloc), call);
         let fault = open_session(alloc, &mut source, &mut sink, realms.as_slice()).err();
         assert!(rt; fault == Some(Fault::WriteFault));

@@ -138,6 +138,31 @@ fn args_of(alloc: Global, json: &str) -> Result<Args, Fail> {
     }
 }
 
+/// The arguments of a PUBLISH in JSON, as a publication carries them.
+fn carried(alloc: Global, publish: &str) -> Result<CarriedArgs, Fail> {
+    let args = args_of(alloc, publish)?.try_copy(alloc)?;
+    match CarriedArgs::of(args) {
+        Ok(args) => Ok(args),
+        Err(_) => Err(Fail::new("uncarried")),
+    }
+}
+
+/// The publication that a PUBLISH in JSON makes.
+fn publication(alloc: Global, publish: &str, disclosed: bool) -> Result<Publication, Fail> {
+    let id = Id::new(3)?;
+    let topic = Topic::read(alloc, "a.b.c")?;
+    let publisher = anonymous(alloc, 5, 2)?;
+    let args = carried(alloc, publish)?;
+    Ok(Publication {
+        id,
+        topic,
+        lists: Lists::everyone(),
+        publisher,
+        disclosed,
+        args,
+    })
+}
+
 /// The EVENT that a PUBLISH in JSON gives subscription 1.
 fn event(
     alloc: Global,
@@ -146,21 +171,12 @@ fn event(
     with_topic: bool,
     retained: bool,
 ) -> Result<String, Fail> {
-    let args = args_of(alloc, publish)?.try_copy(alloc)?;
-    let Ok(args) = CarriedArgs::of(args) else {
-        return Err(Fail::new("uncarried"));
-    };
-    let publication = Publication {
-        id: Id::new(3)?,
-        topic: Topic::read(alloc, "a.b.c")?,
-        lists: Lists::everyone(),
-        publisher: anonymous(alloc, 5, 2)?,
-        disclosed,
-        args,
-    };
+    let subscription = Id::new(1)?;
+    let publication = publication(alloc, publish, disclosed)?;
+    let publication = Shared::new(alloc, publication)?;
     let item = Item::Event {
-        subscription: Id::new(1)?,
-        publication: Shared::new(alloc, publication)?,
+        subscription,
+        publication,
         with_topic,
         retained,
     };
@@ -213,6 +229,7 @@ fn carried_arguments_alone(rt: HostRuntime) -> Result<(), Fail> {
 #[test]
 fn faults_as_printed_and_told(rt: HostRuntime) -> Result<(), Fail> {
     let violation = Some("wamp.error.protocol_violation");
+    let no_realm = Some("wamp.error.no_such_realm");
     for (fault, text, uri) in [
         (Fault::NoMemory, "E1 no memory", None),
         (Fault::TooDeep, "E4 TooDeep", violation),
@@ -231,16 +248,15 @@ fn faults_as_printed_and_told(rt: HostRuntime) -> Result<(), Fail> {
         (Fault::WriteFault, "E17 write fault", None),
         (Fault::TooLongForClient, "E18 TooLongForClient", None),
         (Fault::Ended, "E23 Ended", None),
+        (Fault::NoSuchRealm, "E24 NoSuchRealm", no_realm),
         (Fault::TooManyTurns, "E25 too many turns", None),
-        (
-            Fault::NoSuchRealm,
-            "E24 NoSuchRealm",
-            Some("wamp.error.no_such_realm"),
-        ),
     ] {
-        let printed = format!(in rt.alloc(); "{fault}")?;
-        assert_eq!(rt; printed.as_str(), text);
+        assert_eq!(rt; printed(rt.alloc(), fault)?.as_str(), text);
         assert!(rt; abort_uri(fault) == uri, "{text}");
     }
     Ok(())
+}
+
+fn printed(alloc: Global, fault: Fault) -> Result<String, Fail> {
+    Ok(format!(in alloc; "{fault}")?)
 }
