@@ -1,5 +1,5 @@
-// What a session says, and what that gives, is tested by the lines of `replay`, in broker_server.
-use crate::{Entry, Fault, Item, Realm, RealmConfig};
+//! What the lines of `replay` can't ask of a realm: words of one's own, and a PING.
+use realm_core::{Entry, Fault, Item, Realm, RealmConfig};
 use message_tree::{Octets, Text};
 use std::alloc::Global;
 use std::test::Fail;
@@ -69,45 +69,30 @@ fn join(
     lines(alloc, &given)
 }
 
+fn authid(alloc: Global, name: &str) -> Result<Option<Text>, Fail> {
+    match name {
+        "" => Ok(None),
+        _ => Ok(Some(Text::of(alloc, name)?)),
+    }
+}
+
 #[test]
-fn a_number_joins_once(rt: HostRuntime) -> Result<(), Fail> {
+fn joins(rt: HostRuntime) -> Result<(), Fail> {
     let alloc = rt.alloc();
     let mut realm = realm(alloc)?;
-    let welcome = join(alloc, &mut realm, 1, 0, None)?;
-    assert_eq!(rt; welcome.as_str(), "1 welcome 1 anonymous anonymous; ");
+    for (number, word, name, given) in [
+        (1, 0, "", "1 welcome 1 anonymous anonymous; "),
+        (2, 9007199254740992, "", "2 abort SessionIdTaken; "),
+        (3, 1, "ann", "3 abort NotAuthorized; "),
+        (4, 1, "bob", "4 welcome 2 bob ops; "),
+        (258, 2, "", "258 welcome 3 anonymous anonymous; "),
+    ] {
+        let given_now = join(alloc, &mut realm, number, word, authid(alloc, name)?)?;
+        assert_eq!(rt; given_now.as_str(), given);
+    }
+    assert!(rt; !realm.is_live(conn(3)?));
     assert!(rt; !realm.may_join(conn(1)?));
     assert!(rt; realm.may_join(conn(257)?));
-    Ok(())
-}
-
-#[test]
-fn not_authorized(rt: HostRuntime) -> Result<(), Fail> {
-    let alloc = rt.alloc();
-    let mut realm = realm(alloc)?;
-    let ann = Text::of(alloc, "ann")?;
-    let refused = join(alloc, &mut realm, 4, 1, Some(ann))?;
-    assert_eq!(rt; refused.as_str(), "4 abort NotAuthorized; ");
-    assert!(rt; !realm.is_live(conn(4)?));
-    Ok(())
-}
-
-#[test]
-fn session_id_taken(rt: HostRuntime) -> Result<(), Fail> {
-    let alloc = rt.alloc();
-    let mut realm = realm(alloc)?;
-    join(alloc, &mut realm, 1, 0, None)?;
-    let refused = join(alloc, &mut realm, 2, 9007199254740992, None)?;
-    assert_eq!(rt; refused.as_str(), "2 abort SessionIdTaken; ");
-    Ok(())
-}
-
-#[test]
-fn first_grant_counts(rt: HostRuntime) -> Result<(), Fail> {
-    let alloc = rt.alloc();
-    let mut realm = realm(alloc)?;
-    let bob = Text::of(alloc, "bob")?;
-    let welcome = join(alloc, &mut realm, 1, 0, Some(bob))?;
-    assert_eq!(rt; welcome.as_str(), "1 welcome 1 bob ops; ");
     Ok(())
 }
 
@@ -123,15 +108,7 @@ fn ping_is_answered(rt: HostRuntime) -> Result<(), Fail> {
     let payload = Octets::of(alloc, b"hello")?;
     let given = realm.apply(alloc, Entry::Ping { conn, payload })?;
     assert_eq!(rt; lines(alloc, &given)?.as_str(), "1 pong 5; ");
-    Ok(())
-}
-
-#[test]
-fn prints_faults(rt: HostRuntime) -> Result<(), Fail> {
-    let alloc = rt.alloc();
-    assert_eq!(rt;
-        format!(in alloc; "{}", Fault::NoMemory)?.as_str(),
-        "E1 no memory"
-    );
+    let fault = format!(in alloc; "{}", Fault::NoMemory)?;
+    assert_eq!(rt; fault.as_str(), "E1 no memory");
     Ok(())
 }
