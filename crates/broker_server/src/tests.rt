@@ -1,10 +1,11 @@
 use crate::{Command, Config, Fault, read_command, read_grants, replay, report};
 use rawsocket::testing::{FailsAt, OneByOne};
-use rawsocket::{MemorySink, MemorySource};
+use rawsocket::{MemorySink, MemorySource, Sink, Source};
 use std::alloc::Global;
 use std::test::Fail;
 use wamp_ids::Topic;
 
+mod realm;
 mod rows;
 mod script_check;
 
@@ -28,6 +29,33 @@ fn config(alloc: Global, grants: &str) -> Result<Config, Fail> {
     })
 }
 
+/// The fault of a replay with these grants, if any.
+fn fault_of<I: Source, O: Sink>(
+    alloc: Global,
+    source: &mut I,
+    sink: &mut O,
+    grants: &str,
+) -> Result<Option<Fault>, Fail> {
+    let config = config(alloc, grants)?;
+    if config.realms.is_empty() {
+        return Err("no realm".into());
+    }
+    match replay(alloc, source, sink, &config) {
+        Ok(()) => Ok(None),
+        Err(Fault::NoMemory) => Err("no memory".into()),
+        Err(fault) => Ok(Some(fault)),
+    }
+}
+
+fn source_of(alloc: Global, input: &str) -> Result<MemorySource, Fail> {
+    Ok(MemorySource::new(input.as_bytes().to_vec(alloc)?))
+}
+
+fn text_of(alloc: Global, octets: &[u8]) -> Result<String, Fail> {
+    let text = std::str::from_utf8(octets).map_err(|_| "no text")?;
+    Ok(String::from_str(alloc, text)?)
+}
+
 /// What a replay of these lines writes, and its fault.
 fn told(alloc: Global, input: &str) -> Result<(String, Option<Fault>), Fail> {
     told_with(alloc, input, "")
@@ -35,29 +63,18 @@ fn told(alloc: Global, input: &str) -> Result<(String, Option<Fault>), Fail> {
 
 /// The same, with these grants.
 fn told_with(alloc: Global, input: &str, grants: &str) -> Result<(String, Option<Fault>), Fail> {
-    let config = config(alloc, grants)?;
-    let mut source = MemorySource::new(input.as_bytes().to_vec(alloc)?);
+    let mut source = source_of(alloc, input)?;
     let mut sink = MemorySink::new(alloc);
-    if config.realms.is_empty() {
-        return Err("no realm".into());
-    }
-    let fault = replay(alloc, &mut source, &mut sink, &config).err();
-    let text = std::str::from_utf8(sink.octets()).map_err(|_| "no text")?;
-    Ok((String::from_str(alloc, text)?, fault))
+    let fault = fault_of(alloc, &mut source, &mut sink, grants)?;
+    Ok((text_of(alloc, sink.octets())?, fault))
 }
 
 /// The same, where the input comes one octet at a time.
 fn told_slowly(alloc: Global, input: &str) -> Result<String, Fail> {
-    let config = config(alloc, "")?;
-    let octets = input.as_bytes().to_vec(alloc)?;
-    let mut source = OneByOne::new(MemorySource::new(octets));
+    let mut source = OneByOne::new(source_of(alloc, input)?);
     let mut sink = OneByOne::new(MemorySink::new(alloc));
-    if config.realms.is_empty() {
-        return Err("no realm".into());
-    }
-    replay(alloc, &mut source, &mut sink, &config)?;
-    let text = std::str::from_utf8(sink.device.octets()).map_err(|_| "no text")?;
-    Ok(String::from_str(alloc, text)?)
+    fault_of(alloc, &mut source, &mut sink, "")?;
+    text_of(alloc, sink.device.octets())
 }
 
 /// Two sessions, and then these lines: what the lines give after the two WELCOMEs.
@@ -226,29 +243,18 @@ const GOERS_GIVE: &str = "2 end\n3 end\n";
 
 /// What a replay writes where this read of one octet fails, and its fault.
 fn told_where_a_read_fails(alloc: Global, call: u64) -> Result<(String, Option<Fault>), Fail> {
-    let config = config(alloc, "")?;
-    let octets = GOERS.as_bytes().to_vec(alloc)?;
-    let mut source = FailsAt::new(OneByOne::new(MemorySource::new(octets)), call);
+    let mut source = FailsAt::new(OneByOne::new(source_of(alloc, GOERS)?), call);
     let mut sink = MemorySink::new(alloc);
-    if config.realms.is_empty() {
-        return Err("no realm".into());
-    }
-    let fault = replay(alloc, &mut source, &mut sink, &config).err();
-    let text = std::str::from_utf8(sink.octets()).map_err(|_| "no text")?;
-    Ok((String::from_str(alloc, text)?, fault))
+    let fault = fault_of(alloc, &mut source, &mut sink, "")?;
+    Ok((text_of(alloc, sink.octets())?, fault))
 }
 
 /// What a replay writes where this write or flush fails, and its fault.
 fn told_where_a_write_fails(alloc: Global, call: u64) -> Result<(String, Option<Fault>), Fail> {
-    let config = config(alloc, "")?;
-    let mut source = MemorySource::new(GOERS.as_bytes().to_vec(alloc)?);
+    let mut source = source_of(alloc, GOERS)?;
     let mut sink = FailsAt::new(MemorySink::new(alloc), call);
-    if config.realms.is_empty() {
-        return Err("no realm".into());
-    }
-    let fault = replay(alloc, &mut source, &mut sink, &config).err();
-    let text = std::str::from_utf8(sink.device.octets()).map_err(|_| "no text")?;
-    Ok((String::from_str(alloc, text)?, fault))
+    let fault = fault_of(alloc, &mut source, &mut sink, "")?;
+    Ok((text_of(alloc, sink.device.octets())?, fault))
 }
 
 #[test]
@@ -300,32 +306,39 @@ fn words(alloc: Global, line: &str) -> Result<Vec<String>, Fail> {
     Ok(words)
 }
 
+/// The replay that a command line asks for.
+fn replay_of(alloc: Global, line: &str) -> Result<Config, Fail> {
+    match read_command(alloc, &words(alloc, line)?)? {
+        Command::Replay(config) => Ok(config),
+        Command::Help(_) => Err("help".into()),
+    }
+}
+
+fn help_of(alloc: Global, line: &str) -> Result<String, Fail> {
+    match read_command(alloc, &words(alloc, line)?)? {
+        Command::Help(text) => Ok(text),
+        Command::Replay(_) => Err("a replay".into()),
+    }
+}
+
 #[test]
 fn command_lines(rt: HostRuntime) -> Result<(), Fail> {
     let alloc = rt.alloc();
-    match read_command(alloc, &words(alloc, "replay --realm r.one")?)? {
-        Command::Replay(config) => {
-            assert_eq!(rt; config.realms.len(), 1);
-            assert_eq!(rt; config.realms[0].text(), "r.one");
-            assert!(rt; config.grants.is_empty());
-        }
-        Command::Help(_) => return Err("help".into()),
-    }
-    match read_command(
-        alloc,
-        &words(alloc, "replay --realm r.one --grants bob:ops")?,
-    )? {
-        Command::Replay(config) => {
-            assert_eq!(rt; config.grants.len(), 1);
-            assert_eq!(rt; config.grants[0].0.as_str(), "bob");
-            assert_eq!(rt; config.grants[0].1.as_str(), "ops");
-        }
-        Command::Help(_) => return Err("help".into()),
-    }
-    match read_command(alloc, &words(alloc, "--help")?)? {
-        Command::Help(text) => assert!(rt; text.as_str().contains("replay")),
-        Command::Replay(_) => return Err("a replay".into()),
-    }
+    let plain = replay_of(alloc, "replay --realm r.one")?;
+    assert_eq!(rt; plain.realms.len(), 1);
+    assert_eq!(rt; plain.realms[0].text(), "r.one");
+    assert!(rt; plain.grants.is_empty());
+    let granting = replay_of(alloc, "replay --realm r.one --grants bob:ops")?;
+    assert_eq!(rt; granting.grants.len(), 1);
+    assert_eq!(rt; granting.grants[0].0.as_str(), "bob");
+    assert_eq!(rt; granting.grants[0].1.as_str(), "ops");
+    assert!(rt; help_of(alloc, "--help")?.as_str().contains("replay"));
+    Ok(())
+}
+
+#[test]
+fn refused_command_lines(rt: HostRuntime) -> Result<(), Fail> {
+    let alloc = rt.alloc();
     for line in [
         "replay",
         "replay --realm a..b",

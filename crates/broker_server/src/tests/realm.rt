@@ -1,7 +1,8 @@
-// What a session says, and what that gives, is tested by the lines of `replay`, in broker_server.
-use crate::{Entry, Fault, Item, Realm, RealmConfig};
+//! What the lines of `replay` can't ask of a realm: words of one's own, and a PING.
 use message_tree::{Octets, Text};
+use realm_core::{Entry, Fault, Item, Realm, RealmConfig};
 use std::alloc::Global;
+use std::process::Abort;
 use std::test::Fail;
 use wamp_ids::{Conn, Topic};
 
@@ -69,69 +70,76 @@ fn join(
     lines(alloc, &given)
 }
 
-#[test]
-fn a_number_joins_once(rt: HostRuntime) -> Result<(), Fail> {
-    let alloc = rt.alloc();
-    let mut realm = realm(alloc)?;
-    let welcome = join(alloc, &mut realm, 1, 0, None)?;
-    assert_eq!(rt; welcome.as_str(), "1 welcome 1 anonymous anonymous; ");
+fn authid(alloc: Global, name: &str) -> Result<Option<Text>, Fail> {
+    match name {
+        "" => Ok(None),
+        _ => Ok(Some(Text::of(alloc, name)?)),
+    }
+}
+
+/// A join: its number, its word, its authid, or none, which is `""`, and what it gives.
+type JoinRow = (u64, u64, &'static str, &'static str);
+
+fn joins_each(
+    rt: &impl Abort,
+    alloc: Global,
+    realm: &mut Realm,
+    rows: &[JoinRow],
+) -> Result<(), Fail> {
+    for (number, word, name, wanted) in rows {
+        let given = join(alloc, realm, *number, *word, authid(alloc, name)?)?;
+        assert_eq!(rt; given.as_str(), *wanted);
+    }
+    Ok(())
+}
+
+fn numbers_are_used(rt: &impl Abort, realm: &Realm) -> Result<(), Fail> {
+    assert!(rt; !realm.is_live(conn(3)?));
     assert!(rt; !realm.may_join(conn(1)?));
     assert!(rt; realm.may_join(conn(257)?));
     Ok(())
 }
 
-#[test]
-fn not_authorized(rt: HostRuntime) -> Result<(), Fail> {
-    let alloc = rt.alloc();
-    let mut realm = realm(alloc)?;
-    let ann = Text::of(alloc, "ann")?;
-    let refused = join(alloc, &mut realm, 4, 1, Some(ann))?;
-    assert_eq!(rt; refused.as_str(), "4 abort NotAuthorized; ");
-    assert!(rt; !realm.is_live(conn(4)?));
-    Ok(())
+fn joins_in(rt: &impl Abort, alloc: Global, realm: &mut Realm) -> Result<(), Fail> {
+    let rows = [
+        (1, 0, "", "1 welcome 1 anonymous anonymous; "),
+        (2, 9007199254740992, "", "2 abort SessionIdTaken; "),
+        (3, 1, "ann", "3 abort NotAuthorized; "),
+        (4, 1, "bob", "4 welcome 2 bob ops; "),
+        (258, 2, "", "258 welcome 3 anonymous anonymous; "),
+    ];
+    joins_each(rt, alloc, realm, &rows)?;
+    numbers_are_used(rt, realm)
 }
 
 #[test]
-fn session_id_taken(rt: HostRuntime) -> Result<(), Fail> {
-    let alloc = rt.alloc();
-    let mut realm = realm(alloc)?;
-    join(alloc, &mut realm, 1, 0, None)?;
-    let refused = join(alloc, &mut realm, 2, 9007199254740992, None)?;
-    assert_eq!(rt; refused.as_str(), "2 abort SessionIdTaken; ");
-    Ok(())
+fn joins(rt: HostRuntime) -> Result<(), Fail> {
+    let mut realm = realm(rt.alloc())?;
+    joins_in(&rt, rt.alloc(), &mut realm)
 }
 
-#[test]
-fn first_grant_counts(rt: HostRuntime) -> Result<(), Fail> {
-    let alloc = rt.alloc();
-    let mut realm = realm(alloc)?;
-    let bob = Text::of(alloc, "bob")?;
-    let welcome = join(alloc, &mut realm, 1, 0, Some(bob))?;
-    assert_eq!(rt; welcome.as_str(), "1 welcome 1 bob ops; ");
-    Ok(())
-}
-
-#[test]
-fn ping_is_answered(rt: HostRuntime) -> Result<(), Fail> {
-    let alloc = rt.alloc();
-    let mut realm = realm(alloc)?;
-    join(alloc, &mut realm, 1, 0, None)?;
+fn pings_in(rt: &impl Abort, alloc: Global, realm: &mut Realm) -> Result<(), Fail> {
     let conn = conn(1)?;
+    let payload = Octets::of(alloc, b"hello")?;
+    join(alloc, realm, 1, 0, None)?;
     if !realm.is_live(conn) {
         return Err("it isn't live".into());
     }
-    let payload = Octets::of(alloc, b"hello")?;
     let given = realm.apply(alloc, Entry::Ping { conn, payload })?;
-    assert_eq!(rt; lines(alloc, &given)?.as_str(), "1 pong 5; ");
+    let given = lines(alloc, &given)?;
+    assert_eq!(rt; given.as_str(), "1 pong 5; ");
     Ok(())
 }
 
 #[test]
-fn prints_faults(rt: HostRuntime) -> Result<(), Fail> {
-    let alloc = rt.alloc();
-    assert_eq!(rt;
-        format!(in alloc; "{}", Fault::NoMemory)?.as_str(),
-        "E1 no memory"
-    );
+fn a_ping_is_answered(rt: HostRuntime) -> Result<(), Fail> {
+    let mut realm = realm(rt.alloc())?;
+    pings_in(&rt, rt.alloc(), &mut realm)
+}
+
+#[test]
+fn a_fault_is_printed(rt: HostRuntime) -> Result<(), Fail> {
+    let printed = format!(in rt.alloc(); "{}", Fault::NoMemory)?;
+    assert_eq!(rt; printed.as_str(), "E1 no memory");
     Ok(())
 }
