@@ -1,5 +1,6 @@
-ghost use Rattle.std.specs.Prelude.{◌≡◌, true, [], is_some, IfOk, OnErr};
+ghost use Rattle.std.specs.Prelude.{◌≡◌, true, [], ◌∷◌, is_some, IfOk, OnErr};
 ghost use Rattle.realm_core.specs.declared.entry.Entry.TheVariants as entries;
+ghost use Rattle.realm_core.specs.Gifts.{all_for};
 ghost use Rattle.realm_core.specs.Live.{session_of};
 ghost use Rattle.realm_core.specs.Moves.{ended};
 ghost use Rattle.realm_core.specs.Turns.{Turns, may_turn};
@@ -23,6 +24,16 @@ fn end(state: &mut State, conn: Conn)
     state.index.drop_all(conn);
 }
 
+/// Ends the session of the connection, and gives it this item as the last.
+fn end_with(alloc: Global, state: &mut State, conn: Conn, last: Item) -> Result<Given, Fault>
+    ensures ok { IfOk result (λ given. (given.items ≡ all_for conn (last ∷ [])) × (state.new ≡ ended state.old conn)) }
+    ensures unchanged { OnErr result (state.new ≡ state.old) }
+{
+    let given = one(alloc, conn, last)?;
+    end(state, conn);
+    Ok(given)
+}
+
 /// What an entry gives; what is kept after it.
 pub fn answer(alloc: Global, state: &mut State, entry: &Entry) -> Result<Given, Fault>
     requires { may_turn state.old entry.now ≡ true }
@@ -34,9 +45,7 @@ pub fn answer(alloc: Global, state: &mut State, entry: &Entry) -> Result<Given, 
         Entry::Said { conn, word, said } => answer_said(alloc, state, *conn, *word, said),
         Entry::Ping { conn, payload } => one(alloc, *conn, Item::Pong(payload.try_copy(alloc)?)),
         Entry::Spoilt(conn) => {
-            let given = one(alloc, *conn, Item::Abort(Reason::ProtocolViolation))?;
-            end(state, *conn);
-            Ok(given)
+            end_with(alloc, state, *conn, Item::Abort(Reason::ProtocolViolation))
         }
         Entry::Gone(conn) => {
             end(state, *conn);
@@ -59,19 +68,13 @@ fn answer_said(
 {
     match said {
         Said::Hello { .. } => {
-            let given = one(alloc, conn, Item::Abort(Reason::ProtocolViolation))?;
-            end(state, conn);
-            Ok(given)
+            end_with(alloc, state, conn, Item::Abort(Reason::ProtocolViolation))
         }
         Said::Abort => {
             end(state, conn);
             Ok(Vec::new(alloc))
         }
-        Said::Goodbye => {
-            let given = one(alloc, conn, Item::Goodbye(Reason::GoodbyeAndOut))?;
-            end(state, conn);
-            Ok(given)
-        }
+        Said::Goodbye => end_with(alloc, state, conn, Item::Goodbye(Reason::GoodbyeAndOut)),
         Said::Publish {
             request,
             options,

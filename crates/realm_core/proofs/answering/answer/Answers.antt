@@ -17,9 +17,11 @@ returns-in_ok-try_copy-in-Ping-clause-ok c =
     (λ given is. turns-ping c.args.state.now c.in-Ping.conn c.in-Ping.payload given.items (is ∙ ap (λ x. all_for c.in-Ping.conn (Pong x ∷ [])) c.in_ok-try_copy-in-Ping.ensures))
     c.one.ensures)
 
-pub returns-in_ok-given-in-Spoilt-clause-ok : goal.returns-in_ok-given-in-Spoilt-clause-ok
-returns-in_ok-given-in-Spoilt-clause-ok c =
-    rw c.in-Spoilt.is (turns-spoilt c.args.state.now _ c.in-Spoilt.conn _ c.in_ok-given-in-Spoilt.ensures c.end.ensures)
+pub returns-in-Spoilt-clause-ok : goal.returns-in-Spoilt-clause-ok
+returns-in-Spoilt-clause-ok c =
+    rw c.in-Spoilt.is (IfOk-weaker c.end_with.result _ _
+    (λ given is. turns-spoilt c.args.state.now c.end_with.new.state c.in-Spoilt.conn given.items is.0 is.1)
+    c.end_with.ensures.ok)
 
 pub returns-in-Gone-clause-ok : goal.returns-in-Gone-clause-ok
-returns-in-Gone-clause-ok c = rw c.in-Gone.is (turns-gone c.args.state.now _ c.in-Gone.conn _ c.new.ensures.items c.end-in-Gone.ensures)
+returns-in-Gone-clause-ok c = rw c.in-Gone.is (turns-gone c.args.state.now _ c.in-Gone.conn _ c.new.ensures.items c.end.ensures)
