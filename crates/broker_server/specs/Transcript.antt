@@ -5,17 +5,17 @@ use Rattle.std.specs.List.{list_any, flat_map}
 use Rattle.message_tree.specs.Data.{Data, whole, text, list, dict, no_items, item, no_entries}
 use Rattle.json_codec.specs.Writing.{json_text}
 use Rattle.session.specs.Telling.{message_of}
-use Rattle.session.specs.declared.said.Said.TheVariants as say
 use Rattle.session.specs.declared.item.Item.{Item}
 use Rattle.session.specs.declared.fault.Fault.{Fault}
 use Rattle.session.specs.declared.fault.Fault.TheVariants.{NoSuchRealm, Shape}
 use Rattle.session.specs.Opening.{abort_uri_of, first_of, is_hello}
-use Rattle.realm_core.specs.declared.entry.Entry.{Entry}
-use Rattle.realm_core.specs.declared.entry.Entry.TheVariants as entry
-use Rattle.realm_core.specs.Granting.{Grants}
-use Rattle.realm_core.specs.History.{History, begun, ◌▷◌}
-use Rattle.realm_core.specs.Sessions.{live}
-use Rattle.realm_core.specs.Given.{GivesExactly}
+use Rattle.realm.specs.declared.entry.Entry.{Entry}
+use Rattle.realm.specs.declared.entry.Entry.TheVariants as entry
+use Rattle.realm.specs.Granting.{Grants}
+use Rattle.realm.specs.History.{History, begun, ◌▷◌}
+use Rattle.realm.specs.Sessions.{live}
+use Rattle.realm.specs.Words.{draws_word}
+use Rattle.realm.specs.Given.{GivesExactly}
 use Rattle.broker_server.specs.Lines.{Line, line_of}
 use Rattle.broker_server.specs.Speech.{Hears}
 use Rattle.broker_server.specs.declared.speech.Speech.{Speech}
@@ -34,22 +34,10 @@ starting grants realm = record { realm = realm; named = []; history = begun gran
 abbrev pub is_named : Replay → ℕ → Bool
 is_named r n = list_any (λ m. m == n) r.named
 
--- how many words were drawn: one for each Join and each PUBLISH
-abbrev pub draws : Entry → ℕ
-draws (entry.Join c word authid) = 1
-draws (entry.Said c word (say.Hello realm authid)) = 0
-draws (entry.Said c word say.Abort) = 0
-draws (entry.Said c word say.Goodbye) = 0
-draws (entry.Said c word (say.Publish request options topic args)) = 1
-draws (entry.Said c word (say.Subscribe request options topic)) = 0
-draws (entry.Said c word (say.Unsubscribe request subscription)) = 0
-draws (entry.Ping c payload) = 0
-draws (entry.Spoilt c) = 0
-draws (entry.Gone c) = 0
-
+-- how many words were drawn
 abbrev pub drawn : History → ℕ
 drawn (begun grants) = 0
-drawn (h ▷ e) = drawn h + draws e
+drawn (h ▷ e) = drawn h + cond (draws_word e) 1 0
 
 -- the words are 0, 1, 2, .. in order of drawing; after 2^64 - 1 comes 0
 abbrev pub next_word : History → ℕ
@@ -57,9 +45,9 @@ next_word h = drawn h % (2 ^ 64)
 
 -- the entry that a live session's line is
 abbrev pub later : History → ℕ → Speech → Entry
-later h n Gone = entry.Gone n
+later h n Gone = entry.Gone n (next_word h)
 later h n (Said said) = entry.Said n (next_word h) said
-later h n Noise = entry.Spoilt n
+later h n Noise = entry.Spoilt n (next_word h)
 
 -- the entry that the first line of a number is: a HELLO for the realm
 abbrev pub opened_by : History → ℕ → Option (ℕ × Option (List ℕ)) → Option Entry

@@ -1,9 +1,10 @@
-ghost use Rattle.std.specs.Prelude.{◌≡◌, ◌++◌, ℕ, true, IfErr, IfOk, OnOk};
-ghost use Rattle.realm_core.specs.History.{◌▷◌};
-ghost use Rattle.realm_core.specs.Sessions.{conn_of, live, may_come, may_join};
+ghost use Rattle.std.specs.Prelude.{◌≡◌, ◌++◌, ℕ, true, cond, IfErr, IfOk, OnOk};
+ghost use Rattle.realm.specs.History.{◌▷◌};
+ghost use Rattle.realm.specs.Sessions.{conn_of, live, may_come, may_join};
+ghost use Rattle.realm.specs.Words.{draws_word};
 ghost use Rattle.broker_server.specs.Grants.{bytes_of};
 ghost use Rattle.broker_server.specs.Lines.{is_number};
-ghost use Rattle.broker_server.specs.Transcript.{PrintsEntry, PrintsMore, after, draws, history_with, is_named, later, opening, refused, starting};
+ghost use Rattle.broker_server.specs.Transcript.{PrintsEntry, PrintsMore, after, history_with, is_named, later, opening, refused, starting};
 ghost use Rattle.broker_server.specs.Scripts.{PrintsOpening};
 
 use crate::fault::Fault;
@@ -11,7 +12,7 @@ use crate::grants::copy_grants;
 use crate::print::{print_abort, print_all, print_end};
 use crate::speech::Speech;
 use message_tree::Text;
-use realm_core::{Entry, Realm, RealmConfig};
+use realm_core::{Entry, RealmConfig, World};
 use session::{First, Said, abort_uri, first};
 use std::alloc::Global;
 use std::marker::Model;
@@ -21,7 +22,7 @@ use wamp_ids::{Conn, Topic};
 /// A replay of one realm: its history, and the numbers that were named so far.
 #[derive(Drop)]
 pub struct Script {
-    realm: Realm,
+    world: World,
     name: Topic,
     named: Vec<Conn>,
     words: u64,
@@ -39,45 +40,16 @@ impl Model for Script {
 
     ghost use Rattle.broker_server.specs.Scripts.{IsScript};
 
-    ghost view = { λ s. record { realm = s.name; named = s.named.items; history = s.realm } };
+    ghost view = { λ s. record { realm = s.name; named = s.named.items; history = s.world.history } };
 
-    ghost invariant = { λ s. IsScript (record { realm = s.name; named = s.named.items; history = s.realm }) s.words };
+    ghost invariant = { λ s. IsScript (record { realm = s.name; named = s.named.items; history = s.world.history }) s.words };
 }
 
 /// How many words an entry draws.
 fn draws(entry: &Entry) -> u64
-    ensures { result ≡ draws entry.now }
+    ensures { result ≡ cond (draws_word entry.now) 1 0 }
 {
-    match entry {
-        Entry::Join { .. } => 1,
-        Entry::Said {
-            said: Said::Publish { .. },
-            ..
-        } => 1,
-        Entry::Said {
-            said: Said::Hello { .. },
-            ..
-        } => 0,
-        Entry::Said {
-            said: Said::Abort,
-            ..
-        } => 0,
-        Entry::Said {
-            said: Said::Goodbye,
-            ..
-        } => 0,
-        Entry::Said {
-            said: Said::Subscribe { .. },
-            ..
-        } => 0,
-        Entry::Said {
-            said: Said::Unsubscribe { .. },
-            ..
-        } => 0,
-        Entry::Ping { .. } => 0,
-        Entry::Spoilt(_) => 0,
-        Entry::Gone(_) => 0,
-    }
+    if entry.draws_word() { 1 } else { 0 }
 }
 
 impl Script {
@@ -89,11 +61,11 @@ impl Script {
             name: name.try_copy(alloc)?,
             grants: copy_grants(alloc, grants)?,
         };
-        let Ok(realm) = Realm::new(alloc, config) else {
+        let Ok(world) = World::new(alloc, config, 1, 1) else {
             return Err(Fault::NoMemory);
         };
         Ok(Script {
-            realm,
+            world,
             name: name.try_copy(alloc)?,
             named: Vec::new(alloc),
             words: 0,
@@ -112,7 +84,8 @@ impl Script {
         false
     }
 
-    /// Adds the entry to the history, and prints what it gives.
+    /// Adds the entry to the history, and prints what it gives. `NoMemory` also where an earlier
+    /// refusal left items that nobody took.
     fn apply(
         &mut self,
         alloc: Global,
@@ -128,13 +101,19 @@ impl Script {
         ensures printed { OnOk result (PrintsEntry self.old.history entry number out.old.items out.new.items) }
         ensures fault { IfErr result (λ fault. fault ≡ Fault.NoMemory) }
     {
+        if !self.world.is_at_rest() {
+            return Err(Fault::NoMemory);
+        }
         let drawn = draws(&entry);
-        let Ok(given) = self.realm.apply(alloc, entry) else {
+        let Ok(()) = self.world.enter(alloc, entry) else {
             return Err(Fault::NoMemory);
         };
         self.words = self.words.wrapping_add(drawn);
+        let Ok(given) = self.world.take_all(alloc) else {
+            return Err(Fault::NoMemory);
+        };
         print_all(alloc, out, &given)?;
-        if !self.realm.is_live(number) {
+        if !self.world.is_live(number) {
             print_end(out, number)?;
         }
         Ok(())
@@ -147,13 +126,19 @@ impl Script {
         ensures no_join { may_come self.now.history result ≡ live self.now.history number }
     {
         match speech {
-            Speech::Gone => Entry::Gone(number),
+            Speech::Gone => Entry::Gone {
+                conn: number,
+                word: self.words,
+            },
             Speech::Said(said) => Entry::Said {
                 conn: number,
                 word: self.words,
                 said,
             },
-            Speech::Noise => Entry::Spoilt(number),
+            Speech::Noise => Entry::Spoilt {
+                conn: number,
+                word: self.words,
+            },
         }
     }
 
@@ -243,7 +228,7 @@ impl Script {
             self.named.push(number)?;
             return self.open(alloc, number, speech, out);
         }
-        if self.realm.is_live(number) {
+        if self.world.is_live(number) {
             let entry = self.later(number, speech);
             return self.apply(alloc, number, entry, out);
         }

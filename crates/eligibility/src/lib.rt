@@ -6,8 +6,6 @@ mod fault;
 pub mod laws;
 mod lists;
 mod lookup;
-#[cfg(test)]
-mod tests;
 mod who;
 
 pub use fault::Fault;

@@ -11,5 +11,3 @@ pub use fault::Fault;
 pub use reading::decode;
 pub use writing::encode;
 
-#[cfg(test)]
-mod tests;

@@ -15,7 +15,3 @@ pub use fault::Fault;
 pub use reading::decode;
 pub use writing::encode;
 
-#[cfg(test)]
-mod tests;
-#[cfg(test)]
-mod vectors;

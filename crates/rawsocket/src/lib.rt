@@ -29,5 +29,3 @@ pub use passed::Passed;
 pub use steps::Steps;
 pub use turns::{Turns, read_turn, write_all};
 
-#[cfg(test)]
-mod tests;

@@ -1,17 +1,10 @@
 -- What a reader has to believe: the model of a realm, and its laws.
-pub mod Granting
-pub mod History
-pub mod Options
-pub mod Sessions
-pub mod Subscriptions
-pub mod Publications
-pub mod Yield
-pub mod Given
-pub mod Laws
+pub mod Worlds
+pub mod PostedOrder
+pub mod Delivery
 -- What only the body and its proofs speak of.
-pub mod HistoryCode
-pub mod Live
-pub mod Agreeing
-pub mod Gifts
-pub mod Moves
-pub mod Turns
+pub mod Queues
+pub mod CourseCode
+pub mod Exchanges
+pub mod Runs
+pub mod Rest

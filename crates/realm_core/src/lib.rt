@@ -1,25 +1,20 @@
-//! The broker core: what each entry of a realm's history gives each session.
+//! The broker core over every schedule: a realm, the posts that wait for it, and the queues of its
+//! sessions, one step at a time in any order.
 //!
-//! The model stands in `specs/` and looks back over the history; [`Realm`] is a body that meets it.
-//! Its tests stand in broker_server: there the crate isn't proved once more.
+//! What each step does is a relation of `specs/`, one case for each kind of step; [`World`] is a body
+//! that meets it. [`laws`] has what holds of every history and of every world.
 #![tactic(auto)]
 
-mod answering;
-mod entry;
-mod fault;
-mod giving;
-mod grants;
-mod joining;
+mod copying;
+mod exchange;
 pub mod laws;
-mod publishing;
-mod realm;
-mod seats;
-mod sessions;
-mod state;
-mod subscribing;
-mod wishes;
+mod queues;
+mod step;
+mod world;
 
-pub use entry::Entry;
-pub use fault::Fault;
-pub use realm::{Realm, RealmConfig};
-pub use session::{Args, CarriedArgs, Item, Lists, Publication, Reason, Request, Said, Who};
+pub use realm::{
+    Args, CarriedArgs, Entry, Fault, Item, Lists, Publication, Realm, RealmConfig, Reason, Request,
+    Said, Who, says_with_word,
+};
+pub use step::{Step, Stepped};
+pub use world::{Run, World};

@@ -5,8 +5,6 @@
 mod fault;
 pub mod laws;
 mod store;
-#[cfg(test)]
-mod tests;
 
 pub use fault::Fault;
 pub use store::Store;

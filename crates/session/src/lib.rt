@@ -12,16 +12,10 @@ mod item;
 pub mod laws;
 mod opened;
 mod opening;
-#[cfg(test)]
-mod opening_tests;
 mod reading;
 mod said;
 mod serializing;
 mod telling;
-#[cfg(test)]
-mod telling_tests;
-#[cfg(test)]
-mod tests;
 mod verdict;
 
 pub use args::{Args, CarriedArgs};

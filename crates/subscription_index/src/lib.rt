@@ -4,11 +4,11 @@
 mod fault;
 mod holdings;
 pub mod laws;
+mod names;
+mod node;
 mod rows;
-#[cfg(test)]
-mod seeded;
-#[cfg(test)]
-mod tests;
+mod shares;
+mod table;
 
 pub use fault::Fault;
 pub use holdings::Index;

@@ -8,13 +8,11 @@ mod id;
 pub mod laws;
 mod parts;
 mod pattern;
-#[cfg(test)]
-mod tests;
 mod topic;
 
 pub use conn::{Conn, seat};
 pub use fault::Fault;
 pub use id::Id;
-pub use parts::dot_in;
+pub use parts::{dot_in, fits};
 pub use pattern::{Pattern, Policy};
 pub use topic::Topic;

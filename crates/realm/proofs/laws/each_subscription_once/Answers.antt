@@ -1,0 +1,5 @@
+use Rattle.realm.proofs.Once.{once}
+use Rattle.realm.proofs.laws.each_subscription_once.Goals as goal
+
+pub returns : goal.returns
+returns c = once

@@ -1,0 +1,5 @@
+use Rattle.realm.proofs.Admitted.{admitted, excluded, empty}
+use Rattle.realm.proofs.laws.events_are_admitted.Goals as goal
+
+pub returns : goal.returns
+returns c = record { admitted = admitted; excluded = excluded; empty = empty }

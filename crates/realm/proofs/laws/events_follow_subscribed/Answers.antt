@@ -1,0 +1,5 @@
+use Rattle.realm.proofs.Following.{events-follow}
+use Rattle.realm.proofs.laws.events_follow_subscribed.Goals as goal
+
+pub returns : goal.returns
+returns c = events-follow

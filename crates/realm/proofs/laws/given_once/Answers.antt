@@ -1,0 +1,5 @@
+use Rattle.realm.proofs.Alike.{given-once}
+use Rattle.realm.proofs.laws.given_once.Goals as goal
+
+pub returns : goal.returns
+returns c = given-once

@@ -1,0 +1,5 @@
+use Rattle.realm.proofs.Sent.{last, sent}
+use Rattle.realm.proofs.laws.last_is_retained.Goals as goal
+
+pub returns : goal.returns
+returns c = record { last = last; sent = sent }

@@ -1,0 +1,5 @@
+use Rattle.realm.proofs.Leaving.{leaver}
+use Rattle.realm.proofs.laws.leaver_is_not_told.Goals as goal
+
+pub returns : goal.returns
+returns c = leaver

@@ -1,0 +1,5 @@
+use Rattle.realm.proofs.Drawn.{drawn}
+use Rattle.realm.proofs.laws.published_under_its_word.Goals as goal
+
+pub returns : goal.returns
+returns c = drawn

@@ -1,0 +1,5 @@
+use Rattle.realm.proofs.Told.{arrivals, departures}
+use Rattle.realm.proofs.laws.sessions_are_announced.Goals as goal
+
+pub returns : goal.returns
+returns c = record { come = arrivals; gone = departures }

@@ -1,0 +1,81 @@
+-- Which PUBLISHes are accepted, whom a publication admits, and what is retained.
+-- (WAMP, "Publishing and Events", "Subscriber Black- and Whitelisting", "Publisher Exclusion", "Event Retention".)
+use Rattle.std.specs.Prelude.{ℕ, Bool, cond, not, ◌&&◌, ◌||◌, List, [], ◌∷◌, ◌++◌}
+use Rattle.std.specs.Prelude.{None, Some, Ok, Err}
+use Rattle.std.specs.declared.option.Option.{Option}
+use Rattle.std.specs.declared.result.Result.{Result}
+use Rattle.message_tree.specs.Data.{Entries}
+use Rattle.wamp_ids.specs.Numbers.{id_of_word}
+use Rattle.wamp_ids.specs.Uri.{is_topic, is_reserved}
+use Rattle.eligibility.specs.declared.who.Who.{Who}
+use Rattle.eligibility.specs.Audience.{Audience, audience_of, admits as eligible}
+use Rattle.session.specs.Arguments.{Arguments, is_all_carried}
+use Rattle.session.specs.declared.said.Said.TheVariants.{Publish}
+use Rattle.session.specs.declared.item.Publication.{Publication}
+use Rattle.session.specs.declared.item.Reason.{Reason}
+use Rattle.session.specs.declared.item.Reason.TheVariants.{InvalidArgument, InvalidUri, RetainedFull}
+use Rattle.retained.specs.Retained.{retained_of, may_be_retained}
+use Rattle.realm.specs.declared.wishes.Wishes.{Wishes}
+use Rattle.realm.specs.declared.entry.Entry.TheVariants.{Said}
+use Rattle.realm.specs.History.{History, begun, ◌▷◌}
+use Rattle.realm.specs.Options.{acknowledge_of, disclose_me_of, retain_of}
+use Rattle.realm.specs.Sessions.{who}
+
+-- what a PUBLISH with well-formed options asks for
+abbrev pub wishes_by : Option Bool → Option Bool → Option Bool → Option Audience → Option Wishes
+wishes_by (Some acknowledge) (Some disclose) (Some retain) (Some audience) =
+    Some (record { lists = audience; disclosed = disclose; retained = retain })
+wishes_by _ _ _ _ = None
+
+-- none where an option has a wrong type
+abbrev pub wishes_of : Entries → Option Wishes
+wishes_of options = wishes_by (acknowledge_of options) (disclose_me_of options) (retain_of options) (audience_of options)
+
+-- an accepted PUBLISH: its publication, and whether this is to be its topic's retained one
+pub record Made : Type 0 where
+  pub publication : Publication
+  pub retained : Bool
+
+abbrev pub made_by : ℕ → Who → List ℕ → Arguments → Wishes → Made
+made_by word publisher topic args wishes = record {
+  publication = record { id = id_of_word word; topic = topic; lists = wishes.lists; publisher = publisher; disclosed = wishes.disclosed; args = args };
+  retained = wishes.retained;
+}
+
+-- What a PUBLISH makes, or the first of the refusals: an option of wrong type, a bad or reserved topic, arguments that can't be carried, no room for what is to be retained.
+-- `room` tells whether the topic may be retained.
+abbrev pub published_by : Bool → ℕ → Who → List ℕ → Arguments → Option Wishes → Result Made Reason
+published_by room word publisher topic args None = Err InvalidArgument
+published_by room word publisher topic args (Some wishes) =
+    cond (not (is_topic topic) || is_reserved topic) (Err InvalidUri)
+    (cond (not (is_all_carried args)) (Err InvalidArgument)
+    (cond (wishes.retained && not room) (Err RetainedFull)
+    (Ok (made_by word publisher topic args wishes))))
+
+abbrev pub by_publisher : Option Who → (Who → Result Made Reason) → Result Made Reason
+by_publisher None f = Err InvalidArgument
+by_publisher (Some w) f = f w
+
+abbrev pub if_retained : Result Made Reason → List Publication
+if_retained (Err reason) = []
+if_retained (Ok made) = cond made.retained (made.publication ∷ []) []
+
+-- the publications of the accepted PUBLISHes of h with `retain`, the newest first
+unfoldable pub kept : History → List Publication
+kept (begun grants) = []
+kept (h ▷ Said c word (Publish request options topic args)) =
+    if_retained (by_publisher (who h c) (λ w. published_by (may_be_retained (kept h) topic) word w topic args (wishes_of options))) ++ kept h
+kept (h ▷ e) = kept h
+
+-- the retained publications after h: the last of each topic, in ascending bytes of the topics
+abbrev pub retained : History → List Publication
+retained h = retained_of (kept h)
+
+-- the answer to a PUBLISH of c that comes after h
+abbrev pub published : History → ℕ → ℕ → Entries → List ℕ → Arguments → Result Made Reason
+published h c word options topic args =
+    by_publisher (who h c) (λ w. published_by (may_be_retained (kept h) topic) word w topic args (wishes_of options))
+
+-- the publication admits this receiver
+abbrev pub admits : Publication → Who → Bool
+admits p w = eligible p.lists w p.publisher

@@ -1,0 +1,25 @@
+//! A realm: what each entry of its history gives each session.
+//!
+//! The model stands in `specs/` and looks back over the history; [`Realm`] is a body that meets it.
+#![tactic(auto)]
+
+mod announcing;
+mod answering;
+mod entry;
+mod fault;
+mod giving;
+mod grants;
+mod joining;
+pub mod laws;
+mod publishing;
+mod realm;
+mod seats;
+mod sessions;
+mod state;
+mod subscribing;
+mod wishes;
+
+pub use entry::{Entry, says_with_word};
+pub use fault::Fault;
+pub use realm::{Realm, RealmConfig};
+pub use session::{Args, CarriedArgs, Item, Lists, Publication, Reason, Request, Said, Who};

@@ -1,0 +1,64 @@
+ghost use Rattle.std.specs.Prelude.{◌≡◌, ◌-◌, IfOk, None, Some, replicate, set};
+ghost use Rattle.wamp_ids.specs.Numbers.{seat_of};
+ghost use Rattle.realm.specs.Live.{may_join_by};
+
+use std::alloc::{AllocError, Global};
+use std::marker::Model;
+use wamp_ids::{Conn, seat};
+
+/// How many seats there are.
+const SEATS: usize = 256;
+
+/// The last connection that asked for a session, at each seat.
+#[derive(Drop)]
+pub struct Seats {
+    last: Vec<Option<Conn>>,
+}
+
+impl Model for Seats {
+    ghost use Rattle.std.specs.Prelude.{ℕ, List, ◌≡◌, length};
+    ghost use Rattle.std.specs.declared.option.Option.{Option};
+
+    ghost Value = { List (Option ℕ) };
+
+    ghost view = { λ s. s.last.items };
+
+    ghost invariant = { λ s. length s.last.items ≡ 256 };
+}
+
+impl Seats {
+    /// Seats at which nobody asked yet.
+    pub fn new(alloc: Global) -> Result<Seats, AllocError>
+        ensures { IfOk result (λ seats. seats ≡ replicate 256 None) }
+    {
+        let mut last = Vec::with_capacity(alloc, SEATS)?;
+        for _ in 0..SEATS {
+            last.push(None)?;
+        }
+        Ok(Seats { last })
+    }
+
+    /// Whether the number of the connection is greater than that of the last one at its seat.
+    pub fn may_join(&self, conn: Conn) -> bool
+        ensures { result ≡ may_join_by self.now conn }
+    {
+        match self.last[place_of(conn)] {
+            None => true,
+            Some(last) => last.value() < conn.value(),
+        }
+    }
+
+    /// Keeps the connection as the last one at its seat.
+    pub fn note(&mut self, conn: Conn)
+        ensures { self.new ≡ set self.old (seat_of conn - 1) (Some conn) }
+    {
+        self.last[place_of(conn)] = Some(conn);
+    }
+}
+
+/// The place of a connection's seat, from 0.
+fn place_of(conn: Conn) -> usize
+    ensures { result ≡ seat_of conn - 1 }
+{
+    (seat(conn) - 1) as usize
+}

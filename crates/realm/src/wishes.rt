@@ -1,0 +1,54 @@
+ghost use Rattle.std.specs.Prelude.{◌≡◌, false, IfOk};
+ghost use Rattle.message_tree.specs.Data.{find_entry};
+ghost use Rattle.eligibility.specs.Asked.{flag_or};
+ghost use Rattle.realm.specs.Publications.{wishes_of};
+
+use crate::fault::Fault;
+use message_tree::{Options, Tree};
+use session::Lists;
+use std::alloc::Global;
+
+/// What the options of a PUBLISH ask for.
+#[derive(Drop)]
+pub struct Wishes {
+    /// Who is to receive it.
+    pub lists: Lists,
+    /// Whether its events name the publisher.
+    pub disclosed: bool,
+    /// Whether it is to be its topic's retained publication.
+    pub retained: bool,
+}
+
+/// A flag of the options, false where it is absent; `None` where it has a wrong type.
+pub fn flag(options: &Options, key: &str) -> Option<bool>
+    ensures { result ≡ flag_or false (find_entry key.now options.now) }
+{
+    match options.get(key) {
+        None => Some(false),
+        Some(Tree::Null) => Some(false),
+        Some(Tree::Flag(flag)) => Some(*flag),
+        Some(_) => None,
+    }
+}
+
+/// What the options of a PUBLISH ask for; `None` where one of them has a wrong type.
+pub fn read_wishes(alloc: Global, options: &Options) -> Result<Option<Wishes>, Fault>
+    ensures { IfOk result (λ wishes. wishes ≡ wishes_of options.now) }
+{
+    if flag(options, "acknowledge").is_none() {
+        return Ok(None);
+    }
+    let (Some(disclosed), Some(retained)) = (flag(options, "disclose_me"), flag(options, "retain"))
+    else {
+        return Ok(None);
+    };
+    match Lists::read(alloc, options.dict()) {
+        Ok(lists) => Ok(Some(Wishes {
+            lists,
+            disclosed,
+            retained,
+        })),
+        Err(eligibility::Fault::Shape) => Ok(None),
+        Err(_) => Err(Fault::NoMemory),
+    }
+}
