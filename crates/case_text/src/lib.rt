@@ -1,0 +1,11 @@
+//! What the drivers of case tables share: how octets stand in a line, and the lines of answers.
+//!
+//! In a table an octet of printable ASCII stands for itself, `\\` for a backslash, and `\7f` for any
+//! octet, by two lowercase hexadecimal digits.
+#![tactic(auto)]
+
+mod octets;
+mod words;
+
+pub use octets::{octets_of, spell, spelled, text_of};
+pub use words::{is_refused, line_of, number_of, part_of};

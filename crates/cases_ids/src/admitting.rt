@@ -1,0 +1,120 @@
+//! Who is eligible.
+use case_text::{line_of, number_of};
+use eligibility::{Lists, Who};
+use message_tree::{Dict, Fault, Text, Tree};
+use std::alloc::Global;
+use std::io;
+use wamp_ids::{Conn, Id};
+
+/// Who the words `CONN ID AUTHID AUTHROLE` name.
+pub fn who_of(alloc: Global, words: &str) -> io::Result<Option<Who>> {
+    let mut words = words.split(' ');
+    let Some(conn) = Conn::new(number_of(words.next().unwrap_or(""))) else {
+        return Ok(None);
+    };
+    let Ok(id) = Id::new(number_of(words.next().unwrap_or(""))) else {
+        return Ok(None);
+    };
+    let authid = Text::of(alloc, words.next().unwrap_or(""))?;
+    let authrole = Text::of(alloc, words.next().unwrap_or(""))?;
+    Ok(Some(Who {
+        conn,
+        id,
+        authid,
+        authrole,
+    }))
+}
+
+/// Who they are, by a copy.
+pub fn who_in_words(alloc: Global, who: &Option<Who>) -> io::Result<String> {
+    match who {
+        None => line_of(alloc, "nobody"),
+        Some(who) => {
+            let copy = who.try_copy(alloc)?;
+            let conn = copy.conn.value();
+            let id = copy.id.value();
+            let authid = copy.authid.as_str();
+            let authrole = copy.authrole.as_str();
+            Ok(format!(in alloc; "{conn} {id} {authid} {authrole}\n")?)
+        }
+    }
+}
+
+/// Whether the lists of options in JSON admit the receiver.
+pub fn lists(
+    alloc: Global,
+    json: &str,
+    receiver: &Option<Who>,
+    publisher: &Option<Who>,
+) -> io::Result<String> {
+    match json_codec::decode(alloc, json.as_bytes()) {
+        Ok(message) => match message.tree() {
+            Tree::Dict(options) => asked(alloc, options, receiver, publisher),
+            _ => line_of(alloc, "no options"),
+        },
+        Err(fault) => Ok(format!(in alloc; "{fault}\n")?),
+    }
+}
+
+fn asked(
+    alloc: Global,
+    options: &Dict,
+    receiver: &Option<Who>,
+    publisher: &Option<Who>,
+) -> io::Result<String> {
+    match Lists::read(alloc, options) {
+        Ok(lists) => admitted(alloc, &lists, receiver, publisher),
+        Err(fault) => Ok(format!(in alloc; "{fault}\n")?),
+    }
+}
+
+fn admitted(
+    alloc: Global,
+    lists: &Lists,
+    receiver: &Option<Who>,
+    publisher: &Option<Who>,
+) -> io::Result<String> {
+    match (receiver, publisher) {
+        (Some(receiver), Some(publisher)) => {
+            let admits = lists.admits(receiver, publisher);
+            Ok(format!(in alloc; "{admits}\n")?)
+        }
+        _ => line_of(alloc, "nobody"),
+    }
+}
+
+/// Whether no lists admit the receiver.
+pub fn everyone(
+    alloc: Global,
+    receiver: &Option<Who>,
+    publisher: &Option<Who>,
+) -> io::Result<String> {
+    admitted(alloc, &Lists::everyone(), receiver, publisher)
+}
+
+/// Whether lists under this key, each with a number beyond 64 bits, admit the receiver.
+pub fn beyond(
+    alloc: Global,
+    key: &str,
+    receiver: &Option<Who>,
+    publisher: &Option<Who>,
+) -> io::Result<String> {
+    let mut text = String::new(alloc);
+    for number in [18446744073709551616, -9223372036854775809] {
+        match options_of(alloc, key, number) {
+            Ok(options) => {
+                text.push_str(asked(alloc, &options, receiver, publisher)?.as_str())?;
+            }
+            Err(fault) => writeln!(&mut text, "{fault}")?,
+        }
+    }
+    Ok(text)
+}
+
+/// Options with a list of 1 and this number.
+fn options_of(alloc: Global, key: &str, number: i128) -> Result<Dict, Fault> {
+    let list = vec![in alloc; Tree::Whole(1), Tree::Whole(number)]?;
+    let mut options = Dict::new(alloc);
+    options.set(alloc, String::from_str(alloc, key)?, Tree::List(list))?;
+    Ok(options)
+}

@@ -1,0 +1,67 @@
+use crate::admitting::{beyond, everyone, lists, who_in_words, who_of};
+use crate::matching::{dot, matches, pattern, same};
+use crate::naming::{conn, faults, id, topic, word};
+use case_text::line_of;
+use eligibility::Who;
+use std::alloc::Global;
+use std::io;
+
+/// Who publishes and who receives, as far as the lines of a case have said.
+#[derive(Drop)]
+pub struct Case {
+    publisher: Option<Who>,
+    receiver: Option<Who>,
+}
+
+impl Case {
+    pub fn new() -> Case {
+        Case {
+            publisher: None,
+            receiver: None,
+        }
+    }
+
+    /// Takes a line, and gives what it is answered by.
+    pub fn take(&mut self, alloc: Global, line: &str) -> io::Result<String> {
+        match line.split_once(' ') {
+            Some(("#", _)) => {
+                *self = Case::new();
+                line_of(alloc, line)
+            }
+            Some(("publisher", text)) => {
+                self.publisher = who_of(alloc, text)?;
+                who_in_words(alloc, &self.publisher)
+            }
+            Some(("receiver", text)) => {
+                self.receiver = who_of(alloc, text)?;
+                who_in_words(alloc, &self.receiver)
+            }
+            Some(("admits", json)) => lists(alloc, json, &self.receiver, &self.publisher),
+            Some(("beyond", key)) => beyond(alloc, key, &self.receiver, &self.publisher),
+            Some((word, text)) => told(alloc, word, text),
+            None => self.told_alone(alloc, line),
+        }
+    }
+
+    fn told_alone(&self, alloc: Global, word: &str) -> io::Result<String> {
+        match word {
+            "everyone" => everyone(alloc, &self.receiver, &self.publisher),
+            "faults" => faults(alloc),
+            _ => line_of(alloc, "no case has this word"),
+        }
+    }
+}
+
+fn told(alloc: Global, name: &str, text: &str) -> io::Result<String> {
+    match name {
+        "id" => id(alloc, text),
+        "conn" => conn(alloc, text),
+        "word" => word(alloc, text),
+        "topic" => topic(alloc, text),
+        "pattern" => pattern(alloc, text),
+        "matches" => matches(alloc, text),
+        "same" => same(alloc, text),
+        "dot" => dot(alloc, text),
+        _ => line_of(alloc, "no case has this word"),
+    }
+}

@@ -1,0 +1,41 @@
+//! Cases of ids, topics and patterns, and of who is eligible, as lines of standard input; what each
+//! is answered by is printed. In a text `\7f` is an octet, and `-` alone is the empty text.
+//!
+//! - `# TEXT` begins a case, and is printed as it stands.
+//! - `id N`, `conn N`: the id, or the connection and its seat.
+//! - `word N`: the id that is drawn by this word.
+//! - `topic TEXT`: the topic, and whether it is reserved.
+//! - `pattern POLICY TEXT`: the pattern; the policies are `exact`, `prefix` and `wildcard`.
+//! - `matches POLICY TEXT TOPIC`: whether the pattern matches the topic.
+//! - `same POLICY TEXT POLICY TEXT`: whether two patterns are the same.
+//! - `dot TEXT`: the place of its first dot.
+//! - `publisher CONN ID AUTHID AUTHROLE`, `receiver CONN ID AUTHID AUTHROLE`: who they are, from
+//!   here on.
+//! - `admits JSON`: whether the lists of these options admit the receiver.
+//! - `beyond KEY`: the same for lists under this key, each with a number beyond 64 bits.
+//! - `everyone`: the same for no lists.
+//! - `faults`: each fault.
+#![tactic(auto)]
+
+mod admitting;
+mod case;
+mod matching;
+mod naming;
+
+use case::Case;
+use case_text::is_refused;
+use std::io;
+
+fn main(rt: HostRuntime) -> io::Result<()> {
+    let alloc = rt.alloc();
+    let mut case = Case::new();
+    for line in rt.lines(alloc) {
+        let line = line?;
+        let mut told = case.take(alloc, line.as_str())?;
+        if is_refused(told.as_str()) {
+            told = case.take(alloc, line.as_str())?;
+        }
+        print!(rt; "{told}")?;
+    }
+    Ok(())
+}
