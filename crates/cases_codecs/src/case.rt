@@ -1,0 +1,77 @@
+use crate::beyond::{beyond, faults};
+use crate::devices::{reads, writes};
+use crate::dictionaries::{copies, dictionary, get};
+use crate::frames::{Stream, cut_everywhere};
+use crate::great::great;
+use crate::handshakes::{handshake, no_seat};
+use crate::holding::{deep, octets, shared, text};
+use crate::reading::{json, msgpack, nested};
+use crate::sending::{failing_flush, held_back, no_room};
+use case_text::{line_of, octets_of};
+use std::alloc::Global;
+use std::io;
+
+/// What the lines of a case have fed and written so far.
+#[derive(Drop)]
+pub struct Case {
+    stream: Stream,
+}
+
+impl Case {
+    pub fn new(alloc: Global) -> Case {
+        Case {
+            stream: Stream::new(alloc),
+        }
+    }
+
+    /// Takes a line, and gives what it is answered by.
+    pub fn take(&mut self, alloc: Global, line: &str) -> io::Result<String> {
+        match line.split_once(' ') {
+            Some(("#", _)) => {
+                *self = Case::new(alloc);
+                line_of(alloc, line)
+            }
+            Some(("feed", text)) => self.stream.feed(alloc, &octets_of(alloc, text)?),
+            Some(("frame", text)) => self.stream.frame(alloc, text),
+            Some(("counted", text)) => self.stream.counted(alloc, text),
+            Some(("zeros", text)) => self.stream.zeros(alloc, text),
+            Some((word, text)) => told(alloc, word, text),
+            None => self.told_alone(alloc, line),
+        }
+    }
+
+    fn told_alone(&self, alloc: Global, word: &str) -> io::Result<String> {
+        match word {
+            "held" => self.stream.held(alloc),
+            "written" => self.stream.written(alloc),
+            "no-seat" => no_seat(alloc),
+            "held-back" => held_back(alloc),
+            "no-room" => no_room(alloc),
+            "failing-flush" => failing_flush(alloc),
+            "beyond" => beyond(alloc),
+            "faults" => faults(alloc),
+            _ => line_of(alloc, "no case has this word"),
+        }
+    }
+}
+
+fn told(alloc: Global, word: &str, rest: &str) -> io::Result<String> {
+    match word {
+        "json" => json(alloc, &octets_of(alloc, rest)?),
+        "msgpack" => msgpack(alloc, &octets_of(alloc, rest)?),
+        "nested" => nested(alloc, rest),
+        "great" => great(alloc, rest),
+        "dict" => dictionary(alloc, rest),
+        "get" => get(alloc, rest),
+        "copies" => copies(alloc, rest),
+        "deep" => deep(alloc, rest),
+        "text" => text(alloc, rest),
+        "octets" => octets(alloc, rest),
+        "shared" => shared(alloc, rest),
+        "handshake" => handshake(alloc, &octets_of(alloc, rest)?),
+        "cut" => cut_everywhere(alloc, &octets_of(alloc, rest)?),
+        "reads" => reads(alloc, rest),
+        "writes" => writes(alloc, rest),
+        _ => line_of(alloc, "no case has this word"),
+    }
+}

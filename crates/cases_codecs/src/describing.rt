@@ -1,0 +1,65 @@
+//! A tree in words: null, true, 5, "text", x0aff, [1,2], {"k":1}, and ? for what is not carried.
+use case_text::spell;
+use message_tree::Tree;
+use std::io;
+
+fn separate(out: &mut String, is_first: bool) -> io::Result<()> {
+    if !is_first {
+        out.push(',')?;
+    }
+    Ok(())
+}
+
+fn quote(out: &mut String, text: &str) -> io::Result<()> {
+    out.push('"')?;
+    spell(out, text.as_bytes())?;
+    out.push('"')?;
+    Ok(())
+}
+
+fn hexadecimal(out: &mut String, octets: &[u8]) -> io::Result<()> {
+    out.push('x')?;
+    for octet in octets {
+        write!(out, "{octet:02x}")?;
+    }
+    Ok(())
+}
+
+/// Adds a tree in words, so many levels of it.
+pub fn describe(out: &mut String, tree: &Tree, room: u8) -> io::Result<()> {
+    if room == 0 {
+        out.push_str("..")?;
+        return Ok(());
+    }
+    match tree {
+        Tree::Null => out.push_str("null")?,
+        Tree::Flag(flag) => out.push_str(if *flag { "true" } else { "false" })?,
+        Tree::Whole(number) => write!(out, "{number}")?,
+        Tree::Text(text) => quote(out, text.as_str())?,
+        Tree::Bytes(octets) => hexadecimal(out, octets)?,
+        Tree::List(items) => {
+            out.push('[')?;
+            let mut is_first = true;
+            for item in items {
+                separate(out, is_first)?;
+                describe(out, item, room - 1)?;
+                is_first = false;
+            }
+            out.push(']')?;
+        }
+        Tree::Dict(dict) => {
+            out.push('{')?;
+            let mut is_first = true;
+            for (key, value) in dict.iter() {
+                separate(out, is_first)?;
+                quote(out, key.as_str())?;
+                out.push(':')?;
+                describe(out, value, room - 1)?;
+                is_first = false;
+            }
+            out.push('}')?;
+        }
+        Tree::Uncarried => out.push('?')?,
+    }
+    Ok(())
+}

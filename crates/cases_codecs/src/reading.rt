@@ -1,0 +1,79 @@
+//! What is read of octets, and written of what was read.
+use crate::describing::describe;
+use case_text::{line_of, number_of, octets_of, part_of, spell};
+use message_tree::Message;
+use std::alloc::Global;
+use std::io;
+
+/// What octets in JSON spell.
+pub fn json(alloc: Global, octets: &[u8]) -> io::Result<String> {
+    match json_codec::decode(alloc, octets) {
+        Ok(message) => told(alloc, &message),
+        Err(fault) => Ok(format!(in alloc; "{fault}\n")?),
+    }
+}
+
+/// What octets in MessagePack spell.
+pub fn msgpack(alloc: Global, octets: &[u8]) -> io::Result<String> {
+    match msgpack_codec::decode(alloc, octets) {
+        Ok(message) => told(alloc, &message),
+        Err(fault) => Ok(format!(in alloc; "{fault}\n")?),
+    }
+}
+
+/// A copy of a message in words, and as both serializations write it.
+fn told(alloc: Global, message: &Message) -> io::Result<String> {
+    match message.try_copy(alloc) {
+        Ok(copy) if copy.tree() == message.tree() => in_words(alloc, &copy),
+        Ok(_) => line_of(alloc, "the copy differs"),
+        Err(fault) => Ok(format!(in alloc; "{fault}\n")?),
+    }
+}
+
+fn in_words(alloc: Global, message: &Message) -> io::Result<String> {
+    let depth = message.depth();
+    let mut text = format!(in alloc; "{depth} ")?;
+    describe(&mut text, message.tree(), 102)?;
+    text.push('\n')?;
+    write(alloc, &mut text, message)?;
+    Ok(text)
+}
+
+/// Adds a message as both serializations write it, each a line.
+pub fn write(alloc: Global, text: &mut String, message: &Message) -> io::Result<()> {
+    match json_codec::encode(alloc, message) {
+        Ok(octets) => spell(text, &octets)?,
+        Err(fault) => write!(text, "{fault}")?,
+    }
+    text.push('\n')?;
+    match msgpack_codec::encode(alloc, message) {
+        Ok(octets) => spell(text, &octets)?,
+        Err(fault) => write!(text, "{fault}")?,
+    }
+    text.push('\n')?;
+    Ok(())
+}
+
+/// The words of `N WORD OPEN LAST CLOSE`.
+pub fn nested(alloc: Global, text: &str) -> io::Result<String> {
+    let mut words = text.split(' ');
+    let count = number_of(words.next().unwrap_or(""));
+    let serializer = words.next().unwrap_or("");
+    let mut octets = Vec::new(alloc);
+    repeat(alloc, &mut octets, count, words.next().unwrap_or(""))?;
+    repeat(alloc, &mut octets, 1, words.next().unwrap_or(""))?;
+    repeat(alloc, &mut octets, count, words.next().unwrap_or(""))?;
+    match serializer {
+        "json" => json(alloc, &octets),
+        _ => msgpack(alloc, &octets),
+    }
+}
+
+/// Adds so many times the octets of a word.
+fn repeat(alloc: Global, octets: &mut Vec<u8>, count: u64, word: &str) -> io::Result<()> {
+    let part = octets_of(alloc, part_of(word))?;
+    for _ in 0..count {
+        octets.extend_from_slice(&part)?;
+    }
+    Ok(())
+}

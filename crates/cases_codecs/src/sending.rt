@@ -1,0 +1,37 @@
+//! Writers that hold back, have no room, or fail to flush.
+use crate::devices::ALL;
+use case_text::{line_of, spelled};
+use rawsocket::testing::FailsAt;
+use rawsocket::{MemorySink, Sink, Turns, WriteSink, write_all};
+use std::alloc::Global;
+use std::io;
+use std::io::BufWriter;
+
+/// What reaches a writer behind a buffer before the flush, and after it.
+pub fn held_back(alloc: Global) -> io::Result<String> {
+    let mut sink = WriteSink::new(BufWriter::new(alloc, Vec::new(alloc))?);
+    let written = write_all(&mut sink, ALL, &mut Turns::new()).is_ok();
+    let before = spelled(alloc, sink.writer().get_ref())?;
+    let flushed = sink.flush().is_ok();
+    let after = spelled(alloc, sink.writer().get_ref())?;
+    Ok(format!(in alloc; "{written}: {before}; {flushed}: {after}\n")?)
+}
+
+/// How a writer that has no room for all octets ends.
+pub fn no_room(alloc: Global) -> io::Result<String> {
+    let mut room = [0u8; 3];
+    let mut sink = WriteSink::new(room.as_mut_slice());
+    match write_all(&mut sink, ALL, &mut Turns::new()) {
+        Ok(()) => line_of(alloc, "written"),
+        Err(fault) => Ok(format!(in alloc; "{fault}\n")?),
+    }
+}
+
+/// A flush that fails, and the next.
+pub fn failing_flush(alloc: Global) -> io::Result<String> {
+    let mut sink = FailsAt::new(MemorySink::new(alloc), 0);
+    match (sink.flush(), sink.flush()) {
+        (Err(fault), Ok(())) => Ok(format!(in alloc; "{fault}; flushed\n")?),
+        _ => line_of(alloc, "no flush failed first"),
+    }
+}
