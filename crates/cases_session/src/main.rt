@@ -1,0 +1,41 @@
+//! Cases of sessions, as lines of standard input; what each is answered by is printed.
+//!
+//! - `# TEXT` begins a case, and is printed as it stands.
+//! - `say JSON`: what a client's message says.
+//! - `event SUBSCRIPTION MARKS JSON`: the EVENT that a PUBLISH in JSON gives this subscription; the
+//!   marks are letters of `dtr`: disclosed, with its topic, retained.
+//! - `carried JSON`: whether the arguments of a PUBLISH are carried, and whether they are taken so.
+//! - `arguments`: none, and a list alone.
+//! - `replies`, `reasons`, `faults`: each message of that kind.
+//! - `open`: opens a session, as the lines before it say:
+//!   - `realms NAMES`, by spaces;
+//!   - `octets TEXT`: more octets of the stream; `\7f` is an octet;
+//!   - `repeat N LETTER`: so many of this one octet;
+//!   - `first N`: only so many of the octets;
+//!   - `slowly`, `read N fails`, `write N fails`, as devices do;
+//!   - `then TEXT`: octets for the frames of an opened session.
+#![tactic(auto)]
+
+mod case;
+mod opening;
+mod publishing;
+mod saying;
+mod telling;
+
+use case::Case;
+use case_text::is_refused;
+use std::io;
+
+fn main(rt: HostRuntime) -> io::Result<()> {
+    let alloc = rt.alloc();
+    let mut case = Case::new(alloc);
+    for line in rt.lines(alloc) {
+        let line = line?;
+        let mut told = case.take(alloc, line.as_str())?;
+        if is_refused(told.as_str()) {
+            told = case.take(alloc, line.as_str())?;
+        }
+        print!(rt; "{told}")?;
+    }
+    Ok(())
+}

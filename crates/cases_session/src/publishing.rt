@@ -1,0 +1,65 @@
+//! What is published, and the events that it gives.
+use crate::saying::args_in_words;
+use crate::telling::{anonymous, told_if};
+use message_tree::{Content, Shared, Tree};
+use session::{Args, CarriedArgs, Item, Lists, Publication, Said, read_said};
+use std::alloc::Global;
+use std::io;
+use wamp_ids::{Id, Topic};
+
+/// No arguments, and a list of none alone.
+pub fn arguments(alloc: Global) -> io::Result<String> {
+    let none = args_in_words(alloc, &Args::none())?;
+    let list = Content::of(Tree::List(Vec::new(alloc)));
+    let positional = args_in_words(alloc, &Args::positional(list))?;
+    Ok(format!(in alloc; "none:{none}, a list:{positional}\n")?)
+}
+
+/// The arguments of a PUBLISH in JSON.
+fn args_of(alloc: Global, json: &str) -> Option<Args> {
+    let message = json_codec::decode(alloc, json.as_bytes()).ok()?;
+    match read_said(alloc, message).ok()? {
+        Said::Publish { args, .. } => Some(args),
+        _ => None,
+    }
+}
+
+/// Whether the arguments of a PUBLISH are carried.
+pub fn carried(alloc: Global, json: &str) -> io::Result<String> {
+    let Some(args) = args_of(alloc, json) else {
+        return Ok(String::from_str(alloc, "no PUBLISH, or E1 no memory\n")?);
+    };
+    let is_carried = args.is_carried();
+    let is_taken = CarriedArgs::of(args).is_ok();
+    Ok(format!(in alloc; "{is_carried} {is_taken}\n")?)
+}
+
+fn publication(alloc: Global, json: &str, disclosed: bool) -> Option<Publication> {
+    let args = args_of(alloc, json)?.try_copy(alloc).ok()?;
+    Some(Publication {
+        id: Id::new(3).ok()?,
+        topic: Topic::read(alloc, "a.b.c").ok()?,
+        lists: Lists::everyone(),
+        publisher: anonymous(alloc, 2)?,
+        disclosed,
+        args: CarriedArgs::of(args).ok()?,
+    })
+}
+
+fn event_item(alloc: Global, json: &str, marks: &str) -> Option<Item> {
+    let publication = publication(alloc, json, marks.contains('d'))?;
+    Some(Item::Event {
+        subscription: Id::new(1).ok()?,
+        publication: Shared::new(alloc, publication).ok()?,
+        with_topic: marks.contains('t'),
+        retained: marks.contains('r'),
+    })
+}
+
+/// The EVENT that a PUBLISH in JSON gives subscription 1, under these marks.
+pub fn event(alloc: Global, text: &str) -> io::Result<String> {
+    match text.split_once(' ') {
+        None => Ok(String::from_str(alloc, "no marks\n")?),
+        Some((marks, json)) => told_if(alloc, event_item(alloc, json, marks)),
+    }
+}
