@@ -1,0 +1,59 @@
+use crate::index::{drop_all, hold, matching, pattern, release};
+use crate::store::{count, keep, kept, room};
+use case_text::line_of;
+use retained::Store;
+use std::alloc::Global;
+use std::io;
+use subscription_index::Index;
+
+/// What is held and kept, as the lines of a case have said.
+#[derive(Drop)]
+pub struct Case {
+    index: Index,
+    store: Store,
+}
+
+impl Case {
+    pub fn new(alloc: Global) -> Case {
+        Case {
+            index: Index::new(alloc),
+            store: Store::new(alloc),
+        }
+    }
+
+    /// Takes a line, and gives what it is answered by.
+    pub fn take(&mut self, alloc: Global, line: &str) -> io::Result<String> {
+        match line.split_once(' ') {
+            Some(("#", _)) => {
+                *self = Case::new(alloc);
+                line_of(alloc, line)
+            }
+            Some(("hold", text)) => hold(alloc, &mut self.index, text),
+            Some(("release", text)) => release(alloc, &mut self.index, text),
+            Some(("drop", text)) => drop_all(alloc, &mut self.index, text),
+            Some(("matching", text)) => matching(alloc, &self.index, text),
+            Some(("pattern", text)) => pattern(alloc, &self.index, text),
+            Some(("keep", text)) => keep(alloc, &mut self.store, text),
+            Some(("room", text)) => room(alloc, &self.store, text),
+            Some(("kept", text)) => kept(alloc, &self.store, text),
+            Some(("count", text)) => count(alloc, &self.store, text),
+            None if line == "faults" => faults(alloc),
+            _ => line_of(alloc, "no case has this word"),
+        }
+    }
+}
+
+/// Each fault as it is printed.
+fn faults(alloc: Global) -> io::Result<String> {
+    let mut text = String::new(alloc);
+    for fault in [
+        subscription_index::Fault::NoMemory,
+        subscription_index::Fault::TooManySubscriptions,
+    ] {
+        writeln!(&mut text, "{fault}")?;
+    }
+    for fault in [retained::Fault::NoMemory, retained::Fault::RetainedFull] {
+        writeln!(&mut text, "{fault}")?;
+    }
+    Ok(text)
+}
