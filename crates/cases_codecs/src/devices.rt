@@ -89,12 +89,13 @@ fn writes_slowly(alloc: Global, turns: u64, call: u64) -> io::Result<String> {
     let taken = sink.device.device.octets().len().min(ALL.len());
     let second = write_all(&mut sink, &ALL[taken..], &mut Turns::new());
     let octets = sink.device.device.octets();
+    let first = fault_of(first, taken as u64 == call);
     written(
         alloc,
         &octets[..taken],
-        told(first, call),
+        first,
         octets,
-        told(second, call),
+        fault_of(second, false),
     )
 }
 
@@ -104,20 +105,21 @@ fn writes_to_memory(alloc: Global, turns: u64, call: u64) -> io::Result<String> 
     let taken = sink.device.octets().len().min(ALL.len());
     let second = write_all(&mut sink, &ALL[taken..], &mut Turns::new());
     let octets = sink.device.octets();
+    let first = fault_of(first, call == 0);
     written(
         alloc,
         &octets[..taken],
-        told(first, call),
+        first,
         octets,
-        told(second, call),
+        fault_of(second, false),
     )
 }
 
-/// How writing ended. Memory that no call fails of fails for want of memory alone.
-fn told(written: Result<(), Fault>, call: u64) -> Option<Fault> {
+/// How writing ended, and whether a call was to fail there: else memory fails for want of a growth.
+fn fault_of(written: Result<(), Fault>, is_due: bool) -> Option<Fault> {
     match written {
         Ok(()) => None,
-        Err(Fault::WriteFault) if call == u64::MAX => Some(Fault::NoMemory),
+        Err(Fault::WriteFault) if !is_due => Some(Fault::NoMemory),
         Err(fault) => Some(fault),
     }
 }

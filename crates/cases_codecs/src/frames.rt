@@ -11,7 +11,7 @@
 //!
 //! Of more than 300 octets their number, the first 252 and the last 4 are printed.
 use case_text::{line_of, number_of, octets_of, spell};
-use rawsocket::{Deframer, Fault, Frame, Kind, write_frame};
+use rawsocket::{Deframer, Fault, Fed, Frame, Kind, write_frame};
 use std::alloc::Global;
 use std::io;
 
@@ -102,9 +102,17 @@ fn name_of(kind: Kind) -> &'static str {
     }
 }
 
+/// What a piece gives; once more where memory was refused, which changes nothing.
+fn fed(alloc: Global, deframer: &mut Deframer, piece: &[u8]) -> Result<Fed, Fault> {
+    match deframer.feed(alloc, piece) {
+        Err(Fault::NoMemory) => deframer.feed(alloc, piece),
+        fed => fed,
+    }
+}
+
 /// Adds the frames that a piece completes, and the fault.
 fn feed(alloc: Global, deframer: &mut Deframer, text: &mut String, piece: &[u8]) -> io::Result<()> {
-    match deframer.feed(alloc, piece) {
+    match fed(alloc, deframer, piece) {
         Ok(fed) => {
             frames(text, &fed.frames)?;
             fault(text, fed.fault)

@@ -9,7 +9,8 @@ use std::io::BufWriter;
 
 /// What reaches a writer behind a buffer before the flush, and after it.
 pub fn held_back(alloc: Global) -> io::Result<String> {
-    let mut sink = WriteSink::new(BufWriter::new(alloc, Vec::new(alloc))?);
+    let room = Vec::with_capacity(alloc, ALL.len())?;
+    let mut sink = WriteSink::new(BufWriter::new(alloc, room)?);
     let written = write_all(&mut sink, ALL, &mut Turns::new()).is_ok();
     let before = spelled(alloc, sink.writer().get_ref())?;
     let flushed = sink.flush().is_ok();

@@ -1,11 +1,15 @@
 //! The opening of a session over devices.
 use case_text::spelled;
 use rawsocket::testing::{FailsAt, OneByOne};
-use rawsocket::{Deframer, Frame, Kind, MemorySink, MemorySource, Serializer, Sink, Source};
+use rawsocket::{Deframer, Frame, Kind, MemorySource, Serializer, Sink, Source, WriteSink};
 use session::{Fault, Opened, open_session};
 use std::alloc::Global;
 use std::io;
 use wamp_ids::Topic;
+
+/// Room for all that an opening writes, so that its sink fails where a call is to fail, and nowhere
+/// else.
+const ROOM: usize = 4096;
 
 /// What a client sends, and over which devices.
 #[derive(Drop)]
@@ -45,17 +49,17 @@ impl Stream {
     /// Opens a session, and says what is written, and what comes of it.
     pub fn told(&self, alloc: Global) -> io::Result<String> {
         let source = MemorySource::new(self.octets.as_slice().to_vec(alloc)?);
-        let sink = MemorySink::new(alloc);
+        let sink = WriteSink::new(Vec::with_capacity(alloc, ROOM)?);
         if self.is_slow {
             let mut source = FailsAt::new(OneByOne::new(source), self.failing_read);
             let mut sink = FailsAt::new(OneByOne::new(sink), self.failing_write);
             let comes = self.open(alloc, &mut source, &mut sink)?;
-            written(alloc, sink.device.device.octets(), comes)
+            written(alloc, sink.device.device.writer(), comes)
         } else {
             let mut source = FailsAt::new(source, self.failing_read);
             let mut sink = FailsAt::new(sink, self.failing_write);
             let comes = self.open(alloc, &mut source, &mut sink)?;
-            written(alloc, sink.device.octets(), comes)
+            written(alloc, sink.device.writer(), comes)
         }
     }
 
@@ -67,10 +71,6 @@ impl Stream {
     ) -> io::Result<String> {
         match open_session(alloc, source, sink, self.realms.as_slice()) {
             Ok(session) => session_in_words(alloc, session, self.behind.as_slice()),
-            // A sink of memory fails where a growth is refused, and where a call is to fail.
-            Err(Fault::WriteFault) if self.failing_write == u64::MAX => {
-                fault_line(alloc, Fault::NoMemory)
-            }
             Err(fault) => fault_line(alloc, fault),
         }
     }
