@@ -4,8 +4,10 @@
 //! octet, by two lowercase hexadecimal digits.
 #![tactic(auto)]
 
+mod bounds;
 mod octets;
 mod words;
 
+pub use bounds::{crossing, may_be_sent, may_be_shared};
 pub use octets::{octets_of, spell, spelled, text_of};
 pub use words::{is_refused, line_of, number_of, part_of};

@@ -1,5 +1,5 @@
 //! Who is eligible.
-use case_text::{line_of, number_of};
+use case_text::{crossing, line_of, may_be_shared, number_of};
 use eligibility::{Lists, Who};
 use message_tree::{Dict, Fault, Text, Tree};
 use std::alloc::Global;
@@ -117,4 +117,11 @@ fn options_of(alloc: Global, key: &str, number: i128) -> Result<Dict, Fault> {
     let mut options = Dict::new(alloc);
     options.set(alloc, String::from_str(alloc, key)?, Tree::List(list))?;
     Ok(options)
+}
+
+/// That lists and who they name may be shared between threads.
+pub fn threads(alloc: Global) -> io::Result<String> {
+    may_be_shared::<Lists>();
+    may_be_shared::<Who>();
+    crossing(alloc)
 }

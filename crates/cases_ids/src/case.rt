@@ -1,4 +1,4 @@
-use crate::admitting::{beyond, everyone, lists, who_in_words, who_of};
+use crate::admitting::{beyond, everyone, lists, threads, who_in_words, who_of};
 use crate::matching::{dot, matches, pattern, same};
 use crate::naming::{conn, faults, id, topic, word};
 use case_text::line_of;
@@ -46,6 +46,7 @@ impl Case {
     fn told_alone(&self, alloc: Global, word: &str) -> io::Result<String> {
         match word {
             "everyone" => everyone(alloc, &self.receiver, &self.publisher),
+            "threads" => threads(alloc),
             "faults" => faults(alloc),
             _ => line_of(alloc, "no case has this word"),
         }

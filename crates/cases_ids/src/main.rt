@@ -14,6 +14,7 @@
 //! - `admits JSON`: whether the lists of these options admit the receiver.
 //! - `beyond KEY`: the same for lists under this key, each with a number beyond 64 bits.
 //! - `everyone`: the same for no lists.
+//! - `threads`: that lists and who they name may be shared between threads.
 //! - `faults`: each fault.
 #![tactic(auto)]
 

@@ -1,6 +1,6 @@
 use crate::index::{drop_all, hold, matching, pattern, release};
 use crate::store::{count, keep, kept, room};
-use case_text::line_of;
+use case_text::{crossing, line_of, may_be_shared};
 use retained::Store;
 use std::alloc::Global;
 use std::io;
@@ -37,6 +37,7 @@ impl Case {
             Some(("room", text)) => room(alloc, &self.store, text),
             Some(("kept", text)) => kept(alloc, &self.store, text),
             Some(("count", text)) => count(alloc, &self.store, text),
+            None if line == "threads" => threads(alloc),
             None if line == "faults" => faults(alloc),
             _ => line_of(alloc, "no case has this word"),
         }
@@ -56,4 +57,11 @@ fn faults(alloc: Global) -> io::Result<String> {
         writeln!(&mut text, "{fault}")?;
     }
     Ok(text)
+}
+
+/// That an index and a store may be shared between threads.
+fn threads(alloc: Global) -> io::Result<String> {
+    may_be_shared::<Index>();
+    may_be_shared::<Store>();
+    crossing(alloc)
 }

@@ -14,6 +14,7 @@
 //!   - `room TOPIC`: whether there is room for one of this topic;
 //!   - `kept POLICY TEXT`: those whose topics match, each as NUMBER TOPIC;
 //!   - `count POLICY TEXT`: how many these are.
+//! - `threads`: that an index and a store may be shared between threads.
 //! - `faults`: each fault.
 //!
 //! The last case is drawn and answered by tools/draw_index.

@@ -1,5 +1,5 @@
 use crate::opening::Stream;
-use crate::publishing::{arguments, carried, event};
+use crate::publishing::{arguments, carried, event, threads};
 use crate::saying::said;
 use crate::telling::{faults, reasons, replies};
 use case_text::{line_of, number_of, octets_of};
@@ -68,6 +68,7 @@ impl Case {
             }
             "open" => self.stream.told(alloc),
             "arguments" => arguments(alloc),
+            "threads" => threads(alloc),
             "replies" => replies(alloc),
             "reasons" => reasons(alloc),
             "faults" => faults(alloc),

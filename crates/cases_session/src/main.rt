@@ -6,6 +6,7 @@
 //!   marks are letters of `dtr`: disclosed, with its topic, retained.
 //! - `carried JSON`: whether the arguments of a PUBLISH are carried, and whether they are taken so.
 //! - `arguments`: none, and a list alone.
+//! - `threads`: that what is said and published may be shared between threads.
 //! - `replies`, `reasons`, `faults`: each message of that kind.
 //! - `open`: opens a session, as the lines before it say:
 //!   - `realms NAMES`, by spaces;

@@ -1,6 +1,7 @@
 //! What is published, and the events that it gives.
 use crate::saying::args_in_words;
 use crate::telling::{anonymous, told_if};
+use case_text::{crossing, may_be_shared};
 use message_tree::{Content, Shared, Tree};
 use session::{Args, CarriedArgs, Item, Lists, Publication, Said, read_said};
 use std::alloc::Global;
@@ -62,4 +63,12 @@ pub fn event(alloc: Global, text: &str) -> io::Result<String> {
         None => Ok(String::from_str(alloc, "no marks\n")?),
         Some((marks, json)) => told_if(alloc, event_item(alloc, json, marks)),
     }
+}
+
+/// That what is said and published may be shared between threads.
+pub fn threads(alloc: Global) -> io::Result<String> {
+    may_be_shared::<Said>();
+    may_be_shared::<Publication>();
+    may_be_shared::<Shared<Publication>>();
+    crossing(alloc)
 }
