@@ -6,7 +6,7 @@ use crate::great::great;
 use crate::handshakes::{handshake, no_seat};
 use crate::holding::{deep, octets, shared, text};
 use crate::reading::{json, msgpack, nested};
-use crate::sending::{failing_flush, held_back, no_room};
+use crate::sending::{failing_flush, held_back, no_room, threads};
 use case_text::{line_of, octets_of};
 use std::alloc::Global;
 use std::io;
@@ -49,6 +49,7 @@ impl Case {
             "no-room" => no_room(alloc),
             "failing-flush" => failing_flush(alloc),
             "beyond" => beyond(alloc),
+            "threads" => threads(alloc),
             "faults" => faults(alloc),
             _ => line_of(alloc, "no case has this word"),
         }

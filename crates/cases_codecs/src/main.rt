@@ -16,6 +16,7 @@
 //!   - `deep N`: so many lists in one another, as a message;
 //!   - `text TEXT`, `octets OCTETS`, `shared TEXT`: what holds them, and a copy or twin.
 //! - Frames, described in `frames.rt`, and devices, in `devices.rt`.
+//! - `threads`: that streams and devices may go to another thread.
 //! - `faults`: each fault.
 #![tactic(auto)]
 

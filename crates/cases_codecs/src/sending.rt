@@ -1,8 +1,10 @@
 //! Writers that hold back, have no room, or fail to flush.
 use crate::devices::ALL;
-use case_text::{line_of, spelled};
+use case_text::{crossing, line_of, may_be_sent, spelled};
 use rawsocket::testing::FailsAt;
-use rawsocket::{MemorySink, Sink, Turns, WriteSink, write_all};
+use rawsocket::{
+    Deframer, MemorySink, MemorySource, ReadSource, Sink, Turns, WriteSink, write_all,
+};
 use std::alloc::Global;
 use std::io;
 use std::io::BufWriter;
@@ -35,4 +37,13 @@ pub fn failing_flush(alloc: Global) -> io::Result<String> {
         (Err(fault), Ok(())) => Ok(format!(in alloc; "{fault}; flushed\n")?),
         _ => line_of(alloc, "no flush failed first"),
     }
+}
+
+/// That streams and devices may go to another thread.
+pub fn threads(alloc: Global) -> io::Result<String> {
+    may_be_sent::<Deframer>();
+    may_be_sent::<MemorySource>();
+    may_be_sent::<WriteSink<Vec<u8>>>();
+    may_be_sent::<ReadSource<&[u8]>>();
+    crossing(alloc)
 }
