@@ -35,7 +35,7 @@ use Rattle.realm.specs.Yield.{yield, reply, events, events_of, sent_events, aske
 use Rattle.realm.specs.Given.{GivesEach, GivesExactly}
 use Rattle.realm.specs.Live.{session_of, AreByConn, added, may_join_by}
 use Rattle.realm.specs.Gifts.{all_for, all_events, put_first}
-use Rattle.realm.specs.Moves.{ended, admitted, IsJoined, HasLeft, refused, told, stored, IsPublished, IsSubscribed, held_by, wanted, retained_event, IsUnsubscribed, released}
+use Rattle.realm.specs.Moves.{admitted, IsJoined, HasLeft, HasBeenCut, refused, told, stored, IsPublished, IsSubscribed, held_by, wanted, retained_event, IsUnsubscribed, released}
 use Rattle.realm.specs.Agreeing.{Agrees}
 use Rattle.realm.specs.Turns.{Turned, Turns}
 use Rattle.realm.proofs.ForEach.{gives-own, gives-reply, gives-put, gives-same}
@@ -144,15 +144,13 @@ turns-spoilt s t c w given is h agrees come = turned-left h s t (Spoilt c w) w (
 pub turns-gone : (s t : State) (c w : ℕ) (given : List (ℕ × Item)) → HasLeft s c w None t given → Turns s (Gone c w) t given
 turns-gone s t c w given is h agrees come = turned-left h s t (Gone c w) w None given agrees come come refl (gone h c w) refl refl (λ d. refl) is
 
-pub turns-cut : (s t : State) (c w : ℕ) (given : List (ℕ × Item)) → HasLeft s c w None t given → Turns s (Cut c (Some w)) t given
-turns-cut s t c w given is h agrees come = turned-left h s t (Cut c (Some w)) w None given agrees come come refl (cut h c (Some w)) refl refl (λ d. refl) is
-
-pub turns-silent : (s t : State) (c : ℕ) (given : List (ℕ × Item)) → given ≡ [] → t ≡ ended s c → Turns s (Cut c None) t given
-turns-silent s t c given is ends h agrees come = record {
-  gives = gives-reply h (Cut c None) given is (λ d. refl);
-  agrees = rw ends (agrees-ended h (Cut c None) c s agrees come refl (cut h c None));
-  grown = rw ends (others-fewer c s.sessions);
-  shrunk = λ silent. let session = session-lives h s c agrees come in rw ends (others-one-fewer c s.sessions session.0 (agrees.sessions c ∙ session.1));
+pub turns-cut : (s t : State) (c : ℕ) (word : Option ℕ) (given : List (ℕ × Item)) → HasBeenCut s c word t given → Turns s (Cut c word) t given
+turns-cut s t c (Some w) given is h agrees come = turned-left h s t (Cut c (Some w)) w None given agrees come come refl (cut h c (Some w)) refl refl (λ d. refl) is
+turns-cut s t c None given is h agrees come = record {
+  gives = gives-reply h (Cut c None) given is.0 (λ d. refl);
+  agrees = rw is.1 (agrees-ended h (Cut c None) c s agrees come refl (cut h c None));
+  grown = rw is.1 (others-fewer c s.sessions);
+  shrunk = λ silent. let session = session-lives h s c agrees come in rw is.1 (others-one-fewer c s.sessions session.0 (agrees.sessions c ∙ session.1));
 }
 
 pub turns-closed : (s t : State) (c w : ℕ) (given : List (ℕ × Item)) → HasLeft s c w (Some (Goodbye SystemShutdown)) t given → Turns s (Closed c w) t given

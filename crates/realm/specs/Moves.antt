@@ -112,3 +112,8 @@ IsJoined s c word r t given = (given ≡ welcomed s c word r) × (t ≡ joined_b
 abbrev pub HasLeft : State → ℕ → ℕ → Option Item → State → List (ℕ × Item) → Type 0
 HasLeft s c word last t given =
     ((w : Who) → session_of s.sessions c ≡ Some w → given ≡ put_first c last (all_events s.sessions s.index.rows (departure word w))) × (t ≡ ended s c)
+
+-- the session of c was cut: as one that has left, or, without a word, so that nobody is told
+abbrev pub HasBeenCut : State → ℕ → Option ℕ → State → List (ℕ × Item) → Type 0
+HasBeenCut s c None t given = (given ≡ []) × (t ≡ ended s c)
+HasBeenCut s c (Some word) t given = HasLeft s c word None t given
