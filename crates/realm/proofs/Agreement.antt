@@ -1,5 +1,5 @@
 -- What the realm keeps agrees with its history, entry by entry.
-use Rattle.std.proofs.Common.{◌≡◌, ℕ, ◌-◌, Bool, true, false, cond, not, ◌&&◌, ◌||◌, eqb, ltb, List, [], ◌∷◌, ◌++◌, length, length-set, set, refl, sym, ap, ◌∙◌, None, Some, Ok, Err}
+use Rattle.std.proofs.Common.{◌≡◌, ℕ, ◌-◌, Bool, true, false, cond, not, ◌&&◌, ◌||◌, eqb, ltb, List, length, length-set, set, refl, sym, ap, ◌∙◌, None, Some, Ok, Err}
 use Rattle.std.specs.declared.option.Option.{Option}
 use Rattle.std.specs.declared.result.Result.{Result}
 use Rattle.std.specs.List.{list_all}
@@ -18,10 +18,11 @@ use Rattle.realm.specs.History.{History, ◌▷◌, grants_of}
 use Rattle.realm.specs.Sessions.{who, live, joined, admission, admission_by, name_for, role_for, id_in_use, may_join, may_come}
 use Rattle.realm.specs.Subscriptions.{holds, opened, number_among}
 use Rattle.realm.specs.Publications.{retained}
-use Rattle.realm.specs.Live.{session_of, AreApart}
+use Rattle.realm.specs.Live.{session_of, AreByConn, added}
 use Rattle.realm.specs.Agreeing.{Agrees}
 use Rattle.realm.specs.Moves.{ended, joined_by}
-use Rattle.realm.proofs.Living.{others-of, added-of, apart-others, apart-added, eqb-comm}
+use Rattle.realm.proofs.Living.{others-of, eqb-comm}
+use Rattle.realm.proofs.Ordered.{added-of, ordered-others, ordered-added}
 use Rattle.realm.proofs.Seating.{noted}
 use Rattle.realm.proofs.Ended.{no_more}
 use Rattle.realm.proofs.Joined.{live-joined}
@@ -35,7 +36,7 @@ pub agrees-ended : (h : History) (e : Entry) (c : ℕ) (s : State) → Agrees h 
 agrees-ended h e c s agrees come grants ending = record {
   is_history = (agrees.is_history, come);
   grants = agrees.grants ∙ sym grants;
-  apart = apart-others c s.sessions agrees.apart;
+  ordered = ordered-others c s.sessions agrees.ordered;
   sessions = λ d. others-of c d s.sessions ∙ (ap (λ o. cond (eqb c d) None o) (agrees.sessions d) ∙ sym (ending.who d));
   seated = agrees.seated;
   seats = λ d. agrees.seats d ∙ sym (may_join-same (joined (h ▷ e)) (joined h) d ending.joined);
@@ -65,7 +66,7 @@ pub agrees-kept : (h : History) (e : Entry) (s t : State) → Agrees h s → may
 agrees-kept h e s t agrees come grants keeps keeps_held t_grants t_sessions t_seats t_index t_store = record {
   is_history = (agrees.is_history, come);
   grants = t_grants ∙ (agrees.grants ∙ sym grants);
-  apart = rw t_sessions agrees.apart;
+  ordered = rw t_sessions agrees.ordered;
   sessions = λ d. rw t_sessions (agrees.sessions d ∙ sym (keeps.who d));
   seated = rw t_seats agrees.seated;
   seats = λ d. rw t_seats (agrees.seats d ∙ sym (may_join-same (joined (h ▷ e)) (joined h) d keeps.joined));
@@ -97,12 +98,12 @@ unfolding who
 who-join h c word authid d = refl
 
 -- a Join notes its seat, whatever it makes of the sessions
-seats-joined : (h : History) (c word : ℕ) (authid : Option (List ℕ)) (s : State) (sessions : List Who) → Agrees h s → may_join h c ≡ true → AreApart sessions → ((d : ℕ) → session_of sessions d ≡ who (h ▷ Join c word authid) d)
+seats-joined : (h : History) (c word : ℕ) (authid : Option (List ℕ)) (s : State) (sessions : List Who) → Agrees h s → may_join h c ≡ true → AreByConn sessions → ((d : ℕ) → session_of sessions d ≡ who (h ▷ Join c word authid) d)
     → Agrees (h ▷ Join c word authid) (record s { seats = set s.seats (seat_of c - 1) (Some c); sessions = sessions })
-seats-joined h c word authid s sessions agrees may apart are = record {
+seats-joined h c word authid s sessions agrees may ordered are = record {
   is_history = (agrees.is_history, may);
   grants = agrees.grants;
-  apart = apart;
+  ordered = ordered;
   sessions = are;
   seated = seated s.seats agrees.seated;
   seats = λ d. noted s.seats c d agrees.seated (agrees.seats c ∙ may) ∙ ap (λ b. (not (eqb (seat_of c) (seat_of d)) || ltb c d) && b) (agrees.seats d);
@@ -118,7 +119,7 @@ seats-joined h c word authid s sessions agrees may apart are = record {
 pub agrees-joined : (h : History) (c word : ℕ) (authid : Option (List ℕ)) (s : State) (r : Result Who Reason) → Agrees h s → may_join h c ≡ true → admission h c word authid ≡ r
     → Agrees (h ▷ Join c word authid) (joined_by s c r)
 agrees-joined h c word authid s (Err reason) agrees may is =
-    seats-joined h c word authid s s.sessions agrees may agrees.apart (λ d. agrees.sessions d ∙ sym (who-join h c word authid d ∙ rw is (at d (eqb c d) refl)))
+    seats-joined h c word authid s s.sessions agrees may agrees.ordered (λ d. agrees.sessions d ∙ sym (who-join h c word authid d ∙ rw is (at d (eqb c d) refl)))
   where
     at : (d : ℕ) (b : Bool) → eqb c d ≡ b → cond b None (who h d) ≡ who h d
     at d true own = sym (ap (who h) (sym (eqb-true c d own)) ∙ none-joined h c may)
@@ -126,4 +127,4 @@ agrees-joined h c word authid s (Err reason) agrees may is =
 agrees-joined h c word authid s (Ok w) agrees may is =
     let conn : w.conn ≡ c = admitted-conn (id_in_use h (id_of_word word)) c word (name_for authid) (role_for (grants_of h) authid) w is in
     let free : session_of s.sessions w.conn ≡ None = ap (session_of s.sessions) conn ∙ (agrees.sessions c ∙ none-joined h c may) in
-    seats-joined h c word authid s (s.sessions ++ w ∷ []) agrees may (apart-added w s.sessions free agrees.apart) (λ d. added-of w d s.sessions free ∙ sym (who-join h c word authid d ∙ rw (is, conn, agrees.sessions d) refl))
+    seats-joined h c word authid s (added w s.sessions) agrees may (ordered-added w s.sessions free agrees.ordered) (λ d. added-of w d s.sessions ∙ sym (who-join h c word authid d ∙ rw (is, conn, agrees.sessions d) refl))

@@ -28,7 +28,7 @@ unfolding who holds opened kept
 agrees-begun s sessions seats index store = record {
   is_history = tt;
   grants = refl;
-  apart = rw sessions tt;
+  ordered = rw sessions tt;
   sessions = λ c. rw sessions refl;
   seated = rw seats refl;
   seats = λ c. rw seats (ap (λ o. is_above o c) (none-read 256 (seat_of c - 1)));

@@ -1,5 +1,5 @@
 -- The live sessions as a list, one change at a time.
-use Rattle.std.proofs.Common.{◌≡◌, ℕ, suc, ◌+◌, ◌≤◌, Bool, true, false, cond, not, ◌||◌, eqb, List, [], ◌∷◌, ◌++◌, length, refl, sym, ap, ◌∙◌, None, Some, arith}
+use Rattle.std.proofs.Common.{◌≡◌, ℕ, suc, ◌+◌, ◌≤◌, Bool, true, false, cond, not, ◌||◌, eqb, List, [], ◌∷◌, length, refl, sym, ap, ◌∙◌, None, Some, arith}
 use Rattle.std.specs.declared.option.Option.{Option}
 use Rattle.std.specs.Cmp.{both_ways}
 use Rattle.std.specs.List.{list_any}
@@ -7,10 +7,11 @@ use Rattle.std.proofs.lemmas.Bool.{eqb-true, eq-eqb}
 use Rattle.eligibility.specs.declared.who.Who.{Who}
 use Rattle.realm.specs.History.{History}
 use Rattle.realm.specs.Sessions.{who, live, has_id, id_in_use, joined}
-use Rattle.realm.specs.Live.{session_of, others, AreApart}
+use Rattle.realm.specs.Live.{session_of, others, AreByConn}
 use Rattle.realm.proofs.Numbers.{list_any-true}
 use Rattle.realm.proofs.Joined.{live-joined}
 use Rattle.realm.proofs.Following.{any-here}
+use Rattle.realm.proofs.Ordered.{below-none}
 
 true_false : (a : Bool) → a ≡ true → a ≡ false → ⊥
 true_false true is is_not = cc
@@ -59,42 +60,14 @@ others-one-fewer c (v ∷ ws) w is = at (eqb v.conn c) is (others-few c ws) (λ 
     at true e few rest = omega arith
     at false e few rest = let fewer : length (others c ws) + 1 ≤ length ws = rest e in omega arith
 
--- one session more
-pub added-of : (w : Who) (d : ℕ) (ws : List Who) → session_of ws w.conn ≡ None → session_of (ws ++ w ∷ []) d ≡ cond (eqb w.conn d) (Some w) (session_of ws d)
-added-of w d [] free = refl
-added-of w d (v ∷ ws) free = at (eqb v.conn w.conn) refl (eqb v.conn d) refl (eqb w.conn d) refl free (added-of w d ws)
-  where
-    at : (own : Bool) → eqb v.conn w.conn ≡ own → (asked : Bool) → eqb v.conn d ≡ asked → (same : Bool) → eqb w.conn d ≡ same
-        → cond own (Some v) (session_of ws w.conn) ≡ None
-        → (session_of ws w.conn ≡ None → session_of (ws ++ w ∷ []) d ≡ cond (eqb w.conn d) (Some w) (session_of ws d))
-        → cond asked (Some v) (session_of (ws ++ w ∷ []) d) ≡ cond same (Some w) (cond asked (Some v) (session_of ws d))
-    at true is asked asked_is same same_is vacant rest = absurd (cc)
-    at false is true asked_is true same_is vacant rest =
-        absurd (true_false (eqb v.conn w.conn) (eq-eqb v.conn w.conn (eqb-true v.conn d asked_is ∙ sym (eqb-true w.conn d same_is))) is)
-    at false is true asked_is false same_is vacant rest = refl
-    at false is false asked_is true same_is vacant rest = rest vacant ∙ rw same_is refl
-    at false is false asked_is false same_is vacant rest = rest vacant ∙ rw same_is refl
+-- each connection stands once
+abbrev AreApart : List Who → Type 0
+AreApart [] = Unit {0}
+AreApart (w ∷ ws) = (session_of ws w.conn ≡ None) × AreApart ws
 
-pub apart-others : (c : ℕ) (ws : List Who) → AreApart ws → AreApart (others c ws)
-apart-others c [] apart = tt
-apart-others c (w ∷ ws) apart = at (eqb w.conn c) (eqb c w.conn) (others-of c w.conn ws) (apart-others c ws apart.1)
-  where
-    at : (own same : Bool) → session_of (others c ws) w.conn ≡ cond same None (session_of ws w.conn) → AreApart (others c ws) → AreApart (cond (not own) (w ∷ others c ws) (others c ws))
-    at true same is rest = rest
-    at false true is rest = (is, rest)
-    at false false is rest = (is ∙ apart.0, rest)
-
-pub apart-added : (w : Who) (ws : List Who) → session_of ws w.conn ≡ None → AreApart ws → AreApart (ws ++ w ∷ [])
-apart-added w [] free apart = (refl, tt)
-apart-added w (v ∷ ws) free apart = at (eqb v.conn w.conn) refl free (λ vacant. apart-added w ws vacant apart.1)
-  where
-    other : eqb v.conn w.conn ≡ false → (b : Bool) → eqb w.conn v.conn ≡ b → cond b (Some w) (session_of ws v.conn) ≡ None
-    other is true same = absurd (true_false (eqb v.conn w.conn) (eq-eqb v.conn w.conn (sym (eqb-true w.conn v.conn same))) is)
-    other is false same = apart.0
-
-    at : (own : Bool) → eqb v.conn w.conn ≡ own → cond own (Some v) (session_of ws w.conn) ≡ None → (session_of ws w.conn ≡ None → AreApart (ws ++ w ∷ [])) → AreApart (v ∷ (ws ++ w ∷ []))
-    at true is vacant rest = absurd (cc)
-    at false is vacant rest = (added-of w v.conn ws vacant ∙ other is (eqb w.conn v.conn) refl, rest vacant)
+apart : (ws : List Who) → AreByConn ws → AreApart ws
+apart [] ordered = tt
+apart (w ∷ ws) ordered = (below-none w.conn ws ordered.0, apart ws ordered.1)
 
 -- a session of the list that has the id
 record Bearer (ws : List Who) (n : ℕ) : Type 0 where
@@ -134,12 +107,12 @@ pub eqb-comm : (a b : ℕ) → eqb a b ≡ eqb b a
 eqb-comm a b = both_ways (eqb a b) (eqb b a) (λ h. eq-eqb b a (sym (eqb-true a b h))) (λ h. eq-eqb a b (sym (eqb-true b a h)))
 
 -- the ids of the list are those of the live sessions
-pub ids : (h : History) (ws : List Who) → AreApart ws → ((c : ℕ) → session_of ws c ≡ who h c) → (n : ℕ) → list_any (λ w. eqb w.id n) ws ≡ id_in_use h n
-ids h ws apart agree n = both_ways (list_any (λ w. eqb w.id n) ws) (id_in_use h n) there back
+pub ids : (h : History) (ws : List Who) → AreByConn ws → ((c : ℕ) → session_of ws c ≡ who h c) → (n : ℕ) → list_any (λ w. eqb w.id n) ws ≡ id_in_use h n
+ids h ws ordered agree n = both_ways (list_any (λ w. eqb w.id n) ws) (id_in_use h n) there back
   where
     there : list_any (λ w. eqb w.id n) ws ≡ true → id_in_use h n ≡ true
     there any =
-        let b = bearer ws n apart any in
+        let b = bearer ws n (apart ws ordered) any in
         let is : who h b.session.conn ≡ Some b.session = sym (agree b.session.conn) ∙ b.listed in
         let lives : live h b.session.conn ≡ true = rw is refl in
         any-here (λ c. has_id n (who h c)) (joined h) b.session.conn (live-joined h b.session.conn lives) (rw is b.id)

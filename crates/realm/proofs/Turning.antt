@@ -1,5 +1,5 @@
 -- What the body gives for one entry is what the history yields, and what it keeps agrees afterwards.
-use Rattle.std.proofs.Common.{◌≡◌, ℕ, ◌+◌, ◌≤◌, arith, length-append, Bool, true, false, cond, ◌&&◌, eqb, List, [], ◌∷◌, ◌++◌, length, map, refl, sym, ap, subst, ◌∙◌, None, Some, Ok, Err, is_some, option_map}
+use Rattle.std.proofs.Common.{◌≡◌, ℕ, ◌+◌, ◌≤◌, arith, Bool, true, false, cond, ◌&&◌, eqb, List, [], ◌∷◌, ◌++◌, length, map, refl, sym, ap, subst, ◌∙◌, None, Some, Ok, Err, is_some, option_map}
 use Rattle.std.specs.Option.{option_to_list}
 use Rattle.std.specs.declared.option.Option.{Option}
 use Rattle.std.specs.declared.result.Result.{Result}
@@ -33,15 +33,16 @@ use Rattle.realm.specs.Publications.{Made, published, published_by, wishes_of, i
 use Rattle.realm.specs.Announcements.{arrival, departure}
 use Rattle.realm.specs.Yield.{yield, reply, events, events_of, sent_events, asked_events, publish_reply, unsubscribe_reply, welcome}
 use Rattle.realm.specs.Given.{GivesEach, GivesExactly}
-use Rattle.realm.specs.Live.{session_of, AreApart, may_join_by}
+use Rattle.realm.specs.Live.{session_of, AreByConn, added, may_join_by}
 use Rattle.realm.specs.Gifts.{all_for, all_events, put_first}
-use Rattle.realm.specs.Moves.{ended, admitted, IsJoined, HasLeft, refused, told, stored, IsPublished, IsSubscribed, held_by, wanted, retained_event, IsUnsubscribed, released}
+use Rattle.realm.specs.Moves.{admitted, IsJoined, HasLeft, HasBeenCut, refused, told, stored, IsPublished, IsSubscribed, held_by, wanted, retained_event, IsUnsubscribed, released}
 use Rattle.realm.specs.Agreeing.{Agrees}
 use Rattle.realm.specs.Turns.{Turned, Turns}
 use Rattle.realm.proofs.ForEach.{gives-own, gives-reply, gives-put, gives-same}
 use Rattle.realm.proofs.Handing.{gives-events}
 use Rattle.realm.specs.Words.{is_silent}
 use Rattle.realm.proofs.Living.{ids, others-fewer, others-one-fewer}
+use Rattle.realm.proofs.Ordered.{length-added}
 use Rattle.realm.proofs.Steps.{IsEnding, spoilt, gone, cut, closed, abort, goodbye, hello, ping, ping-held, ping-kept, publish, publish-held, subscribe, subscribe-kept, unsubscribe, unsubscribe-kept}
 use Rattle.realm.proofs.Agreement.{agrees-ended, agrees-kept, agrees-joined}
 use Rattle.realm.proofs.Unsubscribed.{After, left_by, unsubscribed, number-held}
@@ -51,8 +52,8 @@ use Rattle.realm.proofs.Subscribed.{ties, held-rows, room, follows, refused-hold
 no-more : (ws : List Who) → length ws ≤ length ws + 1
 no-more ws = omega arith
 
-one-more : (ws : List Who) (w : Who) → length (ws ++ w ∷ []) ≤ length ws + 1
-one-more ws w = let long : length (ws ++ w ∷ []) ≡ length ws + 1 = length-append ws (w ∷ []) in omega arith
+one-more : (ws : List Who) (w : Who) → length (added w ws) ≤ length ws + 1
+one-more ws w = let long : length (added w ws) ≡ length ws + 1 = length-added w ws in omega arith
 
 -- what is given where one publication is made
 session-lives : (h : History) (s : State) (c : ℕ) → Agrees h s → live h c ≡ true → (w : Who) × (who h c ≡ Some w)
@@ -99,7 +100,7 @@ gives-told h s e first p given agrees replies sends is =
 -- a Join
 admission-same : (h : History) (s : State) (c word : ℕ) (authid : Option (List ℕ)) → Agrees h s → admitted s c word authid ≡ admission h c word authid
 admission-same h s c word authid agrees =
-    ap (λ b. admission_by b c word (name_for authid) (role_for s.grants authid)) (ids h s.sessions agrees.apart agrees.sessions (id_of_word word))
+    ap (λ b. admission_by b c word (name_for authid) (role_for s.grants authid)) (ids h s.sessions agrees.ordered agrees.sessions (id_of_word word))
     ∙ ap (λ g. admission_by (id_in_use h (id_of_word word)) c word (name_for authid) (role_for g authid)) agrees.grants
 
 turned-joined : (h : History) (s t : State) (c word : ℕ) (authid : Option (List ℕ)) (given : List (ℕ × Item)) (r : Result Who Reason)
@@ -143,15 +144,13 @@ turns-spoilt s t c w given is h agrees come = turned-left h s t (Spoilt c w) w (
 pub turns-gone : (s t : State) (c w : ℕ) (given : List (ℕ × Item)) → HasLeft s c w None t given → Turns s (Gone c w) t given
 turns-gone s t c w given is h agrees come = turned-left h s t (Gone c w) w None given agrees come come refl (gone h c w) refl refl (λ d. refl) is
 
-pub turns-cut : (s t : State) (c w : ℕ) (given : List (ℕ × Item)) → HasLeft s c w None t given → Turns s (Cut c (Some w)) t given
-turns-cut s t c w given is h agrees come = turned-left h s t (Cut c (Some w)) w None given agrees come come refl (cut h c (Some w)) refl refl (λ d. refl) is
-
-pub turns-silent : (s t : State) (c : ℕ) (given : List (ℕ × Item)) → given ≡ [] → t ≡ ended s c → Turns s (Cut c None) t given
-turns-silent s t c given is ends h agrees come = record {
-  gives = gives-reply h (Cut c None) given is (λ d. refl);
-  agrees = rw ends (agrees-ended h (Cut c None) c s agrees come refl (cut h c None));
-  grown = rw ends (others-fewer c s.sessions);
-  shrunk = λ silent. let session = session-lives h s c agrees come in rw ends (others-one-fewer c s.sessions session.0 (agrees.sessions c ∙ session.1));
+pub turns-cut : (s t : State) (c : ℕ) (word : Option ℕ) (given : List (ℕ × Item)) → HasBeenCut s c word t given → Turns s (Cut c word) t given
+turns-cut s t c (Some w) given is h agrees come = turned-left h s t (Cut c (Some w)) w None given agrees come come refl (cut h c (Some w)) refl refl (λ d. refl) is
+turns-cut s t c None given is h agrees come = record {
+  gives = gives-reply h (Cut c None) given is.0 (λ d. refl);
+  agrees = rw is.1 (agrees-ended h (Cut c None) c s agrees come refl (cut h c None));
+  grown = rw is.1 (others-fewer c s.sessions);
+  shrunk = λ silent. let session = session-lives h s c agrees come in rw is.1 (others-one-fewer c s.sessions session.0 (agrees.sessions c ∙ session.1));
 }
 
 pub turns-closed : (s t : State) (c w : ℕ) (given : List (ℕ × Item)) → HasLeft s c w (Some (Goodbye SystemShutdown)) t given → Turns s (Closed c w) t given
@@ -323,7 +322,7 @@ turned-held h s t c word request options topic given w p (Some answered_as) agre
       agrees = rw is.1 (record {
         is_history = (agrees.is_history, come);
         grants = agrees.grants;
-        apart = agrees.apart;
+        ordered = agrees.ordered;
         sessions = λ d. agrees.sessions d ∙ sym ((subscribe h c word request options topic).who d);
         seated = agrees.seated;
         seats = agrees.seats;
@@ -367,7 +366,7 @@ turned-unsubscribed h s c word request n agrees come =
     at b is after = record {
       is_history = (agrees.is_history, come);
       grants = grants_same b;
-      apart = apart_same b;
+      ordered = ordered_same b;
       sessions = λ d. sessions_same b d ∙ sym ((unsubscribe h c word request n).who d);
       seated = seated_same b;
       seats = λ d. seats_same b d;
@@ -387,9 +386,9 @@ turned-unsubscribed h s c word request n agrees come =
         grants_same true = agrees.grants
         grants_same false = agrees.grants
 
-        apart_same : (x : Bool) → AreApart (released s c n x).sessions
-        apart_same true = agrees.apart
-        apart_same false = agrees.apart
+        ordered_same : (x : Bool) → AreByConn (released s c n x).sessions
+        ordered_same true = agrees.ordered
+        ordered_same false = agrees.ordered
 
         sessions_same : (x : Bool) (d : ℕ) → session_of (released s c n x).sessions d ≡ who h d
         sessions_same true d = agrees.sessions d

@@ -8,13 +8,13 @@ use Rattle.realm.specs.History.{History, grants_of}
 use Rattle.realm.specs.Sessions.{who, may_join, IsHistory}
 use Rattle.realm.specs.Subscriptions.{holds, opened, number_among}
 use Rattle.realm.specs.Publications.{retained}
-use Rattle.realm.specs.Live.{session_of, AreApart, may_join_by}
+use Rattle.realm.specs.Live.{session_of, AreByConn, may_join_by}
 
 -- s is what is to be kept after h
 pub record Agrees (h : History) (s : State) : Type 0 where
   pub is_history : IsHistory h
   pub grants : s.grants ≡ grants_of h
-  pub apart : AreApart s.sessions
+  pub ordered : AreByConn s.sessions
   pub sessions : (c : ℕ) → session_of s.sessions c ≡ who h c
   pub seated : length s.seats ≡ 256
   pub seats : (c : ℕ) → may_join_by s.seats c ≡ may_join h c

@@ -4,6 +4,7 @@ use Rattle.std.specs.List.{list_any}
 use Rattle.message_tree.specs.Data.{Entries}
 use Rattle.wamp_ids.specs.Numbers.{id_of_word}
 use Rattle.wamp_ids.specs.Pattern.{PatternText, matches}
+use Rattle.wamp_ids.specs.Uri.{is_reserved}
 use Rattle.eligibility.specs.declared.who.Who.{Who}
 use Rattle.eligibility.specs.Audience.{has_number}
 use Rattle.retained.specs.Retained.{of_topic}
@@ -185,3 +186,24 @@ PublishedUnderItsWord =
 -- what an entry gives is one list
 abbrev pub GivenOnce : Type 0
 GivenOnce = (h : History) (e : Entry) (xs ys : List (ℕ × Item)) → GivesExactly h e xs → GivesExactly h e ys → xs ≡ ys
+
+-- e, coming after h, brings a session, and p says so of it
+pub record HasCome (h : History) (e : Entry) (p : Publication) : Type 0 where
+  pub session : Who
+  pub word : ℕ
+  pub is : p ≡ arrival word session
+  pub before : who h session.conn ≡ None
+  pub after : who (h ▷ e) session.conn ≡ Some session
+
+-- e, coming after h, ends a session, and p says so of it
+pub record HasGone (h : History) (e : Entry) (p : Publication) : Type 0 where
+  pub session : Who
+  pub word : ℕ
+  pub is : p ≡ departure word session
+  pub before : who h session.conn ≡ Some session
+  pub after : who (h ▷ e) session.conn ≡ None
+
+-- what is published at a reserved topic is that a session has come or gone with the entry: nobody else publishes there
+abbrev pub AnnouncementsAreTrue : Type 0
+AnnouncementsAreTrue =
+    (h : History) (e : Entry) (p : Publication) → IsHistory (h ▷ e) → publication_of h e ≡ Some p → is_reserved p.topic ≡ true → HasCome h e p ⊎ HasGone h e p

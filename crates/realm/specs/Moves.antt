@@ -1,5 +1,5 @@
 -- What a realm keeps after an entry, in the terms of what it keeps.
-use Rattle.std.specs.Prelude.{ℕ, Bool, true, false, set, map, ◌≡◌, cond, ◌==◌, ◌-◌, List, [], ◌∷◌, ◌++◌, None, Some, Ok, Err}
+use Rattle.std.specs.Prelude.{ℕ, Bool, true, false, set, map, ◌≡◌, cond, ◌==◌, ◌-◌, List, [], ◌∷◌, None, Some, Ok, Err}
 use Rattle.std.specs.declared.option.Option.{Option}
 use Rattle.std.specs.declared.result.Result.{Result}
 use Rattle.std.specs.List.{list_any, filter}
@@ -22,7 +22,7 @@ use Rattle.realm.specs.Publications.{Made, made_by, admits}
 use Rattle.realm.specs.Announcements.{arrival, departure}
 use Rattle.realm.specs.Yield.{names_topic, unsubscribe_reply}
 use Rattle.realm.specs.Gifts.{all_for, all_events, put_before, put_first}
-use Rattle.realm.specs.Live.{session_of, others}
+use Rattle.realm.specs.Live.{session_of, others, added}
 
 -- after the session of c ended
 abbrev pub ended : State → ℕ → State
@@ -38,7 +38,7 @@ admitted s c word authid = admission_by (list_any (λ w. w.id == id_of_word word
 -- after a Join with this answer
 abbrev pub joined_by : State → ℕ → Result Who Reason → State
 joined_by s c (Err reason) = record s { seats = set s.seats (seat_of c - 1) (Some c) }
-joined_by s c (Ok w) = record s { seats = set s.seats (seat_of c - 1) (Some c); sessions = s.sessions ++ w ∷ [] }
+joined_by s c (Ok w) = record s { seats = set s.seats (seat_of c - 1) (Some c); sessions = added w s.sessions }
 
 abbrev pub is_some_true : Option Bool → Bool
 is_some_true None = false
@@ -112,3 +112,8 @@ IsJoined s c word r t given = (given ≡ welcomed s c word r) × (t ≡ joined_b
 abbrev pub HasLeft : State → ℕ → ℕ → Option Item → State → List (ℕ × Item) → Type 0
 HasLeft s c word last t given =
     ((w : Who) → session_of s.sessions c ≡ Some w → given ≡ put_first c last (all_events s.sessions s.index.rows (departure word w))) × (t ≡ ended s c)
+
+-- the session of c was cut: as one that has left, or, without a word, so that nobody is told
+abbrev pub HasBeenCut : State → ℕ → Option ℕ → State → List (ℕ × Item) → Type 0
+HasBeenCut s c None t given = (given ≡ []) × (t ≡ ended s c)
+HasBeenCut s c (Some word) t given = HasLeft s c word None t given

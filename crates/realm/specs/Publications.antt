@@ -52,9 +52,15 @@ published_by room word publisher topic args (Some wishes) =
     (cond (wishes.retained && not room) (Err RetainedFull)
     (Ok (made_by word publisher topic args wishes))))
 
+-- of a session; who has none says nothing, so the first case never comes up in a history
 abbrev pub by_publisher : Option Who → (Who → Result Made Reason) → Result Made Reason
 by_publisher None f = Err InvalidArgument
 by_publisher (Some w) f = f w
+
+-- what a PUBLISH of this session makes, or why it is refused, where these publications were kept before
+abbrev pub published_after : List Publication → Option Who → ℕ → Entries → List ℕ → Arguments → Result Made Reason
+published_after kept publisher word options topic args =
+    by_publisher publisher (λ w. published_by (may_be_retained kept topic) word w topic args (wishes_of options))
 
 abbrev pub if_retained : Result Made Reason → List Publication
 if_retained (Err reason) = []
@@ -64,7 +70,7 @@ if_retained (Ok made) = cond made.retained (made.publication ∷ []) []
 unfoldable pub kept : History → List Publication
 kept (begun grants) = []
 kept (h ▷ Said c word (Publish request options topic args)) =
-    if_retained (by_publisher (who h c) (λ w. published_by (may_be_retained (kept h) topic) word w topic args (wishes_of options))) ++ kept h
+    if_retained (published_after (kept h) (who h c) word options topic args) ++ kept h
 kept (h ▷ e) = kept h
 
 -- the retained publications after h: the last of each topic, in ascending bytes of the topics
@@ -73,8 +79,7 @@ retained h = retained_of (kept h)
 
 -- the answer to a PUBLISH of c that comes after h
 abbrev pub published : History → ℕ → ℕ → Entries → List ℕ → Arguments → Result Made Reason
-published h c word options topic args =
-    by_publisher (who h c) (λ w. published_by (may_be_retained (kept h) topic) word w topic args (wishes_of options))
+published h c word options topic args = published_after (kept h) (who h c) word options topic args
 
 -- the publication admits this receiver
 abbrev pub admits : Publication → Who → Bool

@@ -1,7 +1,7 @@
 ghost use Rattle.std.specs.Prelude.{◌≡◌, true, is_some, IfOk, IsOk, OnErr};
 ghost use Rattle.realm.specs.declared.entry.Entry.TheVariants as entries;
 ghost use Rattle.realm.specs.Live.{session_of};
-ghost use Rattle.realm.specs.Moves.{ended, HasLeft};
+ghost use Rattle.realm.specs.Moves.{ended, HasBeenCut, HasLeft};
 ghost use Rattle.realm.specs.Turns.{Turns, may_turn};
 ghost use Rattle.realm.specs.Words.{is_silent};
 
@@ -49,7 +49,7 @@ fn leave(
 /// Cuts the session of the connection; without a word the others aren't told.
 fn cut(alloc: Global, state: &mut State, conn: Conn, word: Option<u64>) -> Result<Given, Fault>
     requires { is_some (session_of state.old.sessions conn) ≡ true }
-    ensures ok { IfOk result (λ given. Turns state.old (entries.Cut conn word) state.new given.items) }
+    ensures ok { IfOk result (λ given. HasBeenCut state.old conn word state.new given.items) }
     ensures unchanged { OnErr result (state.new ≡ state.old) }
     ensures silent { is_silent (entries.Cut conn word) ≡ true → IsOk result }
 {

@@ -1,6 +1,6 @@
 //! What holds of every history, by the definitions alone. These functions do nothing: each is there
 //! for its contract.
-ghost use Rattle.realm.specs.Laws.{ArrivalsAreTold, DeparturesAreTold, EachSubscriptionOnce, EmptyEligibleReachesNobody, EventsAreAdmitted, EventsFollowSubscribed, EventsWhileSubscribed, ExcludedIsNotReached, GivenOnce, LastIsRetained, LeaverIsNotTold, NothingAfterAnEnding, NumbersNameOnePattern, OwedOnlyGrows, PublishedUnderItsWord, RetainedWasSent};
+ghost use Rattle.realm.specs.Laws.{AnnouncementsAreTrue, ArrivalsAreTold, DeparturesAreTold, EachSubscriptionOnce, EmptyEligibleReachesNobody, EventsAreAdmitted, EventsFollowSubscribed, EventsWhileSubscribed, ExcludedIsNotReached, GivenOnce, LastIsRetained, LeaverIsNotTold, NothingAfterAnEnding, NumbersNameOnePattern, OwedOnlyGrows, PublishedUnderItsWord, RetainedWasSent};
 
 /// A history that begins another owes each connection a list that begins what the other owes it.
 pub fn owed_only_grows()
@@ -35,6 +35,12 @@ pub fn each_subscription_once()
 pub fn sessions_are_announced()
     ensures come { ArrivalsAreTold }
     ensures gone { DeparturesAreTold }
+{}
+
+/// At a reserved topic nothing is published but that a session has come, or has gone, with the entry
+/// that publishes it.
+pub fn announcements_are_true()
+    ensures { AnnouncementsAreTrue }
 {}
 
 /// What an entry gives is one list: `GivesExactly` leaves no choice.

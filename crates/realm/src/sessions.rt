@@ -1,14 +1,14 @@
-ghost use Rattle.std.specs.Prelude.{◌≡◌, ◌==◌, ◌++◌, [], ◌∷◌, length, None, OnOk, OnErr};
+ghost use Rattle.std.specs.Prelude.{◌≡◌, ◌==◌, [], length, None, OnOk, OnErr, MatchResult};
 ghost use Rattle.std.specs.List.{list_any};
 ghost use Rattle.std.specs.Option.{option_copied};
-ghost use Rattle.realm.specs.Live.{session_of, others};
+ghost use Rattle.realm.specs.Live.{session_of, others, added, AreByConn, StandsAt, BelongsAt};
 
 use session::Who;
 use std::alloc::{AllocError, Global};
 use std::marker::Model;
 use wamp_ids::{Conn, Id};
 
-/// The live sessions. Contracts see a list of them, in which each connection stands once.
+/// The live sessions. Contracts see a list of them, ascending by connection.
 #[derive(Drop)]
 pub struct Sessions {
     live: Vec<Who>,
@@ -17,13 +17,13 @@ pub struct Sessions {
 impl Model for Sessions {
     ghost use Rattle.std.specs.Prelude.{List};
     ghost use Rattle.eligibility.specs.declared.who.Who.{Who};
-    ghost use Rattle.realm.specs.Live.{AreApart};
+    ghost use Rattle.realm.specs.Live.{AreByConn};
 
     ghost Value = { List Who };
 
     ghost view = { λ s. s.live.items };
 
-    ghost invariant = { λ s. AreApart s.live.items };
+    ghost invariant = { λ s. AreByConn s.live.items };
 }
 
 impl Sessions {
@@ -47,12 +47,10 @@ impl Sessions {
     pub fn find(&self, conn: Conn) -> Option<&Who>
         ensures { option_copied result ≡ session_of self.now conn }
     {
-        for who in &self.live {
-            if who.conn == conn {
-                return Some(who);
-            }
+        match place_of(&self.live, conn) {
+            Ok(place) => Some(&self.live[place]),
+            Err(_) => None,
         }
-        None
     }
 
     /// Whether a session has the id.
@@ -70,24 +68,29 @@ impl Sessions {
     /// One session more, of a connection that has none.
     pub fn add(&mut self, who: Who) -> Result<(), AllocError>
         requires { session_of self.old who.conn ≡ None }
-        ensures ok { OnOk result (self.new ≡ self.old ++ who ∷ []) }
+        ensures ok { OnOk result (self.new ≡ added who self.old) }
         ensures err { OnErr result (self.new ≡ self.old) }
     {
-        self.live.push(who)?;
-        Ok(())
+        match place_of(&self.live, who.conn) {
+            Ok(_) => unreachable!(),
+            Err(place) => Ok(self.live.insert(place, who)?),
+        }
     }
 
     /// Ends the session of the connection.
     pub fn remove(&mut self, conn: Conn)
         ensures { self.new ≡ others conn self.old }
     {
-        take_out(&mut self.live, conn);
+        if let Ok(place) = place_of(&self.live, conn) {
+            self.live.remove(place);
+        }
     }
 }
 
-/// Takes the sessions of the connection out of the list.
-fn take_out(live: &mut Vec<Who>, conn: Conn)
-    ensures { live.new.items ≡ others conn live.old.items }
+/// Where the session of the connection stands, or the place that it would have.
+fn place_of(live: &[Who], conn: Conn) -> Result<usize, usize>
+    requires { AreByConn live.now }
+    ensures { MatchResult result (λ i. StandsAt live.now i conn) (λ i. BelongsAt live.now i conn) }
 {
-    live.retain(|who| who.conn != conn);
+    live.binary_search_by_key(&conn.value(), |who| who.conn.value())
 }

@@ -1,15 +1,15 @@
 -- A publication put in its place.
-use Rattle.std.proofs.Common.{◌≡◌, ℕ, zero, suc, ◌<◌, ◌≤◌, Bool, true, false, ◌||◌, List, [], ◌∷◌, length, get_or, set, refl, sym, ap, ◌∙◌, subst, arith, ◌+◌, inl, inr, ltb, Ok, Err, is_ok}
+use Rattle.std.proofs.Common.{◌≡◌, ℕ, zero, suc, ◌<◌, ◌≤◌, Bool, true, false, ◌||◌, List, [], ◌∷◌, length, get_or, set, refl, sym, ap, ◌∙◌, subst, arith, add-one, ltb, Ok, Err, is_ok}
 use Rattle.std.specs.Prelude.{MatchResult}
 use Rattle.std.specs.declared.result.Result.{Result}
-use Rattle.std.proofs.lemmas.Bool.{cases_lt, le-ltb, lt-ltb, or_left, or_right}
-use Rattle.std.proofs.lemmas.List.{get_or_read}
+use Rattle.std.proofs.lemmas.Bool.{le-ltb, lt-ltb, or_left, or_right}
+use Rattle.std.proofs.lemmas.List.Sorted.{searchable_from_sorted}
 use Rattle.std.proofs.lemmas.Map.Text.{is_eq-slice_cmp}
 use Rattle.std.proofs.lemmas.Slice.Eq.{bytes_eq-Decides}
 use Rattle.std.specs.Cmp.Lexicographic.{slice_cmp}
 use Rattle.std.specs.List.{insert}
+use Rattle.std.specs.List.Sorted.{IsSearchInRange, IsBinarySearchResult}
 use Rattle.std.specs.Ordering.{nat_cmp, is_eq, is_lt, ordering_reverse}
-use Rattle.std.specs.declared.cmp.Ordering.TheVariants.{Equal, Greater}
 use Rattle.std.proofs.lemmas.Cmp.{nat_list_cmp_total}
 use Rattle.std.specs.Str.{bytes_eq}
 use Rattle.session.specs.declared.item.Publication.{Publication}
@@ -90,27 +90,27 @@ none-place (x ∷ xs) (suc i) t all before within after =
 pub none-at : (ps : List Publication) (i : ℕ) (t : List ℕ) → AreByTopic ps → GoesAt ps i t → has_topic t ps ≡ false
 none-at ps i t all goes = none-place ps i t all goes.before goes.within goes.after
 
--- ---- one step of the search for a place
+-- ---- a search by halves
 
-pub read-equal : (ps : List Publication) (i : ℕ) (q : Publication) (t : List ℕ) → i < length ps → q ≡ get_or ps i q → slice_cmp nat_cmp t q.topic ≡ Equal → IsAt ps i t
-read-equal ps i q t small is e = record {
-  within = small;
-  is = λ d. sym ((bytes_eq-Decides t (get_or ps i d).topic).0 (equal d));
+-- no topic is before the one that stands before it
+in-order : (ps : List Publication) (k : ℕ) (d : Publication) → AreByTopic ps → suc k < length ps → is_before (get_or ps (suc k) d).topic (get_or ps k d).topic ≡ false
+in-order [] k d all small = absurd (omega arith)
+in-order (p ∷ ps) zero d all small = before-not_back p.topic (get_or ps 0 d).topic (at-before p.topic ps 0 d all.0 (omega arith))
+in-order (p ∷ ps) (suc k) d all small = in-order ps k d all.1 (omega arith)
+
+pub found-place : (ps : List Publication) (t : List ℕ) (r : Result ℕ ℕ) → AreByTopic ps → IsSearchInRange r (length ps) → IsBinarySearchResult (λ p. slice_cmp nat_cmp p.topic t) ps r
+    → MatchResult r (λ i. IsAt ps i t) (λ i. GoesAt ps i t)
+found-place ps t (Ok i) all range equal = record {
+  within = range;
+  is = λ d. (bytes_eq-Decides (get_or ps i d).topic t).0 (sym (is_eq-slice_cmp (get_or ps i d).topic t) ∙ ap is_eq (equal d));
 }
-  where
-    equal : (d : Publication) → bytes_eq t (get_or ps i d).topic ≡ true
-    equal d = ap (λ r. bytes_eq t r.topic) (sym (get_or_read ps i q small is d)) ∙ sym (is_eq-slice_cmp t q.topic) ∙ ap is_eq e
-
-pub read-greater : (ps : List Publication) (i : ℕ) (q : Publication) (t : List ℕ) → i < length ps → q ≡ get_or ps i q → slice_cmp nat_cmp t q.topic ≡ Greater → FirstAreBefore ps i t → FirstAreBefore ps (i + 1) t
-read-greater ps i q t small is e before = λ k d within. elim (cases_lt k i) as (λ _. is_before (get_or ps k d).topic t ≡ true) [
-  | inl less ↦ before k d less
-  | inr more ↦
-      let same : i ≡ k = omega arith in
-      subst (λ n. is_before (get_or ps n d).topic t ≡ true) same (here d)
-]
-  where
-    here : (d : Publication) → is_before (get_or ps i d).topic t ≡ true
-    here d = ap (λ r. is_before r.topic t) (sym (get_or_read ps i q small is d)) ∙ ap is_lt (nat_list_cmp_total.antisymm q.topic t ∙ ap ordering_reverse e)
+found-place ps t (Err i) all range parted =
+    let sides = parted (searchable_from_sorted nat_list_cmp_total (λ p. p.topic) ps t (λ k d low small. rw add-one (in-order ps k d all (omega arith)))) in
+    record {
+      before = λ k d less. ap is_lt (sides.0 k d (omega arith) less);
+      within = range;
+      after = λ d small. ap is_lt (nat_list_cmp_total.antisymm t (get_or ps i d).topic ∙ ap ordering_reverse (sides.1 i d (omega arith) small));
+    }
 
 -- ---- room
 

@@ -1,5 +1,5 @@
 -- Of the publications that were to be retained, which ones are: the last of each topic.
-use Rattle.std.specs.Prelude.{◌≡◌, ℕ, Bool, true, cond, not, ◌||◌, nat_lt, ⊤, List, [], ◌∷◌, length}
+use Rattle.std.specs.Prelude.{◌≡◌, ◌≤◌, ℕ, Bool, true, cond, not, ◌||◌, nat_lt, ⊤, List, [], ◌∷◌, length}
 use Rattle.std.specs.List.{list_any, filter}
 use Rattle.std.specs.Ordering.{nat_cmp, is_lt}
 use Rattle.std.specs.Cmp.Lexicographic.{slice_cmp}
@@ -59,3 +59,8 @@ IsBeforeAll topic (q ∷ qs) = (is_before topic q.topic ≡ true) × IsBeforeAll
 abbrev pub AreByTopic : List Publication → Type 0
 AreByTopic [] = ⊤
 AreByTopic (p ∷ ps) = IsBeforeAll p.topic ps × AreByTopic ps
+
+-- what is true of each store
+pub record IsStore (ps : List Publication) : Type 0 where
+  pub ordered : AreByTopic ps
+  pub few : length ps ≤ 1000

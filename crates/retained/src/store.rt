@@ -1,5 +1,7 @@
-ghost use Rattle.std.specs.Prelude.{◌≡◌, ◌↔◌, [], true, false, Err, IfOk, IsOk, OnOk, OnErr, MatchResult};
+ghost use Rattle.std.specs.Prelude.{◌≡◌, ◌↔◌, ◌≤◌, [], true, false, length, Err, IfOk, IsOk, OnOk, OnErr, MatchResult};
+ghost use Rattle.std.specs.Cmp.Lexicographic.{slice_cmp};
 ghost use Rattle.std.specs.List.{filter};
+ghost use Rattle.std.specs.Ordering.{nat_cmp};
 ghost use Rattle.wamp_ids.specs.Pattern.{matches};
 ghost use Rattle.retained.specs.Places.{GoesAt, IsAt};
 ghost use Rattle.retained.specs.Retained.{AreByTopic, has_room, has_topic, set_topic};
@@ -16,7 +18,8 @@ use wamp_ids::Pattern;
 const MOST_RETAINED: usize = 1000;
 
 /// The retained publications of a realm: of each topic at most one, and of at most 1,000 topics.
-/// Contracts see them in strictly ascending order of the topics' bytes.
+/// Contracts see them in strictly ascending order of the topics' bytes, which is how they stand: a
+/// topic is found by halves.
 #[derive(Drop)]
 pub struct Store {
     publications: Vec<Shared<Publication>>,
@@ -25,7 +28,7 @@ pub struct Store {
 impl Model for Store {
     ghost use Rattle.std.specs.Coded.{coded_list};
     ghost use Rattle.std.specs.Prelude.{List};
-    ghost use Rattle.retained.specs.Retained.{AreByTopic};
+    ghost use Rattle.retained.specs.Retained.{IsStore};
     ghost use Rattle.session.specs.contracts.item.Publication.{the_row};
     ghost use Rattle.session.specs.declared.item.Publication.{Publication};
 
@@ -35,7 +38,7 @@ impl Model for Store {
 
     ghost view = { λ s. s.publications.items };
 
-    ghost invariant = { λ s. AreByTopic s.publications.items };
+    ghost invariant = { λ s. IsStore s.publications.items };
 }
 
 impl Store {
@@ -66,6 +69,7 @@ impl Store {
         ensures full { (result ≡ Err Fault.RetainedFull) ↔ (has_room self.old publication.topic ≡ false) }
         ensures replaced { has_topic publication.topic self.old ≡ true → IsOk result }
         ensures unchanged { OnErr result (self.new ≡ self.old) }
+        ensures few { length self.new ≤ 1000 }
     {
         match place_of(&self.publications, publication.value().topic.text()) {
             Ok(place) => {
@@ -104,16 +108,17 @@ impl Store {
     }
 }
 
+/// How the publication's topic compares with another topic, by their bytes.
+fn compare(publication: &Shared<Publication>, topic: &str) -> Ordering
+    ensures { result ≡ slice_cmp nat_cmp publication.now.topic topic.now }
+{
+    publication.value().topic.text().cmp(topic)
+}
+
 /// Where the topic is among publications in order, or where it goes.
 fn place_of(publications: &[Shared<Publication>], topic: &str) -> Result<usize, usize>
+    requires { AreByTopic publications.now }
     ensures { MatchResult result (λ i. IsAt publications.now i topic.now) (λ i. GoesAt publications.now i topic.now) }
 {
-    for i in 0..publications.len() {
-        match topic.cmp(publications[i].value().topic.text()) {
-            Ordering::Less => return Err(i),
-            Ordering::Equal => return Ok(i),
-            Ordering::Greater => {}
-        }
-    }
-    Err(publications.len())
+    publications.binary_search_by(|publication| compare(publication, topic))
 }

@@ -1,5 +1,5 @@
 use Rattle.std.proofs.lemmas.Result.{IfOk-weaker}
-use Rattle.realm.proofs.Turning.{turns-joined, turns-ping, turns-spoilt, turns-gone, turns-closed}
+use Rattle.realm.proofs.Turning.{turns-joined, turns-ping, turns-spoilt, turns-gone, turns-cut, turns-closed}
 use Rattle.realm.proofs.answering.answer.Goals as goal
 
 pub returns-in-Join-clause-ok : goal.returns-in-Join-clause-ok
@@ -25,6 +25,12 @@ returns-in-Gone-clause-ok c =
     rw c.in-Gone.is (IfOk-weaker c.leave-in-Gone.result _ _
     (λ given is. turns-gone c.args.state.now c.leave-in-Gone.new.state c.in-Gone.conn c.in-Gone.word given.items is)
     c.leave-in-Gone.ensures.ok)
+
+pub returns-in-Cut-clause-ok : goal.returns-in-Cut-clause-ok
+returns-in-Cut-clause-ok c =
+    rw c.in-Cut.is (IfOk-weaker c.cut.result _ _
+    (λ given is. turns-cut c.args.state.now c.cut.new.state c.in-Cut.conn c.in-Cut.word given.items is)
+    c.cut.ensures.ok)
 
 pub returns-in-Closed-clause-ok : goal.returns-in-Closed-clause-ok
 returns-in-Closed-clause-ok c =

@@ -1,20 +1,12 @@
-use Rattle.std.proofs.Common.{◌≡◌, sym, ap, ◌∙◌}
+use Rattle.std.proofs.Common.{rules}
+use Rattle.std.proofs.lemmas.Fn.{always_returns_same}
 use Rattle.std.specs.Cmp.Lexicographic.{slice_cmp}
 use Rattle.std.specs.Ordering.{nat_cmp}
-use Rattle.std.specs.declared.cmp.Ordering.TheVariants.{Equal, Greater}
-use Rattle.retained.proofs.Putting.{read-equal, read-greater}
+use Rattle.retained.proofs.Putting.{found-place}
 use Rattle.retained.proofs.store.place_of.Goals as goal
 
-pub returns-in-Equal : goal.returns-in-Equal
-returns-in-Equal c =
-    let read = c.text.ensures.same ∙ ap (λ p. p.topic) c.value.ensures in
-    let e : slice_cmp nat_cmp c.args.topic.now c.index-publications-i.result.topic ≡ Equal =
-    ap (slice_cmp nat_cmp c.args.topic.now) (sym read) ∙ sym c.cmp.ensures ∙ c.in-Equal.is in
-    read-equal c.args.publications.now c.loop-i.i c.index-publications-i.result c.args.topic.now c.loop-i-test.true c.index-publications-i.is e
-
-pub loop-i-preserved : goal.loop-i-preserved
-loop-i-preserved c =
-    let read = c.text.ensures.same ∙ ap (λ p. p.topic) c.value.ensures in
-    let e : slice_cmp nat_cmp c.args.topic.now c.index-publications-i.result.topic ≡ Greater =
-    ap (slice_cmp nat_cmp c.args.topic.now) (sym read) ∙ sym c.cmp.ensures ∙ c.in-Greater.is in
-    read-greater c.args.publications.now c.loop-i.i c.index-publications-i.result c.args.topic.now c.loop-i-test.true c.index-publications-i.is e c.loop-i.invariant
+-- the closure compares a publication's topic with the topic that is looked for
+pub returns : goal.returns
+returns c =
+    let halves = c.binary_search_by.ensures in
+    found-place _ _ _ c.requires halves.bound (halves.position (λ p. slice_cmp nat_cmp p.topic c.args.topic.now) (always_returns_same _ _ _ (λ p o g called. search rules)))

@@ -8,4 +8,4 @@ pub returns-clause-order : goal.returns-clause-order
 returns-clause-order c =
     let whole = take_all c.loop-publication.publication-index c.deref-publication-items.result.now c.loop-publication-test.false ∙ c.deref-publication-items.ensures.value in
     rw (c.loop-publication.invariant, whole)
-    (AreByTopic-filter (λ p. matches c.args.pattern.now p.topic) c.self.inside.publications.items c.self.invariant)
+    (AreByTopic-filter (λ p. matches c.args.pattern.now p.topic) c.self.inside.publications.items c.self.invariant.ordered)
