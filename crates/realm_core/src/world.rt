@@ -1,4 +1,4 @@
-ghost use Rattle.std.specs.Prelude.{◌≡◌, ◌≤◌, ◌<◌, ◌++◌, ℕ, true, [], take, length, vec_len, vec_capacity, IfOk, OnOk, OnErr, MatchOption};
+ghost use Rattle.std.specs.Prelude.{◌≡◌, ◌≤◌, ◌<◌, ◌++◌, ℕ, true, false, [], take, length, vec_len, vec_capacity, IfOk, OnOk, OnErr, MatchOption};
 ghost use Rattle.realm.specs.declared.fault.Fault.TheVariants.{NoMemory};
 ghost use Rattle.realm.specs.Granting.{pairs_of};
 ghost use Rattle.realm.specs.History.{◌▷◌};
@@ -9,11 +9,9 @@ ghost use Rattle.realm_core.specs.Worlds.{new_world, Moves, Reaches};
 ghost use Rattle.realm_core.specs.Delivery.{Delivers};
 ghost use Rattle.realm_core.specs.Runs.{taker_of, taken_with, Advances};
 
-use realm::Entry;
 use crate::exchange::Exchange;
-use realm::Fault;
-use realm::RealmConfig;
 use crate::step::{Step, Stepped};
+use realm::{Entry, Fault, RealmConfig};
 use session::Item;
 use std::alloc::Global;
 use std::collections::VecDeque;
@@ -145,7 +143,8 @@ impl World {
 
     /// Whether nothing waits, nobody was found full, and there is room for a post and an item.
     pub fn is_at_rest(&self) -> bool
-        ensures { result ≡ true → IsAtRest self.now }
+        ensures rests { result ≡ true → IsAtRest self.now }
+        ensures moves { result ≡ false → IsAtRest self.now → ⊥ }
     {
         self.exchange.is_at_rest()
     }
