@@ -1,6 +1,6 @@
 ghost use Rattle.std.specs.Prelude.{◌≡◌, ◌≤◌, true, false, [], MatchOption, IfOk, OnErr};
 ghost use Rattle.realm.specs.Granting.{pairs_of};
-ghost use Rattle.realm.specs.Sessions.{live};
+ghost use Rattle.realm.specs.Sessions.{live, may_come};
 ghost use Rattle.realm_core.specs.Marks.{NoneJoinsAgain};
 ghost use Rattle.realm_core.specs.Rest.{IsAtRest, IsFirstOf};
 ghost use Rattle.realm_core.specs.Worlds.{new_world, Posts, Accepts, Loses, Pushes, Takes, Leaves, Moves};
@@ -87,6 +87,13 @@ impl Exchange {
         self.realm.is_live(conn)
     }
 
+    /// Whether the entry may come next.
+    pub fn may_come(&self, entry: &Entry) -> bool
+        ensures { result ≡ may_come self.now.history entry.now }
+    {
+        self.realm.may_come(entry)
+    }
+
     /// Puts the entry at the back of the inbox.
     pub fn post(&mut self, entry: Entry) -> Result<Stepped, Fault>
         ensures moves { IfOk result (λ stepped. Posts self.old entry stepped self.new) }
@@ -139,7 +146,8 @@ impl Exchange {
             remove_front(&mut self.inbox);
             return Ok(Stepped::Lost);
         }
-        let given = self.realm.apply(alloc, Entry::Cut { conn, word })?;
+        let cut = Entry::Cut { conn, word };
+        let given = self.realm.apply(alloc, cut)?;
         self.pushing = VecDeque::from_vec(given);
         self.lost.push_reserved(seen);
         remove_front(&mut self.inbox);

@@ -100,9 +100,9 @@ pub fn next_post<'a>(
     ensures { FrontIs (option_copied result) (unless_any pushing.now.items (unless_any (filter (live realm.now) marks.now) inbox.now.items)) (drop 1 inbox.now.items) }
 {
     match first(pushing) {
-        Some(_) => None,
+        Some(_waits) => None,
         None => match least_live(realm, marks) {
-            Some(_) => None,
+            Some(_marked) => None,
             None => front(inbox),
         },
     }

@@ -80,6 +80,14 @@ impl World {
         self.exchange.is_live(conn)
     }
 
+    /// Whether the entry may come next: a Join whose number is greater than that of every earlier
+    /// Join with the same seat, or another entry of a connection that is live.
+    pub fn may_come(&self, entry: &Entry) -> bool
+        ensures { result ≡ may_come self.now.history entry.now }
+    {
+        self.exchange.may_come(entry)
+    }
+
     /// What holds of every world: what each session's writer took is a beginning of what the realm's
     /// history owes that session, and all that is owed was added, unless the session was found full.
     pub fn shows(&self)
