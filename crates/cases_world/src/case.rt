@@ -1,11 +1,12 @@
+ghost use Rattle.std.specs.Prelude.{◌≤◌, IfSome};
+
 use crate::churning::churn;
 use crate::entries::{entry_of, step_of};
 use crate::telling::{given_text, outcome_text, run_text};
 use crate::words::{conn, line_of, number, part};
 use realm_core::{Entry, RealmConfig, Step, World};
 use std::alloc::Global;
-use std::io;
-use std::mem;
+use std::{io, mem};
 use wamp_ids::Topic;
 
 /// A world, the grants with which it is made, and the steps that were kept for a run.
@@ -71,7 +72,10 @@ impl Case {
     }
 }
 
-fn capacity(text: &str) -> Option<usize> {
+/// A capacity of at least 1.
+fn capacity(text: &str) -> Option<usize>
+    ensures { IfSome result (λ capacity. 1 ≤ capacity) }
+{
     match number(text) {
         Some(number) => {
             if number == 0 || number > 1024 {

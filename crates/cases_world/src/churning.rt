@@ -14,7 +14,13 @@ fn make(world: &mut World, alloc: Global, step: Step) -> Result<u64, Fault> {
 }
 
 /// A session joins, is sent a PING that finds its queue full, is cut and drained.
-fn turn(world: &mut World, alloc: Global, conn: Conn, word: u64, ping: Octets) -> Result<u64, Fault> {
+fn turn(
+    world: &mut World,
+    alloc: Global,
+    conn: Conn,
+    word: u64,
+    ping: Octets,
+) -> Result<u64, Fault> {
     let authid = None;
     make(world, alloc, Step::Post(Entry::Join { conn, word, authid }))?;
     make(world, alloc, Step::Accept)?;

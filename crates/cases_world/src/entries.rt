@@ -31,9 +31,13 @@ fn spoken(alloc: Global, text: &str) -> Option<Said> {
 }
 
 fn said(alloc: Global, text: &str) -> Option<Entry> {
-    let (conn, word, message) = conn_and_word(text)?;
-    let said = spoken(alloc, message)?;
-    Some(Entry::Said { conn, word, said })
+    let Some((conn, word, message)) = conn_and_word(text) else {
+        return None;
+    };
+    match spoken(alloc, message) {
+        None => None,
+        Some(said) => Some(Entry::Said { conn, word, said }),
+    }
 }
 
 fn ping(alloc: Global, text: &str) -> io::Result<Option<Entry>> {
@@ -60,7 +64,9 @@ fn cut(text: &str) -> Option<Entry> {
 
 /// An ending that draws a word.
 fn ending(kind: &str, text: &str) -> Option<Entry> {
-    let (conn, word, _) = conn_and_word(text)?;
+    let Some((conn, word, _)) = conn_and_word(text) else {
+        return None;
+    };
     match kind {
         "spoilt" => Some(Entry::Spoilt { conn, word }),
         "gone" => Some(Entry::Gone { conn, word }),

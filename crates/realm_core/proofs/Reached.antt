@@ -281,9 +281,12 @@ pub delivers : EventsFollowSubscribed → EventsAreAdmitted → EventsWhileSubsc
 delivers follow admitted subscribed w s = record {
   is_history = s.is_history;
   taken = taken-begins-owed w s;
+  taken_of_added = s.queued.begins;
+  added_of_owed = s.owing.begins;
   due = takes-what-is-due admitted subscribed w s.is_history (taken-begins-owed w s);
   subscribed_first = subscribed-first follow w s;
-  all_added = all-is-there w s;
+  all_added = s.owing.all;
+  all_there = all-is-there w s;
   cuts = cuts-have-causes w s;
   order = keeps-order w s;
 }
