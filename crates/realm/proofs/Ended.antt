@@ -17,7 +17,7 @@ use Rattle.realm.specs.Subscriptions.{held}
 use Rattle.realm.proofs.Joined.{live-joined}
 use Rattle.realm.specs.Yield.{yield, events, publication_of, sent_events}
 
-abbrev has : List ℕ → ℕ → Bool
+abbrev pub has : List ℕ → ℕ → Bool
 has xs c = list_any (λ x. eqb x c) xs
 
 -- c has joined, and is not live
@@ -114,7 +114,7 @@ sent-none : (o : Option Publication) (hs : List (ℕ × PatternText)) → sent_e
 sent-none None hs = refl
 sent-none (Some p) hs = refl
 
-no_events : (k : History) (f : Entry) (c : ℕ) → who k c ≡ None → eqb (conn_of f) c ≡ false → events k f c ≡ []
+pub no_events : (k : History) (f : Entry) (c : ℕ) → who k c ≡ None → eqb (conn_of f) c ≡ false → events k f c ≡ []
 no_events k (Said d word (Subscribe request options topic)) c ended elsewhere = rw elsewhere refl
 no_events k f c ended elsewhere = ap (λ o. sent_events (publication_of k f) o (held k c)) ended ∙ sent-none (publication_of k f) (held k c)
 

@@ -1,58 +1,13 @@
--- The first for one connection, and the least of some.
-use Rattle.std.proofs.Common.{◌≡◌, ℕ, suc, ◌+◌, ◌≤◌, ◌<◌, Bool, true, false, cond, eqb, leb, ◌||◌, List, [], ◌∷◌, ◌++◌, length, take, drop, get_or, refl, sym, ap, subst, ◌∙◌, append-nil, arith, None, Some, is_some, inl, inr}
+-- The first of some, and the least of some.
+use Rattle.std.proofs.Common.{◌≡◌, ℕ, ◌≤◌, Bool, true, false, cond, eqb, leb, ◌||◌, List, [], ◌∷◌, refl, sym, ap, arith, None, Some, is_some, inl, inr}
 use Rattle.std.specs.declared.option.Option.{Option}
 use Rattle.std.specs.Option.{MatchOption}
-use Rattle.std.specs.Prelude.{◌⊎◌, remove, unwrap_or}
+use Rattle.std.specs.Prelude.{◌⊎◌, unwrap_or}
 use Rattle.std.proofs.lemmas.Bool.{eqb-true, eq-eqb, or_cases, or_left, or_right}
 use Rattle.std.proofs.lemmas.Bool.Decides.{nat_tests}
-use Rattle.std.proofs.lemmas.List.{take_more}
-use Rattle.std.proofs.Math.Seq.{split_at}
-use Rattle.session.specs.declared.item.Item.{Item}
-use Rattle.realm.specs.Given.{items_for}
 use Rattle.realm_core.specs.Worlds.{is_in, unless_any, IsLeast}
 use Rattle.realm.specs.declared.entry.Entry.{Entry}
-use Rattle.realm_core.specs.Queues.{FrontIs, IsFirstFor, TakesOut, least_of}
-use Rattle.realm_core.proofs.ItemLists.{if_for, items_for-cons, items_for-append, items_for-last}
-
--- one more that is passed over
-pub none-more : (c i : ℕ) (xs : List (ℕ × Item)) (x : ℕ × Item) → i < length xs → x ≡ get_or xs i x → eqb x.0 c ≡ false → items_for c (take i xs) ≡ [] → items_for c (take (i + 1) xs) ≡ []
-none-more c i xs x within is other before =
-    ap (items_for c) (take_more xs i x within)
-    ∙ ap (λ y. items_for c (take i xs ++ y ∷ [])) (sym is)
-    ∙ items_for-last c x.0 x.1 (take i xs)
-    ∙ ap (λ b. items_for c (take i xs) ++ cond b (x.1 ∷ []) []) other
-    ∙ append-nil (items_for c (take i xs))
-    ∙ before
-
--- what is taken out stood first
-pub takes-out : (c place : ℕ) (xs : List (ℕ × Item)) (x : ℕ × Item) → IsFirstFor c place xs → x ≡ get_or xs place x → TakesOut c xs x (remove xs place)
-takes-out c place xs x first is = record { conn = ap (λ (y : ℕ × Item). y.0) is ∙ first.there x; each = each }
-  where
-    before : List (ℕ × Item)
-    before = take place xs
-
-    after : List (ℕ × Item)
-    after = drop (suc place) xs
-
-    conn : x.0 ≡ c
-    conn = ap (λ (y : ℕ × Item). y.0) is ∙ first.there x
-
-    -- for another connection it counts nothing, and for this one nothing stands before it
-    swap : (d : ℕ) (b : Bool) → eqb x.0 d ≡ b → items_for d before ++ (cond b (x.1 ∷ []) [] ++ items_for d after) ≡ cond b (x.1 ∷ []) [] ++ (items_for d before ++ items_for d after)
-    swap d true here =
-        let same : c ≡ d = sym conn ∙ eqb-true x.0 d here in
-        let nothing : items_for d before ≡ [] = subst (λ n. items_for n before ≡ []) same first.none_before in
-        rw nothing refl
-    swap d false elsewhere = refl
-
-    each : (d : ℕ) → items_for d xs ≡ items_for d (x ∷ []) ++ items_for d (remove xs place)
-    each d =
-        ap (items_for d) (split_at xs place x first.within)
-        ∙ ap (λ y. items_for d (before ++ y ∷ after)) (sym is)
-        ∙ items_for-append d before (x ∷ after)
-        ∙ ap (λ l. items_for d before ++ l) (items_for-cons d x.0 x.1 after)
-        ∙ swap d (eqb x.0 d) refl
-        ∙ ap (λ l. if_for d x.0 x.1 ++ l) (sym (items_for-append d before after))
+use Rattle.realm_core.specs.Queues.{FrontIs, least_of}
 
 -- the least of some is there, and is the least
 best-of : (best : Option ℕ) (cs : List ℕ) (b : ℕ) → least_of best cs ≡ Some b

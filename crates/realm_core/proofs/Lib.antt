@@ -1,5 +1,7 @@
 pub mod ItemLists
 pub mod Owing
+pub mod Marking
+pub mod Boxes
 pub mod Queued
 pub mod Ordered
 pub mod Causes

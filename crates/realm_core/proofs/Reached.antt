@@ -19,10 +19,12 @@ use Rattle.realm.specs.Laws.{BeginsList, EventsFollowSubscribed, EventsAreAdmitt
 use Rattle.realm_core.specs.Worlds.{Course, new_world, is_in, marked, unless_any, EntersIfLive, Posts, Accepts, Loses, Pushes, Takes, Leaves, Moves, Reaches, IsReached}
 use Rattle.realm_core.specs.PostedOrder.{said_by, posts_of, joins_first_alone, AreSome, KeepsPostedOrder}
 use Rattle.realm_core.specs.Delivery.{CutsHaveCauses, TakenBeginsOwed, TakesSubscribedFirst, AllIsThere, Delivers}
+use Rattle.realm_core.specs.Marks.{NoneJoinsAgain}
 use Rattle.realm_core.proofs.Owing.{Owing, owing-enters, owing-pushed, owing-found, owing-marked}
 use Rattle.realm_core.proofs.Queued.{Queued, queued-begun, queued-pushed, queued-taken}
 use Rattle.realm_core.proofs.Ordered.{Ordered, some-more, joins-before, order-begun, order-accepted, order-dropped, order-lost, order-cut, order-lost-cut}
 use Rattle.realm_core.proofs.Due.{takes-what-is-due}
+use Rattle.realm_core.proofs.Marking.{HaveJoined, joined-enters, joined-rest, joined-more}
 use Rattle.realm_core.proofs.Causes.{HaveCauses, causes-accepted, causes-handled, causes-lost, causes-lost-cut, causes-left, causes-marked, causes-posted}
 
 -- what holds of each world that a schedule makes
@@ -35,6 +37,7 @@ pub record Sound (w : Course) : Type 0 where
   pub owing : Owing w.history w.added w.pushing w.full
   pub causes : HaveCauses w.history w.full w.lost handled
   pub ordered : Ordered w.history handled
+  pub joined : HaveJoined w.history w.full w.pushing
 
 pub sound-new : (grants : Grants) (inbox_cap outbox_cap : ℕ) → Sound (new_world grants inbox_cap outbox_cap)
 sound-new grants inbox_cap outbox_cap = record {
@@ -45,9 +48,10 @@ sound-new grants inbox_cap outbox_cap = record {
   owing = record { begins = λ c. ([], refl); all = λ c free. refl };
   causes = λ c cut. absurd (cc);
   ordered = order-begun grants;
+  joined = record { found = λ c here. absurd (cc); pushed = λ c there. absurd (cc) };
 }
 
-unless-front : {X Y : Type 0} (xs : List X) (ys rest : List Y) (y : Y) → unless_any xs ys ≡ y ∷ rest → (xs ≡ []) × (ys ≡ y ∷ rest)
+pub unless-front : {X Y : Type 0} (xs : List X) (ys rest : List Y) (y : Y) → unless_any xs ys ≡ y ∷ rest → (xs ≡ []) × (ys ≡ y ∷ rest)
 unless-front [] ys rest y e = (refl, e)
 unless-front (x ∷ xs) ys rest y e = absurd (cc)
 
@@ -80,6 +84,7 @@ sound-posts w e Posted v s m = subst Sound (sym m.1) (record {
   owing = s.owing;
   causes = s.causes;
   ordered = s.ordered;
+  joined = s.joined;
 })
 sound-posts w e Idle v s m = subst Sound (sym m.1) s
 sound-posts w e stepped v s m = absurd m
@@ -97,6 +102,7 @@ sound-accepts w Accepted v s (e, rest, front, come, enters) =
       owing = owing-enters w.history e w.added enters.given w.full owing enters.exactly;
       causes = causes-accepted w.history w.full w.lost s.handled e s.causes;
       ordered = order-accepted w.history s.handled e s.ordered come;
+      joined = joined-enters w.history e w.full w.pushing enters.given come enters.exactly s.joined;
     })
 sound-accepts w Dropped v s (e, rest, front, refused, after) =
     let quiet = unless-front w.pushing (unless_any (marked w) w.inbox) rest e front in
@@ -109,6 +115,7 @@ sound-accepts w Dropped v s (e, rest, front, refused, after) =
       owing = s.owing;
       causes = causes-handled w.history w.full w.lost s.handled e s.causes;
       ordered = order-dropped w.history s.handled e s.ordered refused;
+      joined = s.joined;
     })
 sound-accepts w Idle v s m = subst Sound (sym m.1) s
 sound-accepts w stepped v s m = absurd m
@@ -129,6 +136,7 @@ sound-loses w word Lost v s (e, rest, front, loses) =
       owing = owing-enters w.history (Cut (conn_of e) word) w.added enters.given w.full (subst (λ l. Owing w.history w.added l w.full) nothing s.owing) enters.exactly;
       causes = causes-lost-cut w.history w.full w.lost s.handled e word s.causes;
       ordered = order-lost-cut w.history s.handled e word s.ordered;
+      joined = joined-enters w.history (Cut (conn_of e) word) w.full w.pushing enters.given is_live enters.exactly s.joined;
     })
     at nothing next false dead after = subst Sound (sym after) (record {
       handled = s.handled ++ e ∷ [];
@@ -138,6 +146,7 @@ sound-loses w word Lost v s (e, rest, front, loses) =
       owing = s.owing;
       causes = causes-lost w.history w.full w.lost s.handled e s.causes;
       ordered = order-lost w.history s.handled e s.ordered dead;
+      joined = s.joined;
     })
 sound-loses w word Idle v s m = subst Sound (sym m.1) s
 sound-loses w word stepped v s m = absurd m
@@ -151,6 +160,7 @@ sound-pushes w Pushed v s (c, item, rest, front, free, room, after) = subst Soun
   owing = owing-pushed w.history c item w.added rest w.full (subst (λ l. Owing w.history w.added l w.full) front s.owing) free;
   causes = s.causes;
   ordered = s.ordered;
+  joined = joined-rest w.history w.full w.pushing rest (c, item) front s.joined;
 })
 sound-pushes w FoundFull v s (c, item, rest, front, found) = elim found [
   | inl before ↦ subst Sound (sym before.1) (record {
@@ -161,6 +171,7 @@ sound-pushes w FoundFull v s (c, item, rest, front, found) = elim found [
     owing = owing-found w.history c item w.added rest w.full (subst (λ l. Owing w.history w.added l w.full) front s.owing) before.0;
     causes = s.causes;
     ordered = s.ordered;
+    joined = joined-rest w.history w.full w.pushing rest (c, item) front s.joined;
   })
   | inr now ↦ subst Sound (sym now.2) (record {
     handled = s.handled;
@@ -170,6 +181,7 @@ sound-pushes w FoundFull v s (c, item, rest, front, found) = elim found [
     owing = owing-marked w.history c item w.added rest w.full (subst (λ l. Owing w.history w.added l w.full) front s.owing);
     causes = causes-marked w.history w.full w.lost s.handled c s.causes;
     ordered = s.ordered;
+    joined = joined-more w.history w.full w.pushing rest c item front s.joined;
   })
 ]
 sound-pushes w Idle v s m = subst Sound (sym m.1) s
@@ -184,6 +196,7 @@ sound-takes w c (Took item) v s (rest, front, after) = subst Sound (sym after) (
   owing = s.owing;
   causes = s.causes;
   ordered = s.ordered;
+  joined = s.joined;
 })
 sound-takes w c Idle v s m = subst Sound (sym m.1) s
 sound-takes w c stepped v s m = absurd m
@@ -200,6 +213,7 @@ sound-leaves w word Left v s (c, least, enters) =
       owing = owing-enters w.history (Cut c word) w.added enters.given w.full (subst (λ l. Owing w.history w.added l w.full) quiet.0 s.owing) enters.exactly;
       causes = causes-left w.history w.full w.lost s.handled c word mark.0 s.causes;
       ordered = order-cut w.history s.handled c word s.ordered;
+      joined = joined-enters w.history (Cut c word) w.full w.pushing enters.given mark.1 enters.exactly s.joined;
     })
 sound-leaves w word Idle v s m = subst Sound (sym m.1) s
 sound-leaves w word stepped v s m = absurd m
@@ -218,6 +232,10 @@ sound-reached w (step ∷ steps) v s (stepped, u, moves, reaches) = sound-reache
 
 pub sound-of : (w : Course) → IsReached w → Sound w
 sound-of w r = sound-reached (new_world r.grants r.inbox_cap r.outbox_cap) r.steps w (sound-new r.grants r.inbox_cap r.outbox_cap) r.reaches
+
+-- whoever was found full joins no more
+pub none-joins-again : (w : Course) → IsReached w → NoneJoinsAgain w.history w.full
+none-joins-again w r = (sound-of w r).joined.found
 
 -- what follows from that
 begins-through : {X : Type 0} (xs ys zs : List X) → BeginsList xs ys → BeginsList ys zs → BeginsList xs zs
@@ -263,9 +281,12 @@ pub delivers : EventsFollowSubscribed → EventsAreAdmitted → EventsWhileSubsc
 delivers follow admitted subscribed w s = record {
   is_history = s.is_history;
   taken = taken-begins-owed w s;
+  taken_of_added = s.queued.begins;
+  added_of_owed = s.owing.begins;
   due = takes-what-is-due admitted subscribed w s.is_history (taken-begins-owed w s);
   subscribed_first = subscribed-first follow w s;
-  all_added = all-is-there w s;
+  all_added = s.owing.all;
+  all_there = all-is-there w s;
   cuts = cuts-have-causes w s;
   order = keeps-order w s;
 }

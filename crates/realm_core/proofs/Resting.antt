@@ -8,7 +8,7 @@ use Rattle.realm.specs.declared.entry.Entry.{Entry}
 use Rattle.realm_core.specs.declared.step.Step.TheVariants.{Post, Accept, Push, Take}
 use Rattle.realm_core.specs.declared.step.Stepped.{Stepped}
 use Rattle.realm_core.specs.declared.step.Stepped.TheVariants.{Posted, Accepted, Dropped, Pushed, FoundFull, Took, Idle}
-use Rattle.realm.specs.History.{History, ◌▷◌}
+use Rattle.realm.specs.History.{History}
 use Rattle.realm.specs.Sessions.{live, may_come}
 use Rattle.realm.specs.Given.{items_for, GivesExactly}
 use Rattle.realm_core.specs.Worlds.{Course, new_world, waiting, was_full, is_in, marked, unless_any, may_enter, Enters, Posts, Accepts, Pushes, Takes}

@@ -94,9 +94,12 @@ TakesWhatIsDue w =
 pub record Delivers (w : Course) : Type 0 where
   pub is_history : IsHistory w.history
   pub taken : TakenBeginsOwed w
+  pub taken_of_added : TakenBeginsAdded w
+  pub added_of_owed : AddedBeginsOwed w
   pub due : TakesWhatIsDue w
   pub subscribed_first : TakesSubscribedFirst w
-  pub all_added : AllIsThere w
+  pub all_added : AllWasAdded w
+  pub all_there : AllIsThere w
   pub cuts : CutsHaveCauses w
   pub order : KeepsPostedOrder w
 

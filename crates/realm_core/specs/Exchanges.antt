@@ -4,6 +4,8 @@ use Rattle.session.specs.declared.item.Item.{Item}
 use Rattle.realm_core.specs.declared.exchange.Exchange.TheInside.{Inside}
 use Rattle.realm.specs.Given.{items_for}
 use Rattle.realm_core.specs.Worlds.{Course}
+use Rattle.realm_core.specs.Outboxes.{Outboxes, outbox_of, AreFilled}
+use Rattle.realm_core.specs.Marks.{MarksAgree}
 
 abbrev pub course_of : Inside → Course
 course_of e = record {
@@ -14,14 +16,16 @@ course_of e = record {
   inbox = e.inbox.items;
   lost = map (λ s. s.value) e.lost.items;
   pushing = e.pushing.items;
-  full = e.full.items;
+  full = map (λ s. s.value) e.full.items;
   added = map (λ s. s.value) e.added.items;
   taken = map (λ s. s.value) e.taken.items;
 }
 
 -- what was added is what was taken, and then what waits
-abbrev pub AreBetween : List (ℕ × Item) → List (ℕ × Item) → List (ℕ × Item) → Type 0
-AreBetween added taken waiting = (c : ℕ) → items_for c added ≡ items_for c taken ++ items_for c waiting
+abbrev pub AreBetween : List (ℕ × Item) → List (ℕ × Item) → Outboxes → Type 0
+AreBetween added taken outboxes = (c : ℕ) → items_for c added ≡ items_for c taken ++ outbox_of outboxes c
 
-abbrev pub AgreesWith : Inside → Type 0
-AgreesWith e = AreBetween (map (λ s. s.value) e.added.items) (map (λ s. s.value) e.taken.items) e.waiting.items
+pub record AgreesWith (e : Inside) : Type 0 where
+  pub between : AreBetween (map (λ s. s.value) e.added.items) (map (λ s. s.value) e.taken.items) e.outboxes
+  pub filled : AreFilled e.outboxes
+  pub marked : MarksAgree e.realm e.pushing.items (map (λ s. s.value) e.full.items) e.marks.items

@@ -4,6 +4,8 @@ pub mod PostedOrder
 pub mod Delivery
 -- What only the body and its proofs speak of.
 pub mod Queues
+pub mod Outboxes
+pub mod Marks
 pub mod CourseCode
 pub mod Exchanges
 pub mod Runs

@@ -1,8 +1,7 @@
 ghost use Rattle.std.specs.Prelude.{◌≡◌, IfOk};
 
-use realm::Entry;
-use realm::Fault;
 use message_tree::Text;
+use realm::{Entry, Fault};
 use session::Said;
 use std::alloc::Global;
 

@@ -1,23 +1,26 @@
-ghost use Rattle.std.specs.Prelude.{◌≡◌, ◌≤◌, true, [], MatchOption, IfOk, OnErr};
+ghost use Rattle.std.specs.Prelude.{◌≡◌, ◌≤◌, true, false, [], MatchOption, IfOk, OnErr};
 ghost use Rattle.realm.specs.Granting.{pairs_of};
-ghost use Rattle.realm.specs.Sessions.{live};
+ghost use Rattle.realm.specs.Sessions.{live, may_come};
+ghost use Rattle.realm_core.specs.Marks.{NoneJoinsAgain};
 ghost use Rattle.realm_core.specs.Rest.{IsAtRest, IsFirstOf};
 ghost use Rattle.realm_core.specs.Worlds.{new_world, Posts, Accepts, Loses, Pushes, Takes, Leaves, Moves};
 
 use crate::copying::copy_of;
-use realm::Entry;
-use realm::Fault;
-use crate::queues::{count_for, first_conn, is_in, next_leaver, next_post, remove_front, take_out};
-use realm::{Realm, RealmConfig};
+use crate::outboxes::{Outboxes, add, are_empty, count_for, make_room, take};
+use crate::queues::{first_conn, is_in, next_leaver, next_post, remove_first, remove_front};
 use crate::step::{Step, Stepped};
+use realm::{Entry, Fault, Realm, RealmConfig};
 use session::Item;
 use std::alloc::Global;
-use std::collections::VecDeque;
+use std::collections::{BTreeMap, VecDeque};
 use std::marker::Model;
 use std::snapshot::Snapshot;
 use wamp_ids::Conn;
 
 /// A realm and what waits round it. Contracts see also all that went through, which takes no bytes.
+///
+/// The marks are those found full since an entry was last accepted: when one is, nobody else that
+/// was found full is live.
 #[derive(Drop)]
 pub struct Exchange {
     realm: Realm,
@@ -25,8 +28,9 @@ pub struct Exchange {
     outbox_cap: usize,
     inbox: VecDeque<Entry>,
     pushing: VecDeque<(Conn, Item)>,
-    waiting: Vec<(Conn, Item)>,
-    full: Vec<Conn>,
+    outboxes: Outboxes,
+    marks: Vec<Conn>,
+    full: Vec<Snapshot<Conn>>,
     posted: Vec<Snapshot<Entry>>,
     lost: Vec<Snapshot<Entry>>,
     added: Vec<Snapshot<(Conn, Item)>>,
@@ -66,7 +70,8 @@ impl Exchange {
             outbox_cap,
             inbox: VecDeque::new(alloc),
             pushing: VecDeque::new(alloc),
-            waiting: Vec::new(alloc),
+            outboxes: BTreeMap::new(alloc),
+            marks: Vec::new(alloc),
             full: Vec::new(alloc),
             posted: Vec::new(alloc),
             lost: Vec::new(alloc),
@@ -80,6 +85,13 @@ impl Exchange {
         ensures { result ≡ live self.now.history conn }
     {
         self.realm.is_live(conn)
+    }
+
+    /// Whether the entry may come next.
+    pub fn may_come(&self, entry: &Entry) -> bool
+        ensures { result ≡ may_come self.now.history entry.now }
+    {
+        self.realm.may_come(entry)
     }
 
     /// Puts the entry at the back of the inbox.
@@ -99,10 +111,11 @@ impl Exchange {
 
     /// Lets the front entry of the inbox enter the history.
     pub fn accept(&mut self, alloc: Global) -> Result<Stepped, Fault>
+        requires { NoneJoinsAgain self.old.history self.old.full }
         ensures moves { IfOk result (λ stepped. Accepts self.old stepped self.new) }
         ensures unchanged { OnErr result (self.new ≡ self.old) }
     {
-        let Some(entry) = next_post(&self.realm, &self.pushing, &self.full, &self.inbox) else {
+        let Some(entry) = next_post(&self.realm, &self.pushing, &self.marks, &self.inbox) else {
             return Ok(Stepped::Idle);
         };
         if !self.realm.may_come(entry) {
@@ -113,6 +126,7 @@ impl Exchange {
         let given = self.realm.apply(alloc, copy)?;
         self.pushing = VecDeque::from_vec(given);
         remove_front(&mut self.inbox);
+        self.marks.clear();
         Ok(Stepped::Accepted)
     }
 
@@ -121,7 +135,7 @@ impl Exchange {
         ensures moves { IfOk result (λ stepped. Loses self.old word stepped self.new) }
         ensures unchanged { OnErr result (self.new ≡ self.old) }
     {
-        let Some(entry) = next_post(&self.realm, &self.pushing, &self.full, &self.inbox) else {
+        let Some(entry) = next_post(&self.realm, &self.pushing, &self.marks, &self.inbox) else {
             return Ok(Stepped::Idle);
         };
         let conn = entry.conn();
@@ -132,7 +146,8 @@ impl Exchange {
             remove_front(&mut self.inbox);
             return Ok(Stepped::Lost);
         }
-        let given = self.realm.apply(alloc, Entry::Cut { conn, word })?;
+        let cut = Entry::Cut { conn, word };
+        let given = self.realm.apply(alloc, cut)?;
         self.pushing = VecDeque::from_vec(given);
         self.lost.push_reserved(seen);
         remove_front(&mut self.inbox);
@@ -140,25 +155,32 @@ impl Exchange {
     }
 
     /// Adds the first item that waits to be pushed to its session's queue.
-    pub fn push(&mut self) -> Result<Stepped, Fault>
+    pub fn push(&mut self, alloc: Global) -> Result<Stepped, Fault>
         ensures moves { IfOk result (λ stepped. Pushes self.old stepped self.new) }
         ensures unchanged { OnErr result (self.new ≡ self.old) }
     {
-        self.full.reserve(1)?;
-        self.added.reserve(1)?;
-        self.waiting.reserve(1)?;
-        let Some(pair) = self.pushing.pop_front() else {
+        let Some(conn) = first_conn(&self.pushing) else {
             return Ok(Stepped::Idle);
         };
-        if is_in(&self.full, pair.0) {
+        if is_in(&self.marks, conn) {
+            remove_first(&mut self.pushing);
             return Ok(Stepped::FoundFull);
         }
-        if count_for(&self.waiting, pair.0) >= self.outbox_cap {
-            self.full.push_reserved(pair.0);
+        if count_for(&self.outboxes, conn) >= self.outbox_cap {
+            self.marks.reserve(1)?;
+            self.full.reserve(1)?;
+            self.marks.push_reserved(conn);
+            self.full.push_reserved(Snapshot::of(&conn));
+            remove_first(&mut self.pushing);
             return Ok(Stepped::FoundFull);
         }
+        self.added.reserve(1)?;
+        make_room(&mut self.outboxes, alloc, conn)?;
+        let Some(pair) = self.pushing.pop_front() else {
+            unreachable!();
+        };
         self.added.push_reserved(Snapshot::of(&pair));
-        self.waiting.push_reserved(pair);
+        add(&mut self.outboxes, conn, pair.1);
         Ok(Stepped::Pushed)
     }
 
@@ -168,9 +190,10 @@ impl Exchange {
         ensures unchanged { OnErr result (self.new ≡ self.old) }
     {
         self.taken.reserve(1)?;
-        let Some(pair) = take_out(&mut self.waiting, conn) else {
+        let Some(item) = take(&mut self.outboxes, conn) else {
             return Ok(Stepped::Idle);
         };
+        let pair = (conn, item);
         self.taken.push_reserved(Snapshot::of(&pair));
         Ok(Stepped::Took(pair.1))
     }
@@ -180,7 +203,7 @@ impl Exchange {
         ensures moves { IfOk result (λ stepped. Leaves self.old word stepped self.new) }
         ensures unchanged { OnErr result (self.new ≡ self.old) }
     {
-        let Some(conn) = next_leaver(&self.realm, &self.pushing, &self.full) else {
+        let Some(conn) = next_leaver(&self.realm, &self.pushing, &self.marks) else {
             return Ok(Stepped::Idle);
         };
         let given = self.realm.apply(alloc, Entry::Cut { conn, word })?;
@@ -197,7 +220,8 @@ impl Exchange {
 
     /// Whether nothing waits, nobody was found full, and there is room for a post and an item.
     pub fn is_at_rest(&self) -> bool
-        ensures { result ≡ true → IsAtRest self.now }
+        ensures rests { result ≡ true → IsAtRest self.now }
+        ensures moves { result ≡ false → IsAtRest self.now → ⊥ }
     {
         if self.inbox_cap == 0 || self.outbox_cap == 0 {
             return false;
@@ -205,11 +229,12 @@ impl Exchange {
         if !self.inbox.is_empty() || !self.pushing.is_empty() {
             return false;
         }
-        self.full.is_empty() && self.waiting.is_empty()
+        self.full.is_empty() && are_empty(&self.outboxes)
     }
 
     /// Makes one step.
     pub fn step(&mut self, alloc: Global, step: Step) -> Result<Stepped, Fault>
+        requires { NoneJoinsAgain self.old.history self.old.full }
         ensures moves { IfOk result (λ stepped. Moves self.old step stepped self.new) }
         ensures unchanged { OnErr result (self.new ≡ self.old) }
     {
@@ -217,7 +242,7 @@ impl Exchange {
             Step::Post(entry) => self.post(entry),
             Step::Accept => self.accept(alloc),
             Step::Lose(word) => self.lose(alloc, word),
-            Step::Push => self.push(),
+            Step::Push => self.push(alloc),
             Step::Take(conn) => self.take(conn),
             Step::Leave(word) => self.leave(alloc, word),
         }

@@ -8,6 +8,7 @@
 mod copying;
 mod exchange;
 pub mod laws;
+mod outboxes;
 mod queues;
 mod step;
 mod world;

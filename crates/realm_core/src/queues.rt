@@ -1,14 +1,12 @@
-ghost use Rattle.std.specs.Prelude.{◌≡◌, ℕ, [], ◌∷◌, drop, length, MatchOption, IfNone, None};
+ghost use Rattle.std.specs.Prelude.{◌≡◌, ℕ, [], ◌∷◌, drop, MatchOption, None};
 ghost use Rattle.std.specs.List.{filter};
 ghost use Rattle.std.specs.Option.{option_copied};
 ghost use Rattle.realm.specs.Sessions.{live};
-ghost use Rattle.realm.specs.Given.{items_for};
 ghost use Rattle.realm_core.specs.Worlds.{is_in, unless_any, IsLeast};
 ghost use Rattle.realm_core.specs.Rest.{IsFirstOf};
-ghost use Rattle.realm_core.specs.Queues.{FrontIs, IsFirstFor, TakesOut, lesser, least_of};
+ghost use Rattle.realm_core.specs.Queues.{FrontIs, lesser, least_of};
 
-use realm::Entry;
-use realm::Realm;
+use realm::{Entry, Realm};
 use session::Item;
 use std::collections::VecDeque;
 use wamp_ids::Conn;
@@ -23,42 +21,6 @@ pub fn is_in(conns: &[Conn], conn: Conn) -> bool
         }
     }
     false
-}
-
-/// How many items wait for the connection.
-pub fn count_for(items: &[(Conn, Item)], conn: Conn) -> usize
-    ensures { result ≡ length (items_for conn items.now) }
-{
-    let mut count: usize = 0;
-    for pair in items {
-        if pair.0 == conn {
-            count += 1;
-        }
-    }
-    count
-}
-
-/// Where the first item for the connection is.
-fn place_of(items: &[(Conn, Item)], conn: Conn) -> Option<usize>
-    ensures { MatchOption result (items_for conn items.now ≡ []) (λ place. IsFirstFor conn place items.now) }
-{
-    for i in 0..items.len() {
-        if items[i].0 == conn {
-            return Some(i);
-        }
-    }
-    None
-}
-
-/// Takes the first item for the connection out.
-pub fn take_out(items: &mut Vec<(Conn, Item)>, conn: Conn) -> Option<(Conn, Item)>
-    ensures taken { MatchOption result (items_for conn items.old.items ≡ []) (λ pair. TakesOut conn items.old.items pair items.new.items) }
-    ensures nothing { IfNone result (items.new.items ≡ items.old.items) }
-{
-    match place_of(items, conn) {
-        None => None,
-        Some(place) => Some(items.remove(place)),
-    }
 }
 
 /// The lesser of two connections, where there are two.
@@ -121,30 +83,37 @@ pub fn remove_front(inbox: &mut VecDeque<Entry>)
     inbox.pop_front();
 }
 
+/// Lets the first item that waits to be pushed go, if there is one.
+pub fn remove_first(pushing: &mut VecDeque<(Conn, Item)>)
+    ensures { pushing.new.items ≡ drop 1 pushing.old.items }
+{
+    pushing.pop_front();
+}
+
 /// The front of the inbox, unless any item waits to be pushed or any of those connections is live.
 pub fn next_post<'a>(
     realm: &Realm,
     pushing: &VecDeque<(Conn, Item)>,
-    full: &[Conn],
+    marks: &[Conn],
     inbox: &'a VecDeque<Entry>,
 ) -> Option<&'a Entry>
-    ensures { FrontIs (option_copied result) (unless_any pushing.now.items (unless_any (filter (live realm.now) full.now) inbox.now.items)) (drop 1 inbox.now.items) }
+    ensures { FrontIs (option_copied result) (unless_any pushing.now.items (unless_any (filter (live realm.now) marks.now) inbox.now.items)) (drop 1 inbox.now.items) }
 {
     match first(pushing) {
-        Some(_) => None,
-        None => match least_live(realm, full) {
-            Some(_) => None,
+        Some(_waits) => None,
+        None => match least_live(realm, marks) {
+            Some(_marked) => None,
             None => front(inbox),
         },
     }
 }
 
 /// The least of those connections that are live, unless any item waits to be pushed.
-pub fn next_leaver(realm: &Realm, pushing: &VecDeque<(Conn, Item)>, full: &[Conn]) -> Option<Conn>
-    ensures { MatchOption result (unless_any pushing.now.items (filter (live realm.now) full.now) ≡ []) (λ c. IsLeast c (unless_any pushing.now.items (filter (live realm.now) full.now))) }
+pub fn next_leaver(realm: &Realm, pushing: &VecDeque<(Conn, Item)>, marks: &[Conn]) -> Option<Conn>
+    ensures { MatchOption result (unless_any pushing.now.items (filter (live realm.now) marks.now) ≡ []) (λ c. IsLeast c (unless_any pushing.now.items (filter (live realm.now) marks.now))) }
 {
     match first(pushing) {
         Some(_) => None,
-        None => least_live(realm, full),
+        None => least_live(realm, marks),
     }
 }

@@ -1,4 +1,4 @@
-ghost use Rattle.std.specs.Prelude.{◌≡◌, ◌≤◌, ◌<◌, ◌++◌, ℕ, true, [], take, length, vec_len, vec_capacity, IfOk, OnOk, OnErr, MatchOption};
+ghost use Rattle.std.specs.Prelude.{◌≡◌, ◌≤◌, ◌<◌, ◌++◌, ℕ, true, false, [], take, length, vec_len, vec_capacity, IfOk, OnOk, OnErr, MatchOption};
 ghost use Rattle.realm.specs.declared.fault.Fault.TheVariants.{NoMemory};
 ghost use Rattle.realm.specs.Granting.{pairs_of};
 ghost use Rattle.realm.specs.History.{◌▷◌};
@@ -9,11 +9,9 @@ ghost use Rattle.realm_core.specs.Worlds.{new_world, Moves, Reaches};
 ghost use Rattle.realm_core.specs.Delivery.{Delivers};
 ghost use Rattle.realm_core.specs.Runs.{taker_of, taken_with, Advances};
 
-use realm::Entry;
 use crate::exchange::Exchange;
-use realm::Fault;
-use realm::RealmConfig;
 use crate::step::{Step, Stepped};
+use realm::{Entry, Fault, RealmConfig};
 use session::Item;
 use std::alloc::Global;
 use std::collections::VecDeque;
@@ -82,6 +80,14 @@ impl World {
         self.exchange.is_live(conn)
     }
 
+    /// Whether the entry may come next: a Join whose number is greater than that of every earlier
+    /// Join with the same seat, or another entry of a connection that is live.
+    pub fn may_come(&self, entry: &Entry) -> bool
+        ensures { result ≡ may_come self.now.history entry.now }
+    {
+        self.exchange.may_come(entry)
+    }
+
     /// What holds of every world: what each session's writer took is a beginning of what the realm's
     /// history owes that session, and all that is owed was added, unless the session was found full.
     pub fn shows(&self)
@@ -145,7 +151,8 @@ impl World {
 
     /// Whether nothing waits, nobody was found full, and there is room for a post and an item.
     pub fn is_at_rest(&self) -> bool
-        ensures { result ≡ true → IsAtRest self.now }
+        ensures rests { result ≡ true → IsAtRest self.now }
+        ensures moves { result ≡ false → IsAtRest self.now → ⊥ }
     {
         self.exchange.is_at_rest()
     }

@@ -1,20 +1,19 @@
-use Rattle.std.proofs.Common.{◌≡◌, true, false, [], ◌∷◌, ◌++◌, drop, sym, ap, subst, ◌∙◌}
-use Rattle.std.specs.List.{filter}
+use Rattle.std.proofs.Common.{◌≡◌, true, false, [], ◌∷◌, ◌++◌, drop, refl, sym, ap, subst, ◌∙◌}
 use Rattle.realm.specs.declared.entry.Entry.TheVariants.{Cut}
 use Rattle.realm.specs.History.{◌▷◌}
 use Rattle.realm.specs.Sessions.{conn_of, live}
 use Rattle.realm.specs.Given.{GivesExactly}
 use Rattle.realm_core.specs.Exchanges.{course_of}
-use Rattle.realm_core.specs.Worlds.{may_enter, unless_any, EntersIfLive}
-use Rattle.realm_core.proofs.Exchanged.{seen, seen-last}
+use Rattle.realm_core.specs.Worlds.{may_enter, EntersIfLive}
+use Rattle.realm_core.proofs.Exchanged.{seen, seen-last, enters-by-marks}
+use Rattle.realm_core.proofs.Marking.{marks-cut, marked-as}
 use Rattle.realm_core.proofs.exchange.Exchange.lose.Goals as goal
 
 pub returns-then-not-is_live-clause-moves : goal.returns-then-not-is_live-clause-moves
 returns-then-not-is_live-clause-moves c =
     let i = c.self.inside in
     let e = c.in-Some.entry.now in
-    let front : may_enter (course_of i) ≡ e ∷ drop 1 i.inbox.items =
-    subst (λ full. unless_any i.pushing.items (unless_any (filter (live i.realm) full) i.inbox.items) ≡ e ∷ drop 1 i.inbox.items) c.deref.ensures.value c.in-Some.ensures in
+    let front : may_enter (course_of i) ≡ e ∷ drop 1 i.inbox.items = sym (enters-by-marks i c.deref.result.now c.self.invariant c.deref.ensures.value) ∙ c.in-Some.ensures in
     let dead : live i.realm (conn_of e) ≡ false = sym (c.is_live.ensures ∙ ap (live i.realm) c.conn-conn.ensures) ∙ c.if-not-is_live.true in
     let lost = seen-last i.lost.items c.push_reserved.new.self.items c.of-seen.result e (c.push_reserved.ensures.items ∙ ap (λ xs. xs ++ c.of-seen.result ∷ []) c.reserve.ensures.items) c.of-seen.ensures in
     let after =
@@ -28,13 +27,26 @@ returns-then-not-is_live-clause-moves c =
           (record (course_of i) { inbox = c.remove_front.new.inbox.items; lost = seen c.push_reserved.new.self.items })) (sym dead) after,
     )
 
+pub invariant_of-self-2 : goal.invariant_of-self-2
+invariant_of-self-2 c =
+    let i = c.self.inside in
+    let conn = c.conn-conn.result in
+    let given = c.in_ok-given.given.items in
+    record {
+      between = c.self.invariant.between;
+      filled = c.self.invariant.filled;
+      marked =
+          marked-as (i.realm ▷ Cut conn c.args.word) c.apply.new.self given c.from_vec.result.items (seen i.full.items) i.marks.items i.marks.items
+          c.in_ok-given.ensures.history c.from_vec.ensures.items refl
+          (marks-cut i.realm conn c.args.word i.pushing.items given (seen i.full.items) i.marks.items (sym c.is_live.ensures ∙ c.if-not-is_live.false) c.in_ok-given.ensures.given c.self.invariant.marked);
+    }
+
 pub returns-clause-moves : goal.returns-clause-moves
 returns-clause-moves c =
     let i = c.self.inside in
     let e = c.in-Some.entry.now in
     let conn = c.conn-conn.ensures in
-    let front : may_enter (course_of i) ≡ e ∷ drop 1 i.inbox.items =
-    subst (λ full. unless_any i.pushing.items (unless_any (filter (live i.realm) full) i.inbox.items) ≡ e ∷ drop 1 i.inbox.items) c.deref.ensures.value c.in-Some.ensures in
+    let front : may_enter (course_of i) ≡ e ∷ drop 1 i.inbox.items = sym (enters-by-marks i c.deref.result.now c.self.invariant c.deref.ensures.value) ∙ c.in-Some.ensures in
     let is_live : live i.realm (conn_of e) ≡ true = sym (c.is_live.ensures ∙ ap (live i.realm) conn) ∙ c.if-not-is_live.false in
     let lost = seen-last i.lost.items c.push_reserved-2.new.self.items c.of-seen.result e (c.push_reserved-2.ensures.items ∙ ap (λ xs. xs ++ c.of-seen.result ∷ []) c.reserve.ensures.items) c.of-seen.ensures in
     let cut = Cut (conn_of e) c.args.word in

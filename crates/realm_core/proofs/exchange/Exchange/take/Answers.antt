@@ -1,24 +1,32 @@
-use Rattle.std.proofs.Common.{[], ◌∷◌, ◌++◌, ap, ◌∙◌}
+use Rattle.std.proofs.Common.{ℕ, [], ◌∷◌, ◌++◌, ap, ◌∙◌}
+use Rattle.session.specs.declared.item.Item.{Item}
 use Rattle.realm_core.specs.Exchanges.{course_of}
-use Rattle.realm.specs.Given.{items_for}
+use Rattle.realm_core.specs.Outboxes.{outbox_of}
 use Rattle.realm_core.proofs.Exchanged.{seen, seen-last, waits, between-taken, takes-front}
 use Rattle.realm_core.proofs.exchange.Exchange.take.Goals as goal
 
 pub invariant_of-self-2 : goal.invariant_of-self-2
 invariant_of-self-2 c =
     let i = c.self.inside in
+    let pair : ℕ × Item = (c.args.conn, c.in-Some.item) in
     let items = c.push_reserved.ensures.items ∙ ap (λ xs. xs ++ c.of.result ∷ []) c.reserve.ensures.items in
-    let next = seen-last i.taken.items c.push_reserved.new.self.items c.of.result c.in-Some.pair items c.of.ensures in
-    between-taken c.args.conn (seen i.added.items) (seen i.taken.items) (seen c.push_reserved.new.self.items) i.waiting.items c.take_out.new.items.items c.in-Some.pair next c.in-Some.ensures.taken c.self.invariant
+    let next = seen-last i.taken.items c.push_reserved.new.self.items c.of.result pair items c.of.ensures in
+    record {
+      between = between-taken (seen i.added.items) (seen i.taken.items) (seen c.push_reserved.new.self.items) i.outboxes c.take.new.outboxes pair next c.in-Some.ensures.taken c.self.invariant.between;
+      filled = c.in-Some.ensures.filled;
+      marked = c.self.invariant.marked;
+    }
 
 pub returns-clause-moves : goal.returns-clause-moves
 returns-clause-moves c =
     let i = c.self.inside in
+    let conn = c.args.conn in
+    let pair : ℕ × Item = (conn, c.in-Some.item) in
     let out = c.in-Some.ensures.taken in
     let items = c.push_reserved.ensures.items ∙ ap (λ xs. xs ++ c.of.result ∷ []) c.reserve.ensures.items in
-    let next = seen-last i.taken.items c.push_reserved.new.self.items c.of.result c.in-Some.pair items c.of.ensures in
+    let next = seen-last i.taken.items c.push_reserved.new.self.items c.of.result pair items c.of.ensures in
     rw (← c.self.view_is) (
-      items_for c.args.conn c.take_out.new.items.items,
-      waits c.args.conn (seen i.added.items) (seen i.taken.items) i.waiting.items c.self.invariant ∙ takes-front c.args.conn i.waiting.items c.take_out.new.items.items c.in-Some.pair out,
-      ap (λ t. record (course_of i) { taken = t }) (next ∙ ap (λ n. seen i.taken.items ++ (n, c.in-Some.pair.1) ∷ []) out.conn),
+      outbox_of c.take.new.outboxes conn,
+      waits conn (seen i.added.items) (seen i.taken.items) i.outboxes c.self.invariant.between ∙ takes-front i.outboxes c.take.new.outboxes conn c.in-Some.item out,
+      ap (λ t. record (course_of i) { taken = t }) next,
     )

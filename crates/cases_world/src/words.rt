@@ -1,0 +1,38 @@
+//! The words of a line.
+use std::alloc::Global;
+use std::io;
+use wamp_ids::Conn;
+
+/// A line of text.
+pub fn line_of(alloc: Global, text: &str) -> io::Result<String> {
+    Ok(format!(in alloc; "{text}\n")?)
+}
+
+/// The first word, and what is behind it.
+pub fn part(text: &str) -> (&str, &str) {
+    match text.split_once(' ') {
+        Some(parts) => parts,
+        None => (text, ""),
+    }
+}
+
+pub fn number(text: &str) -> Option<u64> {
+    text.parse::<u64>().ok()
+}
+
+pub fn conn(text: &str) -> Option<Conn> {
+    match number(text) {
+        Some(number) => Conn::new(number),
+        None => None,
+    }
+}
+
+/// A connection and a word, and what is behind them.
+pub fn conn_and_word(text: &str) -> Option<(Conn, u64, &str)> {
+    let (first, rest) = part(text);
+    let (second, rest) = part(rest);
+    match (conn(first), number(second)) {
+        (Some(conn), Some(word)) => Some((conn, word, rest)),
+        _ => None,
+    }
+}
