@@ -90,8 +90,9 @@ impl Case {
             return line_of(alloc, "no queue");
         };
         let Ends { adder, drain } = ends;
-        let Ok(rest) = settle(rt, alloc, adder.into_outbox(), drain) else {
-            return line_of(alloc, "no memory");
+        let rest = match settle(rt, alloc, adder.into_outbox(), drain) {
+            Ok(rest) => rest,
+            Err((refused, _, _)) => return Err(refused)?,
         };
         let mut line = String::from_str(alloc, "rest")?;
         for number in &rest.items {

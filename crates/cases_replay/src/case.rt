@@ -109,10 +109,10 @@ impl Case {
     }
 
     fn config(&self, alloc: Global) -> io::Result<Result<Config, Fault>> {
-        let mut realms = Vec::new(alloc);
-        if let Ok(realm) = Topic::read(alloc, "r.one") {
-            realms.push(realm)?;
-        }
+        let Ok(realm) = Topic::read(alloc, "r.one") else {
+            return Ok(Err(Fault::NoMemory));
+        };
+        let realms = vec![in alloc; realm]?;
         match read_grants(alloc, self.grants.as_str()) {
             Ok(grants) => Ok(Ok(Config { realms, grants })),
             Err(fault) => Ok(Err(fault)),

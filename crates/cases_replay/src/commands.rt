@@ -1,6 +1,6 @@
 use broker_server::{Command, Config, Fault, read_command, report};
 use rawsocket::MemorySink;
-use std::alloc::Global;
+use std::alloc::{AllocError, Global};
 use std::io;
 
 /// What is read of the words of a command line, which stand apart by spaces.
@@ -65,6 +65,9 @@ pub fn reports(alloc: Global) -> io::Result<String> {
 fn reported(alloc: Global, fault: &Fault) -> io::Result<String> {
     let mut sink = MemorySink::new(alloc);
     let status = report(fault, &mut sink);
-    let line = std::str::from_utf8(sink.octets()).unwrap_or("no text\n");
+    let line = std::str::from_utf8(sink.octets()).unwrap_or("");
+    if !line.ends_with('\n') {
+        return Err(AllocError)?;
+    }
     Ok(format!(in alloc; "status {status}: {line}")?)
 }
