@@ -1,0 +1,148 @@
+//! The words of the table.
+ghost use Rattle.std.specs.Prelude.{◌≤◌, ◌<◌};
+
+use crate::ends::{Added, Adder, Ends};
+use crate::numbers::Numbers;
+use crate::threads::pass_all;
+use outbox_queue::{MOST_ITEMS, Next, Waited, cap_fits, pair, settle};
+use std::alloc::{AllocError, Global};
+use std::io;
+use std::sync::Wait;
+use std::thread::Threads;
+
+/// The queue of the present case, if one was made.
+#[derive(Drop)]
+pub struct Case {
+    ends: Option<Ends>,
+}
+
+/// A queue of this capacity for connection 1, over the numbers from `first`.
+pub fn ends_of(alloc: Global, cap: usize, numbers: Numbers) -> Result<Option<Ends>, AllocError> {
+    if !cap_fits(cap) {
+        return Ok(None);
+    }
+    let (outbox, drain) = pair::<u64, Numbers>(alloc, 1, cap)?;
+    let adder = Adder::new(outbox, numbers);
+    Ok(Some(Ends { adder, drain }))
+}
+
+impl Case {
+    /// No queue yet.
+    pub fn new() -> Case {
+        Case { ends: None }
+    }
+
+    /// Takes a line, and gives what it is answered by.
+    pub fn take<R: Threads + Wait + Sync>(
+        &mut self,
+        rt: &R,
+        alloc: Global,
+        line: &str,
+    ) -> io::Result<String> {
+        match line.split_once(' ') {
+            Some(("#", _)) => {
+                self.ends = None;
+                line_of(alloc, line)
+            }
+            Some(("queue", text)) => self.begin(alloc, text),
+            Some(("threads", text)) => pass_all(rt, alloc, text),
+            Some(_) => line_of(alloc, "no case has this word"),
+            None => self.step(rt, alloc, line),
+        }
+    }
+
+    /// Makes a queue: its capacity, the first number, and how many are owed.
+    fn begin(&mut self, alloc: Global, text: &str) -> io::Result<String> {
+        let Some((cap, numbers)) = numbers_of(text) else {
+            return line_of(alloc, "no queue");
+        };
+        self.ends = ends_of(alloc, cap, numbers)?;
+        match &self.ends {
+            None => line_of(alloc, "that capacity doesn't fit"),
+            Some(_) => Ok(String::new(alloc)),
+        }
+    }
+
+    /// Does what a word alone asks for.
+    fn step<R: Wait>(&mut self, rt: &R, alloc: Global, word: &str) -> io::Result<String> {
+        if word == "settle" {
+            return self.settle(rt, alloc);
+        }
+        let Some(ends) = &mut self.ends else {
+            return line_of(alloc, "no queue");
+        };
+        match word {
+            "add" => added(alloc, ends.adder.add(rt)),
+            "next" => taken(alloc, ends.drain.next(rt)),
+            "wait" => waited(alloc, ends.drain.wait_next(rt)),
+            "close" => {
+                ends.adder.close();
+                Ok(String::new(alloc))
+            }
+            "facts" => facts(alloc, ends),
+            _ => line_of(alloc, "no case has this word"),
+        }
+    }
+
+    /// Puts the ends together, and prints what is left.
+    fn settle<R: Wait>(&mut self, rt: &R, alloc: Global) -> io::Result<String> {
+        let Some(ends) = self.ends.take() else {
+            return line_of(alloc, "no queue");
+        };
+        let Ends { adder, drain } = ends;
+        let rest = match settle(rt, alloc, adder.into_outbox(), drain) {
+            Ok(rest) => rest,
+            Err((refused, _, _)) => return Err(refused)?,
+        };
+        let mut line = String::from_str(alloc, "rest")?;
+        for number in &rest.items {
+            write!(line, " {number}")?;
+        }
+        line.push('\n')?;
+        Ok(line)
+    }
+}
+
+fn line_of(alloc: Global, text: &str) -> io::Result<String> {
+    Ok(format!(in alloc; "{text}\n")?)
+}
+
+/// A capacity, and so many numbers from the first.
+pub fn numbers_of(text: &str) -> Option<(usize, Numbers)> {
+    let (cap, rest) = text.split_once(' ')?;
+    let (first, count) = rest.split_once(' ')?;
+    let cap = cap.parse::<usize>().ok()?;
+    let first = first.parse::<u64>().ok()?;
+    let count = count.parse::<u64>().ok()?;
+    Some((cap, Numbers { first, count }))
+}
+
+fn added(alloc: Global, added: Added) -> io::Result<String> {
+    match added {
+        Added::Yes(number) => Ok(format!(in alloc; "added {number}\n")?),
+        Added::Full(number) => Ok(format!(in alloc; "full with {number}\n")?),
+        Added::No => line_of(alloc, "nothing to add"),
+    }
+}
+
+fn taken(alloc: Global, next: Next<u64>) -> io::Result<String> {
+    match next {
+        Next::Item(number) => Ok(format!(in alloc; "took {number}\n")?),
+        Next::Empty => line_of(alloc, "empty"),
+    }
+}
+
+fn waited(alloc: Global, waited: Waited<u64>) -> io::Result<String> {
+    match waited {
+        Waited::Item(number) => Ok(format!(in alloc; "took {number}\n")?),
+        Waited::Stopped => line_of(alloc, "stopped"),
+    }
+}
+
+fn facts(alloc: Global, ends: &Ends) -> io::Result<String> {
+    let (is_closed, conn, capacity) = ends.adder.facts();
+    let theirs = ends.drain.conn();
+    Ok(format!(in alloc;
+        "closed {is_closed}, connections {conn} and {theirs}, capacity {capacity}, at most {MOST_ITEMS}\n"
+    )?)
+}

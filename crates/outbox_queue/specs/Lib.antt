@@ -1,0 +1,4 @@
+pub mod Ends
+pub mod Rule
+pub mod Outbox
+pub mod Counts

@@ -1,0 +1,277 @@
+//! The two ends of a queue: a pass each, with a count of the steps that found the queue full, or empty.
+//!
+//! [`AddingEnd::push`] and [`TakingEnd::pop`] are the only calls that step the queue, and each counts a find just where the queue,
+//! by its own contract, answered that it found it. Of a find of full the contract shows also what only the queue could tell:
+//! that at least its capacity was added. A find of empty leaves the taking end no such fact, so that `pop` counts none
+//! without a step is read in its few lines alone.
+ghost use Rattle.std.specs.Prelude.{◌≡◌, ◌+◌, ◌≤◌, ◌<◌, [], ◌∷◌, ◌++◌, length, Some, None, true, slice_get, IfOk, MatchResult, MatchOption, vec_capacity};
+ghost use Rattle.crossbeam_queue.specs.Passes.{view as shown, IsPassOf, IsSamePass, ruled_capacity};
+ghost use Rattle.outbox_queue.specs.Rule.{start, adding, taking, both};
+ghost use Rattle.outbox_queue.specs.Rule.{Grows};
+ghost use Rattle.outbox_queue.specs.Ends.{Owes};
+
+use crate::count::Count;
+use crate::owed::{Owed, Stamped};
+use crate::rule::{Adds, Ends, InStep, Naming, Settles, Takes, View, Whole};
+use crossbeam_queue::{Pass, RuledArrayQueue};
+use std::alloc::{AllocError, Global};
+use std::marker::{Brand, Model};
+use std::sync::{Arc, Wait};
+
+/// The queue itself.
+pub type Queue<T, H> = RuledArrayQueue<Stamped<T, H>, View<T, H>, InStep>;
+
+/// What one end knows of the queue. It takes no bytes.
+pub type Place<T, H> = Pass<Stamped<T, H>, View<T, H>>;
+
+/// The end that adds. Contracts see what was added, by which history, and how often the queue was found full.
+#[derive(Drop)]
+pub struct AddingEnd<T, H: Owed<T>> {
+    queue: Arc<Queue<T, H>>,
+    place: Place<T, H>,
+    conn: u64,
+    added: Count,
+    full_finds: Count,
+}
+
+impl<T, H: Owed<T>> Model for AddingEnd<T, H> {
+    ghost use Rattle.std.specs.Prelude.{◌≡◌, ◌<◌, [], None, length};
+    ghost use Rattle.std.specs.Arc.{arc_value};
+    ghost use Rattle.crossbeam_queue.specs.Passes.{view as shown, IsPassOf, ruled_capacity};
+    ghost use Rattle.outbox_queue.specs.Rule.{adding};
+    ghost use Rattle.outbox_queue.specs.Ends.{Adding, Owes};
+
+    ghost Value = { Adding T H };
+
+    ghost view = { λ e. record { queue = e.place.table_id; capacity = ruled_capacity (arc_value e.queue); conn = (shown e.place).conn; history = (shown e.place).history; added = (shown e.place).added; full_finds = e.full_finds } };
+
+    ghost invariant = { λ e. IsPassOf (arc_value e.queue) e.place × (shown e.place ≡ adding (shown e.place).conn (shown e.place).history (shown e.place).added) × (0 < ruled_capacity (arc_value e.queue)) × ((shown e.place).added ≡ [] → (e.full_finds ≡ 0) × ((shown e.place).history ≡ None)) × Owes H.owed (shown e.place).history (shown e.place).conn (shown e.place).added × (e.conn ≡ (shown e.place).conn) × (e.added ≡ length (shown e.place).added) };
+}
+
+impl<T: Drop, H: Owed<T>> AddingEnd<T, H> {
+    /// How many items may wait.
+    pub fn capacity(&self) -> usize
+        ensures { result ≡ self.now.capacity }
+    {
+        self.queue.capacity()
+    }
+
+    /// Whose items it carries.
+    pub fn conn(&self) -> u64
+        ensures { result ≡ self.now.conn }
+    {
+        self.conn
+    }
+
+    /// Shows what always holds of this end.
+    pub fn shows(&self)
+        ensures owed { Owes H.owed self.now.history self.now.conn self.now.added }
+        ensures finds { self.now.added ≡ [] → self.now.full_finds ≡ 0 }
+        ensures begun { self.now.added ≡ [] → self.now.history ≡ None }
+    {
+        let _ = &self.place;
+    }
+
+    /// Stamps the next item that a history owes the connection.
+    pub fn stamp(&self, item: T, history: &H) -> Stamped<T, H>
+        requires { slice_get (H.owed history.now self.now.conn) (length self.now.added) ≡ Some item }
+        ensures { result ≡ record { item = item; conn = self.now.conn; place = length self.now.added; history = history.now } }
+    {
+        Stamped::new(item, &self.conn, &self.added, history)
+    }
+
+    /// Adds the item, or counts one more step that found the queue full.
+    pub fn push<R: Wait>(&mut self, rt: &R, item: Stamped<T, H>) -> Result<(), Stamped<T, H>>
+        requires conn { item.conn ≡ self.old.conn }
+        requires place { item.place ≡ length self.old.added }
+        requires history { Grows H.begins self.old.history (Some item.history) }
+        ensures { MatchResult result
+            (λ _. self.new ≡ record self.old { history = Some item.history; added = self.old.added ++ item.item ∷ [] })
+            (λ back. (back ≡ item) × (self.new ≡ record self.old { full_finds = self.old.full_finds + 1 }) × (self.old.capacity ≤ length self.old.added)) }
+    {
+        item.shows();
+        match self.queue.push_as::<Adds, R>(rt, &mut self.place, item) {
+            Ok(()) => {
+                self.added.tick();
+                Ok(())
+            }
+            Err(back) => {
+                self.full_finds.tick();
+                Err(back)
+            }
+        }
+    }
+}
+
+/// The end that takes. Contracts see what was taken, the history seen, and how often the queue was found empty.
+#[derive(Drop)]
+pub struct TakingEnd<T, H: Owed<T>> {
+    queue: Arc<Queue<T, H>>,
+    place: Place<T, H>,
+    conn: u64,
+    empty_finds: Count,
+}
+
+impl<T, H: Owed<T>> Model for TakingEnd<T, H> {
+    ghost use Rattle.std.specs.Prelude.{◌≡◌, ◌<◌};
+    ghost use Rattle.std.specs.Arc.{arc_value};
+    ghost use Rattle.crossbeam_queue.specs.Passes.{view as shown, IsPassOf, ruled_capacity};
+    ghost use Rattle.outbox_queue.specs.Rule.{taking};
+    ghost use Rattle.outbox_queue.specs.Ends.{Taking, Owes};
+
+    ghost Value = { Taking T H };
+
+    ghost view = { λ e. record { queue = e.place.table_id; capacity = ruled_capacity (arc_value e.queue); conn = (shown e.place).conn; seen = (shown e.place).seen; taken = (shown e.place).taken; empty_finds = e.empty_finds } };
+
+    ghost invariant = { λ e. IsPassOf (arc_value e.queue) e.place × (shown e.place ≡ taking (shown e.place).conn (shown e.place).seen (shown e.place).taken) × (0 < ruled_capacity (arc_value e.queue)) × Owes H.owed (shown e.place).seen (shown e.place).conn (shown e.place).taken × (e.conn ≡ (shown e.place).conn) };
+}
+
+impl<T: Drop, H: Owed<T>> TakingEnd<T, H> {
+    /// Whose items it carries.
+    pub fn conn(&self) -> u64
+        ensures { result ≡ self.now.conn }
+    {
+        self.conn
+    }
+
+    /// Shows what always holds of this end.
+    pub fn shows(&self)
+        ensures { Owes H.owed self.now.seen self.now.conn self.now.taken }
+    {
+        let _ = &self.place;
+    }
+
+    /// Takes the item at the front, or counts one more step that found the queue empty.
+    pub fn pop<R: Wait>(&mut self, rt: &R) -> Option<Stamped<T, H>>
+        ensures { MatchOption result
+            (self.new ≡ record self.old { empty_finds = self.old.empty_finds + 1 })
+            (λ x. (self.new ≡ record self.old { seen = Some x.history; taken = self.old.taken ++ x.item ∷ [] }) × (x.conn ≡ self.old.conn) × (x.place ≡ length self.old.taken) × Grows H.begins self.old.seen (Some x.history)) }
+    {
+        match self.queue.pop_as::<Takes, R>(rt, &mut self.place) {
+            Some(item) => {
+                item.shows();
+                Some(item)
+            }
+            None => {
+                self.empty_finds.tick();
+                None
+            }
+        }
+    }
+}
+
+/// Cuts the one pass of a new queue into those of the two ends. The caller picks the connection.
+fn cut<T, H: Owed<T>, J: Naming>(
+    queue: &Queue<T, H>,
+    place: &mut Place<T, H>,
+    conn: u64,
+) -> Place<T, H>
+    requires queue { IsPassOf queue.now place.old }
+    requires start { shown place.old ≡ start }
+    requires conn { conn ≡ J.conn }
+    ensures queue { IsSamePass place.old place.new × IsPassOf queue.now result }
+    ensures ends { (shown place.new ≡ adding conn None []) × (shown result ≡ taking conn None []) }
+{
+    queue.another::<Ends<J>>(place)
+}
+
+/// The two ends of a new queue, through which nothing has gone.
+pub fn new_ends<T: Drop, H: Owed<T>>(
+    alloc: Global,
+    conn: u64,
+    cap: usize,
+) -> Result<(AddingEnd<T, H>, TakingEnd<T, H>), AllocError>
+    requires { 0 < cap }
+    ensures adding { IfOk result (λ p. p.0 ≡ record { queue = p.1.queue; capacity = cap; conn = conn; history = None; added = []; full_finds = 0 }) }
+    ensures taking { IfOk result (λ p. p.1 ≡ record { queue = p.1.queue; capacity = cap; conn = conn; seen = None; taken = []; empty_finds = 0 }) }
+{
+    let (queue, mut place) = Queue::ruled(alloc, cap)?;
+    let theirs = cut::<T, H, Brand>(&queue, &mut place, conn);
+    let queue = Arc::new(alloc, queue)?;
+    let again = Arc::try_clone(&queue)?;
+    let adding = AddingEnd {
+        queue,
+        place,
+        conn,
+        added: Count::new(),
+        full_finds: Count::new(),
+    };
+    let taking = TakingEnd {
+        queue: again,
+        place: theirs,
+        conn,
+        empty_finds: Count::new(),
+    };
+    Ok((adding, taking))
+}
+
+/// Puts the views of the two ends together, and tells how they stand to each other.
+fn join_places<T: Drop, H: Owed<T>, R: Wait>(
+    rt: &R,
+    queue: &Queue<T, H>,
+    place: &mut Place<T, H>,
+    theirs: Place<T, H>,
+)
+    requires queue { IsPassOf queue.now place.old × IsPassOf queue.now theirs }
+    requires adds { (shown place.old).adds ≡ true }
+    requires takes { (shown theirs).takes ≡ true }
+    ensures queue { IsPassOf queue.now place.new }
+    ensures both { shown place.new ≡ both (shown place.old) (shown theirs) }
+    ensures room { length (shown place.old).added ≤ length (shown theirs).taken + ruled_capacity queue.now }
+    ensures history { Grows H.begins (shown theirs).seen (shown place.old).history }
+{
+    queue.absorb::<Whole>(place, theirs);
+    queue.len_as::<Settles, R>(rt, place);
+}
+
+/// Takes what is left, the front first. There is room for it.
+fn take_all<T: Drop, H: Owed<T>, R: Wait>(
+    rt: &R,
+    queue: &Queue<T, H>,
+    mut place: Place<T, H>,
+    mut into: Vec<T>,
+) -> Vec<T>
+    requires queue { IsPassOf queue.now place }
+    requires both { ((shown place).adds ≡ true) × ((shown place).takes ≡ true) }
+    requires empty { into.items ≡ [] }
+    requires room { length (shown place).added ≤ length (shown place).taken + vec_capacity into }
+    ensures { (shown place).added ≡ (shown place).taken ++ result.items }
+{
+    for _ in rt.forever() {
+        let Some(item) = queue.pop_as::<Settles, R>(rt, &mut place) else {
+            break;
+        };
+        into.push_reserved(item.into_item());
+    }
+    into
+}
+
+/// Takes what was added and not taken, with both ends in one hand.
+pub fn settle_ends<T: Drop, H: Owed<T>, R: Wait>(
+    rt: &R,
+    into: Vec<T>,
+    adding: AddingEnd<T, H>,
+    taking: TakingEnd<T, H>,
+) -> Vec<T>
+    requires pair { adding.queue ≡ taking.queue }
+    requires empty { into.items ≡ [] }
+    requires room { adding.capacity ≤ vec_capacity into }
+    ensures rest { taking.taken ++ result.items ≡ adding.added }
+    ensures history { Grows H.begins taking.seen adding.history }
+{
+    let AddingEnd {
+        queue,
+        mut place,
+        conn: _,
+        added: _,
+        full_finds: _,
+    } = adding;
+    let TakingEnd {
+        queue: _,
+        place: theirs,
+        conn: _,
+        empty_finds: _,
+    } = taking;
+    join_places(rt, &queue, &mut place, theirs);
+    take_all(rt, &queue, place, into)
+}

@@ -1,0 +1,150 @@
+//! The adding end of an outbox, which can be closed.
+ghost use Rattle.std.specs.Prelude.{◌≡◌, ◌+◌, ◌≤◌, [], ◌∷◌, ◌++◌, length, true, false, Some, None, slice_get, MatchResult};
+ghost use Rattle.outbox_queue.specs.Rule.{Grows};
+ghost use Rattle.outbox_queue.specs.Ends.{Owes};
+
+use crate::ends::AddingEnd;
+use crate::owed::{Owed, Stamped};
+use crossbeam_utils::sync::Unparker;
+use std::marker::Model;
+use std::sync::atomic::{AtomicBool, Ordering};
+use std::sync::{Arc, Wait};
+
+/// E14: the queue held its capacity. The item comes back.
+#[derive(Drop)]
+pub struct Full<S>(pub S);
+
+/// The end that adds. A dropped outbox is closed.
+///
+/// Contracts see which queue it is of, its capacity and connection, what was added and by which history, how often the queue was
+/// found full, and whether it is closed.
+pub struct Outbox<T, H: Owed<T>> {
+    end: AddingEnd<T, H>,
+    is_closed: bool,
+    shut: Arc<AtomicBool>,
+    waker: Unparker,
+}
+
+impl<T, H: Owed<T>> Model for Outbox<T, H> {
+    ghost use Rattle.outbox_queue.specs.Ends.{Sending};
+
+    ghost Value = { Sending T H };
+
+    ghost view = { λ o. record { queue = o.end.queue; capacity = o.end.capacity; conn = o.end.conn; history = o.end.history; added = o.end.added; full_finds = o.end.full_finds; is_closed = o.is_closed } };
+}
+
+impl<T: Drop, H: Owed<T>> Outbox<T, H> {
+    pub(crate) fn new(end: AddingEnd<T, H>, shut: Arc<AtomicBool>, waker: Unparker) -> Outbox<T, H>
+        ensures { result ≡ record { queue = end.queue; capacity = end.capacity; conn = end.conn; history = end.history; added = end.added; full_finds = end.full_finds; is_closed = false } }
+    {
+        Outbox {
+            end,
+            is_closed: false,
+            shut,
+            waker,
+        }
+    }
+
+    /// How many items may wait.
+    pub fn capacity(&self) -> usize
+        ensures { result ≡ self.now.capacity }
+    {
+        self.end.capacity()
+    }
+
+    /// The number of the connection whose items it carries.
+    pub fn conn(&self) -> u64
+        ensures { result ≡ self.now.conn }
+    {
+        self.end.conn()
+    }
+
+    /// Whether nothing more may be added.
+    pub fn is_closed(&self) -> bool
+        ensures { result ≡ self.now.is_closed }
+    {
+        self.is_closed
+    }
+
+    /// Closes it: nothing more may be added, and who waits at the drain is woken, to be told so once all was taken. It takes no
+    /// memory.
+    pub fn close(&mut self)
+        ensures { self.new ≡ record self.old { is_closed = true } }
+    {
+        self.is_closed = true;
+        self.shut.store(true, Ordering::SeqCst);
+        self.waker.unpark();
+    }
+
+    /// Adds the item at the back, unless a step finds the capacity waiting. The item is stamped for this connection and for the
+    /// place after the last that was added, by a history that begins with the one before; and the outbox isn't closed
+    /// ([`Outbox::is_closed`]). It takes no memory and locks nothing, but may spin while the other end is inside its step.
+    ///
+    /// It doesn't wake the one who waits at the drain: see [`Outbox::wake`].
+    ///
+    /// # Errors
+    /// [`Full`] where the queue held its capacity: the item comes back, and nothing was added.
+    pub fn add<R: Wait>(&mut self, rt: &R, item: Stamped<T, H>) -> Result<(), Full<Stamped<T, H>>>
+        requires open { self.old.is_closed ≡ false }
+        requires conn { item.conn ≡ self.old.conn }
+        requires place { item.place ≡ length self.old.added }
+        requires history { Grows H.begins self.old.history (Some item.history) }
+        ensures { MatchResult result
+            (λ _. self.new ≡ record self.old { history = Some item.history; added = self.old.added ++ item.item ∷ [] })
+            (λ full. (full.0 ≡ item) × (self.new ≡ record self.old { full_finds = self.old.full_finds + 1 }) × (self.old.capacity ≤ length self.old.added)) }
+    {
+        match self.end.push(rt, item) {
+            Ok(()) => Ok(()),
+            Err(back) => Err(Full(back)),
+        }
+    }
+
+    /// Wakes the one who waits at the drain. Who adds several items wakes once, after the last; until then a sleeping writer may
+    /// sleep on. Where nobody sleeps it costs no system call.
+    pub fn wake(&self) {
+        self.waker.unpark();
+    }
+
+    /// Stamps the next item that a history owes the connection: the one at the place after the last that was added.
+    pub fn stamp(&self, item: T, history: &H) -> Stamped<T, H>
+        requires { slice_get (H.owed history.now self.now.conn) (length self.now.added) ≡ Some item }
+        ensures { result ≡ record { item = item; conn = self.now.conn; place = length self.now.added; history = history.now } }
+    {
+        self.end.stamp(item, history)
+    }
+
+    /// Shows what always holds of an outbox: what was added begins what the history of the last item owes the connection; and
+    /// where nothing was added, the queue was never found full and no history was seen.
+    pub fn shows(&self)
+        ensures owed { Owes H.owed self.now.history self.now.conn self.now.added }
+        ensures finds { self.now.added ≡ [] → self.now.full_finds ≡ 0 }
+        ensures begun { self.now.added ≡ [] → self.now.history ≡ None }
+    {
+        self.end.shows();
+    }
+
+    pub(crate) fn into_end(self) -> AddingEnd<T, H>
+        ensures { self ≡ record { queue = result.queue; capacity = result.capacity; conn = result.conn; history = result.history; added = result.added; full_finds = result.full_finds; is_closed = self.is_closed } }
+    {
+        let Self {
+            end,
+            is_closed: _,
+            shut: _,
+            waker: _,
+        } = self;
+        end
+    }
+}
+
+impl<T: Drop, H: Owed<T>> Drop for Outbox<T, H> {
+    fn drop(self) {
+        let Self {
+            end: _,
+            is_closed: _,
+            shut,
+            waker,
+        } = self;
+        shut.store(true, Ordering::SeqCst);
+        waker.unpark();
+    }
+}
