@@ -10,4 +10,3 @@ mod writing;
 pub use fault::Fault;
 pub use reading::decode;
 pub use writing::encode;
-

@@ -14,4 +14,3 @@ mod writing;
 pub use fault::Fault;
 pub use reading::decode;
 pub use writing::encode;
-

@@ -28,4 +28,3 @@ pub use over_io::{ReadSource, WriteSink};
 pub use passed::Passed;
 pub use steps::Steps;
 pub use turns::{Turns, read_turn, write_all};
-
