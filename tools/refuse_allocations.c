@@ -5,6 +5,8 @@
 #include <errno.h>
 #include <stdio.h>
 #include <stdlib.h>
+#include <sys/syscall.h>
+#include <unistd.h>
 
 static unsigned long made, refused;
 
@@ -14,8 +16,8 @@ static void *behind(const char *name) {
 }
 
 static int is_refused(void) {
-    made += 1;
-    return refused && made == refused;
+    unsigned long place = __atomic_add_fetch(&made, 1, __ATOMIC_SEQ_CST);
+    return refused && place == refused;
 }
 
 __attribute__((constructor)) static void begin(void) {
@@ -32,6 +34,12 @@ __attribute__((destructor)) static void end(void) {
         fprintf(file, "%lu\n", count);
         fclose(file);
     }
+}
+
+// A program that starts threads ends by this call, which runs no destructor.
+void _exit(int status) {
+    end();
+    for (;;) syscall(SYS_exit_group, status);
 }
 
 void *malloc(size_t size) {
