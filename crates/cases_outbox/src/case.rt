@@ -33,9 +33,9 @@ impl Case {
     }
 
     /// Takes a line, and gives what it is answered by.
-    pub fn take<R: Threads + Wait + Sync>(
+    pub fn take<R: Threads + Wait + Copy + Send + 'static>(
         &mut self,
-        rt: &R,
+        rt: R,
         alloc: Global,
         line: &str,
     ) -> io::Result<String> {
@@ -47,7 +47,7 @@ impl Case {
             Some(("queue", text)) => self.begin(alloc, text),
             Some(("threads", text)) => pass_all(rt, alloc, text),
             Some(_) => line_of(alloc, "no case has this word"),
-            None => self.step(rt, alloc, line),
+            None => self.step(&rt, alloc, line),
         }
     }
 

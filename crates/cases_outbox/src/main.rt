@@ -19,7 +19,7 @@ fn main(rt: HostRuntime) -> io::Result<()> {
     let alloc = rt.alloc();
     let mut case = Case::new();
     for line in rt.lines(alloc) {
-        let told = case.take(&rt, alloc, line?.as_str())?;
+        let told = case.take(rt, alloc, line?.as_str())?;
         print!(rt; "{told}")?;
     }
     Ok(())

@@ -3,7 +3,7 @@ use crate::case::{ends_of, numbers_of};
 use crate::ends::{Added, Adder, Ends};
 use crate::numbers::Numbers;
 use outbox_queue::{Drain, Waited};
-use std::alloc::Global;
+use std::alloc::{AllocError, Global};
 use std::io;
 use std::sync::Wait;
 use std::thread::{self, Threads};
@@ -46,7 +46,11 @@ fn take_all<R: Wait>(rt: &R, mut drain: Drain<u64, Numbers>, first: u64) -> (u64
 }
 
 /// Passes numbers from one thread to another: the capacity, the first number, and how many.
-pub fn pass_all<R: Threads + Wait + Sync>(rt: &R, alloc: Global, text: &str) -> io::Result<String> {
+pub fn pass_all<R: Threads + Wait + Copy + Send + 'static>(
+    rt: R,
+    alloc: Global,
+    text: &str,
+) -> io::Result<String> {
     let Some((cap, numbers)) = numbers_of(text) else {
         return Ok(String::from_str(alloc, "no numbers\n")?);
     };
@@ -55,10 +59,10 @@ pub fn pass_all<R: Threads + Wait + Sync>(rt: &R, alloc: Global, text: &str) -> 
     };
     let Ends { adder, drain } = ends;
     let first = numbers.first;
-    let (_, (count, are_in_order)) = thread::join(
-        rt,
-        move || add_all(rt, adder),
-        move || take_all(rt, drain, first),
-    );
+    let Ok(adding) = thread::spawn(&rt, move || add_all(&rt, adder)) else {
+        return Err(AllocError)?;
+    };
+    let (count, are_in_order) = take_all(&rt, drain, first);
+    adding.join(&rt);
     Ok(format!(in alloc; "{count} taken, each the next: {are_in_order}\n")?)
 }

@@ -1,10 +1,14 @@
 use crate::commands::{command, reports};
 use broker_server::{Config, Fault, read_grants, replay};
 use rawsocket::testing::{FailsAt, OneByOne};
-use rawsocket::{MemorySink, MemorySource, Sink, Source};
+use rawsocket::{MemorySource, Sink, Source, WriteSink};
 use std::alloc::Global;
 use std::io;
 use wamp_ids::Topic;
+
+/// Room for all that a replay of a case writes, so that its sink fails where a call is to fail, and
+/// nowhere else.
+const ROOM: usize = 1 << 20;
 
 /// What is replayed, and over which devices.
 #[derive(Drop)]
@@ -77,17 +81,17 @@ impl Case {
     /// What the replay writes, and its fault.
     fn told(&self, alloc: Global) -> io::Result<String> {
         let source = MemorySource::new(self.input.as_str().as_bytes().to_vec(alloc)?);
-        let sink = MemorySink::new(alloc);
+        let sink = WriteSink::new(Vec::with_capacity(alloc, ROOM)?);
         if self.is_slow {
             let mut source = FailsAt::new(OneByOne::new(source), self.failing_read);
             let mut sink = FailsAt::new(OneByOne::new(sink), self.failing_write);
             let fault = self.fault_of(alloc, &mut source, &mut sink)?;
-            told_of(alloc, sink.device.device.octets(), fault)
+            told_of(alloc, sink.device.device.writer(), fault)
         } else {
             let mut source = FailsAt::new(source, self.failing_read);
             let mut sink = FailsAt::new(sink, self.failing_write);
             let fault = self.fault_of(alloc, &mut source, &mut sink)?;
-            told_of(alloc, sink.device.octets(), fault)
+            told_of(alloc, sink.device.writer(), fault)
         }
     }
 

@@ -2,10 +2,11 @@ ghost use Rattle.std.specs.Prelude.{◌≤◌, IfSome};
 
 use crate::churning::churn;
 use crate::entries::{entry_of, step_of};
-use crate::telling::{given_text, outcome_text, run_text};
-use crate::words::{conn, line_of, number, part};
+use crate::telling::{given_text, outcome_text, run_text, unless_refused};
+use crate::words::{conn, number, part};
+use case_text::line_of;
 use realm_core::{Entry, RealmConfig, Step, World};
-use std::alloc::Global;
+use std::alloc::{AllocError, Global};
 use std::{io, mem};
 use wamp_ids::Topic;
 
@@ -57,7 +58,10 @@ impl Case {
 
     fn make(&mut self, alloc: Global, text: &str) -> io::Result<String> {
         let grants = mem::replace(&mut self.grants, Vec::new(alloc));
-        self.world = world_of(alloc, text, grants);
+        let Some((inbox, outbox)) = capacities(text) else {
+            return line_of(alloc, "no capacities");
+        };
+        self.world = Some(world_of(alloc, grants, inbox, outbox)?);
         Ok(String::new(alloc))
     }
 
@@ -70,6 +74,16 @@ impl Case {
             }
         }
     }
+}
+
+/// The capacities of an inbox and of an outbox, each at least 1.
+fn capacities(text: &str) -> Option<(usize, usize)>
+    ensures { IfSome result (λ both. (1 ≤ both.0) × (1 ≤ both.1)) }
+{
+    let (inbox, outbox) = part(text);
+    let inbox = capacity(inbox)?;
+    let outbox = capacity(outbox)?;
+    Some((inbox, outbox))
 }
 
 /// A capacity of at least 1.
@@ -88,17 +102,22 @@ fn capacity(text: &str) -> Option<usize>
     }
 }
 
-fn world_of(alloc: Global, text: &str, grants: Vec<(String, String)>) -> Option<World> {
-    let (inbox, outbox) = part(text);
-    let inbox = capacity(inbox)?;
-    let outbox = capacity(outbox)?;
-    let name = Topic::read(alloc, "r.one").ok()?;
-    World::new(alloc, RealmConfig { name, grants }, inbox, outbox).ok()
+fn world_of(alloc: Global, grants: Vec<(String, String)>, inbox: usize, outbox: usize) -> io::Result<World>
+    requires inbox { 1 ≤ inbox }
+    requires outbox { 1 ≤ outbox }
+{
+    let Ok(name) = Topic::read(alloc, "r.one") else {
+        return Err(AllocError)?;
+    };
+    match World::new(alloc, RealmConfig { name, grants }, inbox, outbox) {
+        Ok(world) => Ok(world),
+        Err(_) => Err(AllocError)?,
+    }
 }
 
 fn run(world: &mut World, alloc: Global, steps: Vec<Step>) -> io::Result<String> {
     let done = world.run(alloc, steps);
-    run_text(alloc, &done)
+    unless_refused(run_text(alloc, &done)?)
 }
 
 /// What a line asks of a world, or the step that it names.
@@ -126,7 +145,7 @@ fn asked(
             None => line_of(alloc, "no such entry"),
             Some(entry) => deliver(world, alloc, entry),
         },
-        "churn" => churn(world, alloc, number(rest).unwrap_or(0)),
+        "churn" => unless_refused(churn(world, alloc, number(rest).unwrap_or(0))?),
         _ => match step_of(alloc, line)? {
             None => line_of(alloc, "no such step"),
             Some(step) => outcome_text(alloc, &world.step(alloc, step)),
@@ -153,6 +172,6 @@ fn deliver(world: &mut World, alloc: Global, entry: Entry) -> io::Result<String>
     }
     match world.deliver(alloc, entry) {
         Ok(given) => given_text(alloc, &given),
-        Err(fault) => Ok(format!(in alloc; "{fault}\n")?),
+        Err(fault) => unless_refused(format!(in alloc; "{fault}\n")?),
     }
 }

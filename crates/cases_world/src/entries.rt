@@ -1,9 +1,9 @@
 //! Entries and steps, as a line has them.
 use crate::words::{conn, conn_and_word, number, part};
-use message_tree::{Octets, Text};
+use message_tree::{Message, Octets, Text};
 use realm_core::{Entry, Said, Step};
 use session::read_said;
-use std::alloc::Global;
+use std::alloc::{AllocError, Global};
 use std::io;
 
 fn join(alloc: Global, text: &str) -> io::Result<Option<Entry>> {
@@ -22,21 +22,31 @@ fn join(alloc: Global, text: &str) -> io::Result<Option<Entry>> {
     }
 }
 
-/// What a client says by a message in JSON.
-fn spoken(alloc: Global, text: &str) -> Option<Said> {
-    match json_codec::decode(alloc, text.as_bytes()) {
-        Ok(message) => read_said(alloc, message).ok(),
-        Err(_) => None,
+/// What a client's message says.
+fn meant(alloc: Global, message: Message) -> io::Result<Option<Said>> {
+    match read_said(alloc, message) {
+        Ok(said) => Ok(Some(said)),
+        Err(session::Fault::NoMemory) => Err(AllocError)?,
+        Err(_) => Ok(None),
     }
 }
 
-fn said(alloc: Global, text: &str) -> Option<Entry> {
+/// What a client says by a message in JSON.
+fn spoken(alloc: Global, text: &str) -> io::Result<Option<Said>> {
+    match json_codec::decode(alloc, text.as_bytes()) {
+        Ok(message) => meant(alloc, message),
+        Err(json_codec::Fault::NoMemory) => Err(AllocError)?,
+        Err(_) => Ok(None),
+    }
+}
+
+fn said(alloc: Global, text: &str) -> io::Result<Option<Entry>> {
     let Some((conn, word, message)) = conn_and_word(text) else {
-        return None;
+        return Ok(None);
     };
-    match spoken(alloc, message) {
-        None => None,
-        Some(said) => Some(Entry::Said { conn, word, said }),
+    match spoken(alloc, message)? {
+        None => Ok(None),
+        Some(said) => Ok(Some(Entry::Said { conn, word, said })),
     }
 }
 
@@ -80,7 +90,7 @@ pub fn entry_of(alloc: Global, text: &str) -> io::Result<Option<Entry>> {
     let (kind, rest) = part(text);
     match kind {
         "join" => join(alloc, rest),
-        "said" => Ok(said(alloc, rest)),
+        "said" => said(alloc, rest),
         "ping" => ping(alloc, rest),
         "cut" => Ok(cut(rest)),
         _ => Ok(ending(kind, rest)),

@@ -20,13 +20,18 @@ mod telling;
 mod words;
 
 use case::Case;
+use case_text::is_refused;
 use std::io;
 
 fn main(rt: HostRuntime) -> io::Result<()> {
     let alloc = rt.alloc();
     let mut case = Case::new(alloc);
     for line in rt.lines(alloc) {
-        let told = case.take(alloc, line?.as_str())?;
+        let line = line?;
+        let mut told = case.take(alloc, line.as_str())?;
+        if is_refused(told.as_str()) {
+            told = case.take(alloc, line.as_str())?;
+        }
         print!(rt; "{told}")?;
     }
     Ok(())

@@ -1,8 +1,9 @@
 //! What steps did, and what sessions are told, as text.
+use case_text::is_refused;
 use message_tree::Message;
 use realm_core::{Fault, Item, Run, Stepped};
 use session::item_message;
-use std::alloc::Global;
+use std::alloc::{AllocError, Global};
 use std::io;
 use wamp_ids::Conn;
 
@@ -13,10 +14,19 @@ fn as_text(alloc: Global, octets: &[u8]) -> io::Result<String> {
     }
 }
 
+/// This text, unless it says that memory was refused: then what it speaks of can't be had once more,
+/// and the driver ends.
+pub fn unless_refused(text: String) -> io::Result<String> {
+    if is_refused(text.as_str()) {
+        return Err(AllocError)?;
+    }
+    Ok(text)
+}
+
 fn json(alloc: Global, message: &Message) -> io::Result<String> {
     match json_codec::encode(alloc, message) {
         Ok(octets) => as_text(alloc, &octets),
-        Err(fault) => Ok(format!(in alloc; "{fault}")?),
+        Err(fault) => unless_refused(format!(in alloc; "{fault}")?),
     }
 }
 
@@ -33,7 +43,7 @@ pub fn item_text(alloc: Global, item: &Item) -> io::Result<String> {
     match item_message(alloc, item) {
         Ok(Some(message)) => json(alloc, &message),
         Ok(None) => Ok(String::from_str(alloc, "no message")?),
-        Err(fault) => Ok(format!(in alloc; "{fault}")?),
+        Err(fault) => unless_refused(format!(in alloc; "{fault}")?),
     }
 }
 

@@ -1,12 +1,5 @@
 //! The words of a line.
-use std::alloc::Global;
-use std::io;
 use wamp_ids::Conn;
-
-/// A line of text.
-pub fn line_of(alloc: Global, text: &str) -> io::Result<String> {
-    Ok(format!(in alloc; "{text}\n")?)
-}
 
 /// The first word, and what is behind it.
 pub fn part(text: &str) -> (&str, &str) {
