@@ -102,7 +102,12 @@ fn capacity(text: &str) -> Option<usize>
     }
 }
 
-fn world_of(alloc: Global, grants: Vec<(String, String)>, inbox: usize, outbox: usize) -> io::Result<World>
+fn world_of(
+    alloc: Global,
+    grants: Vec<(String, String)>,
+    inbox: usize,
+    outbox: usize,
+) -> io::Result<World>
     requires inbox { 1 ≤ inbox }
     requires outbox { 1 ≤ outbox }
 {
