@@ -11,9 +11,13 @@ use wamp_ids::{Id, Topic};
 /// No arguments, and a list of none alone.
 pub fn arguments(alloc: Global) -> io::Result<String> {
     let none = args_in_words(alloc, &Args::none())?;
+    let list = listed(alloc)?;
+    Ok(format!(in alloc; "none:{none}, a list:{list}\n")?)
+}
+
+fn listed(alloc: Global) -> io::Result<String> {
     let list = Content::of(Tree::List(Vec::new(alloc)));
-    let positional = args_in_words(alloc, &Args::positional(list))?;
-    Ok(format!(in alloc; "none:{none}, a list:{positional}\n")?)
+    args_in_words(alloc, &Args::positional(list))
 }
 
 /// The arguments of a PUBLISH in JSON.
@@ -35,15 +39,23 @@ pub fn carried(alloc: Global, json: &str) -> io::Result<String> {
     Ok(format!(in alloc; "{is_carried} {is_taken}\n")?)
 }
 
+/// The carried arguments of a PUBLISH in JSON, by a copy of them.
+fn carried_of(alloc: Global, json: &str) -> Option<CarriedArgs> {
+    let args = args_of(alloc, json)?;
+    CarriedArgs::of(args.try_copy(alloc).ok()?).ok()
+}
+
 fn publication(alloc: Global, json: &str, disclosed: bool) -> Option<Publication> {
-    let args = args_of(alloc, json)?.try_copy(alloc).ok()?;
+    let args = carried_of(alloc, json)?;
+    let topic = Topic::read(alloc, "a.b.c").ok()?;
+    let publisher = anonymous(alloc, 2)?;
     Some(Publication {
-        id: Id::new(3).ok()?,
-        topic: Topic::read(alloc, "a.b.c").ok()?,
+        id: Id::of_word(2),
+        topic,
         lists: Lists::everyone(),
-        publisher: anonymous(alloc, 2)?,
+        publisher,
         disclosed,
-        args: CarriedArgs::of(args).ok()?,
+        args,
     })
 }
 

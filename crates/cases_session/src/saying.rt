@@ -35,7 +35,7 @@ fn in_words(alloc: Global, said: Said) -> io::Result<String> {
             request,
             options,
             topic,
-        } => subscribe(alloc, request, options, topic),
+        } => asked(alloc, "subscribe", request, options, topic, ""),
         Said::Unsubscribe {
             request,
             subscription,
@@ -61,18 +61,27 @@ fn publish(
     topic: Text,
     args: Args,
 ) -> io::Result<String> {
-    let number = request.value();
-    let options = json_of(alloc, Tree::Dict(options.into_dict()))?;
-    let args = args_in_words(alloc, &args)?;
-    let topic = topic.as_str();
-    Ok(format!(in alloc; "publish {number} {options} {topic}{args}\n")?)
+    let args = words_of(alloc, args)?;
+    asked(alloc, "publish", request, options, topic, args.as_str())
 }
 
-fn subscribe(alloc: Global, request: Id, options: Options, topic: Text) -> io::Result<String> {
+fn words_of(alloc: Global, args: Args) -> io::Result<String> {
+    args_in_words(alloc, &args)
+}
+
+/// A request at a topic, and what is behind it.
+fn asked(
+    alloc: Global,
+    name: &str,
+    request: Id,
+    options: Options,
+    topic: Text,
+    behind: &str,
+) -> io::Result<String> {
     let number = request.value();
     let options = json_of(alloc, Tree::Dict(options.into_dict()))?;
     let topic = topic.as_str();
-    Ok(format!(in alloc; "subscribe {number} {options} {topic}\n")?)
+    Ok(format!(in alloc; "{name} {number} {options} {topic}{behind}\n")?)
 }
 
 fn unsubscribe(alloc: Global, request: Id, subscription: Id) -> io::Result<String> {

@@ -92,11 +92,16 @@ const REASONS: [Reason; 11] = [
 pub fn reasons(alloc: Global) -> io::Result<String> {
     let mut text = String::new(alloc);
     for reason in REASONS {
-        text.push_str(told(alloc, &Item::Abort(reason))?.as_str())?;
-        text.push_str(told(alloc, &Item::Goodbye(reason))?.as_str())?;
-        text.push_str(errors(alloc, reason)?.as_str())?;
+        text.push_str(with_reason(alloc, reason)?.as_str())?;
     }
     Ok(text)
+}
+
+fn with_reason(alloc: Global, reason: Reason) -> io::Result<String> {
+    let abort = told_if(alloc, Some(Item::Abort(reason)))?;
+    let goodbye = told_if(alloc, Some(Item::Goodbye(reason)))?;
+    let errors = errors(alloc, reason)?;
+    Ok(format!(in alloc; "{abort}{goodbye}{errors}")?)
 }
 
 fn errors(alloc: Global, reason: Reason) -> io::Result<String> {
