@@ -56,6 +56,25 @@ pub fn lists(
     }
 }
 
+/// Whether the lists that are taken out of options in JSON admit the receiver.
+pub fn taken(
+    alloc: Global,
+    json: &str,
+    receiver: &Option<Who>,
+    publisher: &Option<Who>,
+) -> io::Result<String> {
+    match json_codec::decode(alloc, json.as_bytes()) {
+        Ok(message) => match message.into_tree() {
+            Tree::Dict(options) => match Lists::take(alloc, options) {
+                Ok(lists) => admitted(alloc, &lists, receiver, publisher),
+                Err(fault) => Ok(format!(in alloc; "{fault}\n")?),
+            },
+            _ => line_of(alloc, "no options"),
+        },
+        Err(fault) => Ok(format!(in alloc; "{fault}\n")?),
+    }
+}
+
 fn asked(
     alloc: Global,
     options: &Dict,

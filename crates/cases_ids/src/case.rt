@@ -1,6 +1,6 @@
-use crate::admitting::{beyond, everyone, lists, threads, who_in_words, who_of};
+use crate::admitting::{beyond, everyone, lists, taken, threads, who_in_words, who_of};
 use crate::matching::{dot, matches, pattern, same};
-use crate::naming::{conn, faults, id, topic, word};
+use crate::naming::{conn, faults, id, moved, topic, word};
 use case_text::line_of;
 use eligibility::Who;
 use std::alloc::Global;
@@ -37,6 +37,7 @@ impl Case {
                 who_in_words(alloc, &self.receiver)
             }
             Some(("admits", json)) => lists(alloc, json, &self.receiver, &self.publisher),
+            Some(("takes", json)) => taken(alloc, json, &self.receiver, &self.publisher),
             Some(("beyond", key)) => beyond(alloc, key, &self.receiver, &self.publisher),
             Some((word, text)) => told(alloc, word, text),
             None => self.told_alone(alloc, line),
@@ -59,6 +60,7 @@ fn told(alloc: Global, name: &str, text: &str) -> io::Result<String> {
         "conn" => conn(alloc, text),
         "word" => word(alloc, text),
         "topic" => topic(alloc, text),
+        "moved" => moved(alloc, text),
         "pattern" => pattern(alloc, text),
         "matches" => matches(alloc, text),
         "same" => same(alloc, text),

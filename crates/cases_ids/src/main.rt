@@ -5,6 +5,7 @@
 //! - `id N`, `conn N`: the id, or the connection and its seat.
 //! - `word N`: the id that is drawn by this word.
 //! - `topic TEXT`: the topic, and whether it is reserved.
+//! - `moved TEXT`: the same of a string that is moved.
 //! - `pattern POLICY TEXT`: the pattern; the policies are `exact`, `prefix` and `wildcard`.
 //! - `matches POLICY TEXT TOPIC`: whether the pattern matches the topic.
 //! - `same POLICY TEXT POLICY TEXT`: whether two patterns are the same.
@@ -12,6 +13,7 @@
 //! - `publisher CONN ID AUTHID AUTHROLE`, `receiver CONN ID AUTHID AUTHROLE`: who they are, from
 //!   here on.
 //! - `admits JSON`: whether the lists of these options admit the receiver.
+//! - `takes JSON`: the same of lists that are taken out of these options.
 //! - `beyond KEY`: the same for lists under this key, each with a number beyond 64 bits.
 //! - `everyone`: the same for no lists.
 //! - `threads`: that lists and who they name may be shared between threads.

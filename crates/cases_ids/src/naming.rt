@@ -48,6 +48,15 @@ pub fn topic(alloc: Global, text: &str) -> io::Result<String> {
     }
 }
 
+/// The topic that this text is, which is moved.
+pub fn moved(alloc: Global, text: &str) -> io::Result<String> {
+    let text = text_of(alloc, part_of(text))?;
+    match Topic::from_string(text) {
+        Ok(topic) => copied(alloc, &topic),
+        Err(fault) => fault_line(alloc, fault),
+    }
+}
+
 /// A topic in words, by a copy of it.
 fn copied(alloc: Global, topic: &Topic) -> io::Result<String> {
     let copy = topic.try_copy(alloc)?;

@@ -1,8 +1,8 @@
 // Reading one option by its kind. An option whose value is null counts as absent.
-ghost use Rattle.std.specs.Prelude.{◌≡◌, ◌<◌, ◌^◌, pos, IfOk, OnErr, IfErr, None, Some};
+ghost use Rattle.std.specs.Prelude.{◌≡◌, ◌<◌, ◌^◌, pos, codes, option_map, IfOk, OnErr, IfErr, None, Some};
 ghost use Rattle.message_tree.specs.Data.{find_entry, whole, fits_codecs};
 ghost use Rattle.message_tree.specs.View.{view, dict_view, items_view};
-ghost use Rattle.eligibility.specs.Asked.{flag_or, each_of, number_of, text_of};
+ghost use Rattle.eligibility.specs.Asked.{flag_or, each_of, list_or_none, number_of, text_of};
 ghost use Rattle.eligibility.specs.Audience.{numbers_at, texts_at};
 
 use crate::fault::Fault;
@@ -47,6 +47,51 @@ pub(crate) fn texts_at(alloc: Global, options: &Dict, key: &str) -> Result<Optio
         Some(Tree::Null) => Ok(None),
         Some(Tree::List(items)) => {
             let texts = texts_in(alloc, items)?;
+            Ok(Some(Texts::of(alloc, texts)?))
+        }
+        Some(_) => Err(Fault::Shape),
+    }
+}
+
+/// The four options that list texts, each where it is given.
+#[derive(Drop)]
+pub(crate) struct TextLists {
+    pub(crate) exclude_authid: Option<Tree>,
+    pub(crate) exclude_authrole: Option<Tree>,
+    pub(crate) eligible_authid: Option<Tree>,
+    pub(crate) eligible_authrole: Option<Tree>,
+}
+
+/// Takes them out of the options, which are spent.
+pub(crate) fn text_lists(options: Dict) -> TextLists
+    ensures exclude_authid { option_map view result.exclude_authid ≡ find_entry (codes "exclude_authid") (dict_view options) }
+    ensures exclude_authrole { option_map view result.exclude_authrole ≡ find_entry (codes "exclude_authrole") (dict_view options) }
+    ensures eligible_authid { option_map view result.eligible_authid ≡ find_entry (codes "eligible_authid") (dict_view options) }
+    ensures eligible_authrole { option_map view result.eligible_authrole ≡ find_entry (codes "eligible_authrole") (dict_view options) }
+{
+    let mut options = options;
+    let exclude_authid = options.take("exclude_authid");
+    let exclude_authrole = options.take("exclude_authrole");
+    let eligible_authid = options.take("eligible_authid");
+    let eligible_authrole = options.take("eligible_authrole");
+    TextLists {
+        exclude_authid,
+        exclude_authrole,
+        eligible_authid,
+        eligible_authrole,
+    }
+}
+
+/// The texts that an option lists, which are moved.
+pub(crate) fn texts_of(alloc: Global, option: Option<Tree>) -> Result<Option<Texts>, Fault>
+    ensures ok { IfOk result (λ r. list_or_none text_of (option_map view option) ≡ Some r) }
+    ensures bad { result ≡ Err Fault.Shape → list_or_none text_of (option_map view option) ≡ None }
+{
+    match option {
+        None => Ok(None),
+        Some(Tree::Null) => Ok(None),
+        Some(Tree::List(items)) => {
+            let texts = texts_from(alloc, items)?;
             Ok(Some(Texts::of(alloc, texts)?))
         }
         Some(_) => Err(Fault::Shape),
@@ -99,6 +144,29 @@ fn text_of(alloc: Global, tree: &Tree) -> Result<Text, Fault>
 {
     match tree {
         Tree::Text(text) => Ok(Text::of(alloc, text.as_str())?),
+        _ => Err(Fault::Shape),
+    }
+}
+
+/// As [`texts_in`], with the texts moved.
+fn texts_from(alloc: Global, items: Vec<Tree>) -> Result<Vec<Text>, Fault>
+    ensures ok { IfOk result (λ v. each_of text_of (items_view items.items) ≡ Some v.items) }
+    ensures bad { result ≡ Err Fault.Shape → each_of text_of (items_view items.items) ≡ None }
+{
+    let mut texts = Vec::with_capacity(alloc, items.len())?;
+    for item in items {
+        texts.push(text_from(item)?)?;
+    }
+    Ok(texts)
+}
+
+fn text_from(tree: Tree) -> Result<Text, Fault>
+    ensures ok { IfOk result (λ t. text_of (view tree) ≡ Some t) }
+    ensures bad { OnErr result (text_of (view tree) ≡ None) }
+    ensures fault { IfErr result (λ fault. fault ≡ Fault.Shape) }
+{
+    match tree {
+        Tree::Text(text) => Ok(Text::from_string(text)),
         _ => Err(Fault::Shape),
     }
 }

@@ -3,7 +3,7 @@ ghost use Rattle.message_tree.specs.Data.{no_entries};
 ghost use Rattle.message_tree.specs.View.{dict_view};
 ghost use Rattle.eligibility.specs.Audience.{audience_of, everyone, admits, has_number, has_text, is_free_of, allows};
 
-use crate::asked::{flag_at, numbers_at, texts_at};
+use crate::asked::{flag_at, numbers_at, text_lists, texts_at, texts_of};
 use crate::fault::Fault;
 use crate::lookup::{Numbers, Texts};
 use crate::who::Who;
@@ -77,6 +77,34 @@ impl Lists {
         let eligible = numbers_at(alloc, options, "eligible")?;
         let eligible_authid = texts_at(alloc, options, "eligible_authid")?;
         let eligible_authrole = texts_at(alloc, options, "eligible_authrole")?;
+        Ok(Lists {
+            exclude_me,
+            exclude,
+            exclude_authid,
+            exclude_authrole,
+            eligible,
+            eligible_authid,
+            eligible_authrole,
+        })
+    }
+
+    /// What the options say, as [`Lists::read`]. They are spent, and their texts moved.
+    ///
+    /// # Errors
+    /// As [`Lists::read`].
+    #[tactic(auto, unfolding(crate::specs::Audience::audience_of))]
+    pub fn take(alloc: Global, options: Dict) -> Result<Lists, Fault>
+        ensures ok { IfOk result (λ l. audience_of (dict_view options) ≡ Some l) }
+        ensures bad { result ≡ Err Fault.Shape → audience_of (dict_view options) ≡ None }
+    {
+        let exclude_me = flag_at(&options, "exclude_me", true)?;
+        let exclude = numbers_at(alloc, &options, "exclude")?;
+        let eligible = numbers_at(alloc, &options, "eligible")?;
+        let lists = text_lists(options);
+        let exclude_authid = texts_of(alloc, lists.exclude_authid)?;
+        let exclude_authrole = texts_of(alloc, lists.exclude_authrole)?;
+        let eligible_authid = texts_of(alloc, lists.eligible_authid)?;
+        let eligible_authrole = texts_of(alloc, lists.eligible_authrole)?;
         Ok(Lists {
             exclude_me,
             exclude,

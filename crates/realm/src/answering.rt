@@ -118,10 +118,11 @@ fn answer_said(
                 conn,
                 word,
                 request,
-                options: &options,
-                topic: &topic,
+                options,
+                topic,
+                args,
             };
-            publish(alloc, state, &asked, args)
+            publish(alloc, state, asked)
         }
         Said::Subscribe {
             request,

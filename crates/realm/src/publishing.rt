@@ -1,4 +1,4 @@
-ghost use Rattle.std.specs.Prelude.{◌≡◌, true, is_some, None, Some, IfOk, OnOk, OnErr, IfSome};
+ghost use Rattle.std.specs.Prelude.{◌≡◌, ℕ, true, is_some, None, Some, IfOk, OnOk, OnErr, IfSome};
 ghost use Rattle.session.specs.Arguments.{is_all_carried};
 ghost use Rattle.retained.specs.Retained.{has_room, set_topic};
 ghost use Rattle.eligibility.specs.declared.who.Who.{Who};
@@ -17,14 +17,23 @@ use session::{Args, CarriedArgs, Item, Publication, Reason, Request, Who};
 use std::alloc::Global;
 use wamp_ids::{Conn, Id, Topic};
 
-/// A PUBLISH.
+/// A PUBLISH. Answering spends it: its options' texts, topic and arguments are moved.
 #[derive(Drop)]
-pub struct AskedPublication<'a> {
+pub struct AskedPublication {
     pub conn: Conn,
     pub word: u64,
     pub request: Id,
-    pub options: &'a Options,
-    pub topic: &'a Text,
+    pub options: Options,
+    pub topic: Text,
+    pub args: Args,
+}
+
+/// Who asks, and whether for an answer; where its option has a wrong type, it doesn't.
+#[derive(Drop)]
+struct Asker {
+    conn: Conn,
+    request: Id,
+    acknowledge: Option<bool>,
 }
 
 /// A PUBLISH that is accepted.
@@ -50,20 +59,19 @@ fn carried(args: Args) -> Option<CarriedArgs>
 fn accepted(
     alloc: Global,
     store: &Store,
-    asked: &AskedPublication<'_>,
+    options: Options,
+    topic: Text,
     args: Args,
 ) -> Result<Result<AcceptedPublication, Reason>, Fault>
-    ensures answer { IfOk result (λ accepted. (w : Who) → published_by (has_room store.now asked.now.topic.now) asked.now.word w asked.now.topic.now args (wishes_of asked.now.options.now)
-        ≡ made_with asked.now.word w accepted) }
+    ensures answer { IfOk result (λ accepted. (word : ℕ) (w : Who) → published_by (has_room store.now topic) word w topic args (wishes_of options) ≡ made_with word w accepted) }
     ensures room { IfOk result (λ accepted. IfOk accepted (λ a. a.wishes.retained ≡ true → has_room store.now a.topic ≡ true)) }
 {
-    let Some(wishes) = read_wishes(alloc, asked.options)? else {
+    let Some(wishes) = read_wishes(alloc, options)? else {
         return Ok(Err(Reason::InvalidArgument));
     };
-    let topic = match Topic::read(alloc, asked.topic.as_str()) {
+    let topic = match Topic::from_string(topic.into_string()) {
         Ok(topic) => topic,
-        Err(wamp_ids::Fault::BadUri) => return Ok(Err(Reason::InvalidUri)),
-        Err(_) => return Err(Fault::NoMemory),
+        Err(_) => return Ok(Err(Reason::InvalidUri)),
     };
     if topic.is_reserved() {
         return Ok(Err(Reason::InvalidUri));
@@ -71,7 +79,7 @@ fn accepted(
     let Some(args) = carried(args) else {
         return Ok(Err(Reason::InvalidArgument));
     };
-    if wishes.retained && !store.has_room(asked.topic.as_str()) {
+    if wishes.retained && !store.has_room(topic.text()) {
         return Ok(Err(Reason::RetainedFull));
     }
     Ok(Ok(AcceptedPublication {
@@ -106,48 +114,47 @@ fn publication(
     })
 }
 
-/// Whether a PUBLISH asks for an answer; where its option has a wrong type, it doesn't.
-fn is_acknowledged(options: &Options) -> bool
-    ensures { result ≡ is_some_true (acknowledge_of options.now) }
+fn is_acknowledged(asker: &Asker) -> bool
+    ensures { result ≡ is_some_true asker.now.acknowledge }
 {
-    match flag(options, "acknowledge") {
+    match asker.acknowledge {
         Some(flag) => flag,
         None => false,
     }
 }
 
 /// ERROR for a PUBLISH that is refused, where it asked for an answer.
-fn refused(alloc: Global, asked: &AskedPublication<'_>, reason: Reason) -> Result<Given, Fault>
-    ensures { IfOk result (λ given. given.items ≡ refused asked.now.conn asked.now.request (acknowledge_of asked.now.options.now) reason) }
+fn refused(alloc: Global, asker: &Asker, reason: Reason) -> Result<Given, Fault>
+    ensures { IfOk result (λ given. given.items ≡ refused asker.now.conn asker.now.request asker.now.acknowledge reason) }
 {
-    if !is_acknowledged(asked.options) {
+    if !is_acknowledged(asker) {
         return Ok(Vec::new(alloc));
     }
     let item = Item::Error {
         kind: Request::Publish,
-        request: asked.request,
+        request: asker.request,
         reason,
     };
-    one(alloc, asked.conn, item)
+    one(alloc, asker.conn, item)
 }
 
 /// What an accepted publication gives: EVENTs, and PUBLISHED where that was asked for.
 fn told(
     alloc: Global,
     state: &State,
-    asked: &AskedPublication<'_>,
+    asker: &Asker,
     made: &Shared<Publication>,
 ) -> Result<Given, Fault>
-    ensures { IfOk result (λ given. given.items ≡ told state.now asked.now.conn asked.now.request (acknowledge_of asked.now.options.now) made.now) }
+    ensures { IfOk result (λ given. given.items ≡ told state.now asker.now.conn asker.now.request asker.now.acknowledge made.now) }
 {
     let keys = matching(alloc, &state.index, &made.value().topic)?;
     let mut given = events_at(alloc, &state.sessions, &state.index, made, &keys)?;
-    if is_acknowledged(asked.options) {
+    if is_acknowledged(asker) {
         let published = Item::Published {
-            request: asked.request,
+            request: asker.request,
             publication: made.value().id,
         };
-        put_before(&mut given, asked.conn, published)?;
+        put_before(&mut given, asker.conn, published)?;
     }
     Ok(given)
 }
@@ -166,29 +173,37 @@ fn retain(alloc: Global, store: &mut Store, made: Shared<Publication>) -> Result
 }
 
 /// Answers a PUBLISH of a live session.
-pub fn publish(
-    alloc: Global,
-    state: &mut State,
-    asked: &AskedPublication<'_>,
-    args: Args,
-) -> Result<Given, Fault>
-    requires { is_some (session_of state.old.sessions asked.now.conn) ≡ true }
-    ensures ok { IfOk result (λ given. (w : Who) → session_of state.old.sessions asked.now.conn ≡ Some w
-        → IsPublished state.old asked.now.conn asked.now.request (acknowledge_of asked.now.options.now)
-        (published_by (has_room state.old.store asked.now.topic.now) asked.now.word w asked.now.topic.now args (wishes_of asked.now.options.now)) state.new given.items) }
+pub fn publish(alloc: Global, state: &mut State, asked: AskedPublication) -> Result<Given, Fault>
+    requires { is_some (session_of state.old.sessions asked.conn) ≡ true }
+    ensures ok { IfOk result (λ given. (w : Who) → session_of state.old.sessions asked.conn ≡ Some w
+        → IsPublished state.old asked.conn asked.request (acknowledge_of asked.options)
+        (published_by (has_room state.old.store asked.topic) asked.word w asked.topic asked.args (wishes_of asked.options)) state.new given.items) }
     ensures unchanged { OnErr result (state.new ≡ state.old) }
 {
-    let accepted = match accepted(alloc, &state.store, asked, args)? {
-        Ok(accepted) => accepted,
-        Err(reason) => return refused(alloc, asked, reason),
+    let AskedPublication {
+        conn,
+        word,
+        request,
+        options,
+        topic,
+        args,
+    } = asked;
+    let asker = Asker {
+        conn,
+        request,
+        acknowledge: flag(&options, "acknowledge"),
     };
-    let Some(publisher) = state.sessions.find(asked.conn) else {
+    let accepted = match accepted(alloc, &state.store, options, topic, args)? {
+        Ok(accepted) => accepted,
+        Err(reason) => return refused(alloc, &asker, reason),
+    };
+    let Some(publisher) = state.sessions.find(conn) else {
         unreachable!()
     };
     let retained = accepted.wishes.retained;
-    let made = publication(alloc, publisher, asked.word, accepted)?;
+    let made = publication(alloc, publisher, word, accepted)?;
     let made = Shared::new(alloc, made)?;
-    let given = told(alloc, state, asked, &made)?;
+    let given = told(alloc, state, &asker, &made)?;
     if retained {
         retain(alloc, &mut state.store, made)?;
     }

@@ -31,18 +31,20 @@ pub fn flag(options: &Options, key: &str) -> Option<bool>
     }
 }
 
-/// What the options of a PUBLISH ask for; `None` where one of them has a wrong type.
-pub fn read_wishes(alloc: Global, options: &Options) -> Result<Option<Wishes>, Fault>
-    ensures { IfOk result (λ wishes. wishes ≡ wishes_of options.now) }
+/// What the options of a PUBLISH ask for, which are spent; `None` where one of them has a wrong type.
+pub fn read_wishes(alloc: Global, options: Options) -> Result<Option<Wishes>, Fault>
+    ensures { IfOk result (λ wishes. wishes ≡ wishes_of options) }
 {
-    if flag(options, "acknowledge").is_none() {
+    if flag(&options, "acknowledge").is_none() {
         return Ok(None);
     }
-    let (Some(disclosed), Some(retained)) = (flag(options, "disclose_me"), flag(options, "retain"))
-    else {
+    let (Some(disclosed), Some(retained)) = (
+        flag(&options, "disclose_me"),
+        flag(&options, "retain"),
+    ) else {
         return Ok(None);
     };
-    match Lists::read(alloc, options.dict()) {
+    match Lists::take(alloc, options.into_dict()) {
         Ok(lists) => Ok(Some(Wishes {
             lists,
             disclosed,
