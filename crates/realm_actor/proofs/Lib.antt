@@ -1,0 +1,4 @@
+pub mod Rules
+pub mod Told
+pub mod Seating
+pub mod Joined
