@@ -2,3 +2,4 @@ pub mod Rules
 pub mod Told
 pub mod Seating
 pub mod Joined
+pub mod Crossing
