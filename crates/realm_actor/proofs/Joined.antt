@@ -1,10 +1,8 @@
 -- What a poster of a connection that has joined posts.
-use Rattle.std.proofs.Common.{◌≡◌, ℕ, Bool, true, false, true≢false, sym, ap, ◌∙◌, List, [], ◌∷◌, ◌++◌, map, Ok, Err, MatchResult}
+use Rattle.std.proofs.Common.{◌≡◌, ℕ, false, true≢false, sym, ap, ◌∙◌, List, [], ◌∷◌, ◌++◌, map, Ok, Err, MatchResult}
 use Rattle.std.specs.declared.result.Result.{Result}
 use Rattle.std.proofs.lemmas.List.{map-append}
-use Rattle.realm_actor.specs.declared.joining.Joining.{Joining}
 use Rattle.realm_actor.specs.declared.act.Act.{Act}
-use Rattle.realm_actor.specs.declared.act.Act.TheVariants.{Join}
 use Rattle.realm_actor.specs.Joins.{is_join}
 use Rattle.realm_actor.specs.Seats.{BringsOwn}
 

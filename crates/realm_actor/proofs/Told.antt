@@ -1,11 +1,10 @@
 -- What a step tells of a view that is known to be the reader's, a seat's or the door's.
-use Rattle.std.proofs.Common.{◌≡◌, ℕ, ◌+◌, true, false, true≢false, eqb-true, eq-eqb, List, [], ◌∷◌, ◌++◌, sym, refl, ap, ◌∙◌, subst, Ok, Err, MatchResult, MatchOption, if◌then◌else◌}
+use Rattle.std.proofs.Common.{◌≡◌, ℕ, ◌+◌, true, false, true≢false, eqb-true, eq-eqb, [], ◌∷◌, ◌++◌, sym, refl, ap, ◌∙◌, subst, Ok, Err, MatchResult, MatchOption}
 use Rattle.std.specs.declared.option.Option.{Option}
 use Rattle.std.specs.declared.result.Result.{Result}
 use Rattle.std.specs.Result.{result_ok}
 use Rattle.crossbeam_channel.specs.Fifo.{Pushes, Pops, Forks, Learns, Held}
 use Rattle.wamp_ids.specs.Numbers.{seat_of}
-use Rattle.realm_actor.specs.declared.act.Act as the
 use Rattle.realm_actor.specs.declared.letter.Letter.{Letter}
 use Rattle.realm_actor.specs.declared.letter.Post.{Post}
 use Rattle.realm_actor.specs.declared.letter.Post.TheVariants.{Act, Stop}

@@ -1,5 +1,5 @@
 -- What the ends of an inbox show.
-use Rattle.std.specs.Prelude.{◌≡◌, ℕ, ◌==◌, Bool, true, false, List, []}
+use Rattle.std.specs.Prelude.{ℕ, ◌==◌, Bool, true, false, List, []}
 use Rattle.crossbeam_channel.specs.Claims.{Pass}
 use Rattle.atomic_table.specs.Seated.{TableId}
 use Rattle.atomic_table.specs.declared.badge.Badge.{Badge}

@@ -1,5 +1,5 @@
 //! The ends of an inbox.
-ghost use Rattle.std.specs.Prelude.{◌≡◌, ◌≤◌, ◌+◌, [], ◌∷◌, ◌++◌, true, if◌then◌else◌, MatchOption, MatchResult};
+ghost use Rattle.std.specs.Prelude.{◌≡◌, ◌≤◌, ◌+◌, [], ◌∷◌, ◌++◌, true, if◌then◌else◌, IfSome, MatchOption, MatchResult};
 ghost use Rattle.crossbeam_channel.specs.Claims.{view, IsSeatAt};
 ghost use Rattle.crossbeam_channel.specs.Ends.{sends_on, receives_on};
 ghost use Rattle.wamp_ids.specs.Numbers.{seat_of};
@@ -75,11 +75,11 @@ pub struct Inbox<S: Shut> {
 impl<S: Shut> Inbox<S> {
     ghost use Rattle.realm_actor.specs.Shown.{received, capacity, inbox_of};
 
-    /// Waits for a post. A post is the next of its seat: what it says had been posted there before it is what was received of the
-    /// seat. `None` once each sender is gone: the door, each poster and each seat.
+    /// Waits for a post. It is the next of its seat: what had been posted there before it is exactly what was received of the seat.
+    /// `None` once each sender is gone: the door, each poster and each seat.
     pub fn receive<R: Wait>(&mut self, rt: &R) -> Option<Post<S>>
         ensures given { MatchOption result (received self.new ≡ received self.old) (λ p. received self.new ≡ received self.old ++ p ∷ []) }
-        ensures in_turn { MatchOption result (Unit {0}) (λ p. IsNext (received self.old) p) }
+        ensures in_turn { IfSome result (λ p. IsNext (received self.old) p) }
         ensures same { (inbox_of self.new ≡ inbox_of self.old) × (capacity self.new ≡ capacity self.old) }
     {
         self.receiver
@@ -91,7 +91,7 @@ impl<S: Shut> Inbox<S> {
     /// empty at one moment of the call, a post may wait all the same, and each sender may be gone.
     pub fn try_receive<R: Wait>(&mut self, rt: &R) -> Option<Post<S>>
         ensures given { MatchOption result (received self.new ≡ received self.old) (λ p. received self.new ≡ received self.old ++ p ∷ []) }
-        ensures in_turn { MatchOption result (Unit {0}) (λ p. IsNext (received self.old) p) }
+        ensures in_turn { IfSome result (λ p. IsNext (received self.old) p) }
         ensures same { (inbox_of self.new ≡ inbox_of self.old) × (capacity self.new ≡ capacity self.old) }
     {
         self.receiver

@@ -66,7 +66,7 @@ fn cut_seats<S: Shut>(
     Ok(seats)
 }
 
-/// An inbox in which at most `cap` posts wait, from 1 on, with its door and its seats, from 1 to 256 in order. Nothing was posted
+/// An inbox in which at most `cap` posts wait, 1 or more, with its door and its seats, from 1 to 256 in order. Nothing was posted
 /// or received yet.
 ///
 /// # Errors

@@ -8,12 +8,15 @@ use crate::ends::Poster;
 use crate::words::Shut;
 use std::sync::Wait;
 
-/// Posts acts of one connection that has joined, one after another.
+/// Where the acts of one connection go once it has asked for its session, one after another.
 pub trait Posting<S: Shut> {
-    /// What was posted so far.
+    /// What was posted so far, the oldest first.
     ghost posted: { Self → List (AnAct S) };
 
-    /// Posts an act, and may wait for room. It comes back where nobody receives it any more.
+    /// Posts an act that is no Join, and may wait for room.
+    ///
+    /// # Errors
+    /// The act, where nobody receives it any more. Nothing was posted then.
     fn post<R: Wait>(&mut self, rt: &R, act: Act<S>) -> Result<(), Act<S>>
         requires { is_join act ≡ false }
         ensures { MatchResult result (λ _. posted self.new ≡ posted self.old ++ act ∷ []) (λ back. (back ≡ act) × (posted self.new ≡ posted self.old)) };

@@ -60,7 +60,9 @@ impl<S: Shut> Outcome<Post<S>, View<S>> for Posts {
 }
 
 impl<S: Shut> Lesson<Post<S>, View<S>> for Posts {
-    ghost fact = { λ v items. Unit {0} };
+    ghost use Rattle.std.specs.Prelude.{⊤};
+
+    ghost fact = { λ v items. ⊤ };
 }
 
 // A stop, which the door posts.
@@ -74,7 +76,9 @@ impl<S: Shut> Outcome<Post<S>, View<S>> for Stops {
 }
 
 impl<S: Shut> Lesson<Post<S>, View<S>> for Stops {
-    ghost fact = { λ v items. Unit {0} };
+    ghost use Rattle.std.specs.Prelude.{⊤};
+
+    ghost fact = { λ v items. ⊤ };
 }
 
 // A receive.
@@ -87,5 +91,7 @@ impl<S: Shut> Outcome<Post<S>, View<S>> for Receives {
 }
 
 impl<S: Shut> Lesson<Post<S>, View<S>> for Receives {
-    ghost fact = { λ v items. Unit {0} };
+    ghost use Rattle.std.specs.Prelude.{⊤};
+
+    ghost fact = { λ v items. ⊤ };
 }

@@ -1,4 +1,4 @@
-use Rattle.std.proofs.Common.{◌≡◌, ◌+◌, ◌++◌, ◌∷◌, [], length, length-append, sym, ap, ◌∙◌}
+use Rattle.std.proofs.Common.{◌≡◌, ◌+◌, ◌∷◌, [], length, length-append, sym, ap, ◌∙◌}
 use Rattle.realm_actor.specs.Ends.{place_of}
 use Rattle.realm_actor.proofs.Seating.{seats_snoc}
 use Rattle.realm_actor.proofs.opening.cut_seats.Goals as goal
