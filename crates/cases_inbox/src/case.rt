@@ -1,0 +1,215 @@
+//! The words of the table.
+ghost use Rattle.std.specs.Prelude.{◌≤◌};
+
+use crate::acts::{act_of, answered, joining_of, told};
+use crate::room::{Room, post};
+use crate::threads::pass_all;
+use crate::wire::Wire;
+use case_text::{crossing, line_of, may_be_sent};
+use realm_actor::{Act, Door, Inbox, Poster, Seat};
+use std::alloc::Global;
+use std::io;
+use std::sync::Wait;
+use std::thread::Threads;
+use wamp_ids::Conn;
+
+/// The ends of the present case's inbox, if one was made.
+#[derive(Drop)]
+pub struct Case {
+    room: Option<Room>,
+}
+
+// The first word, and what is behind it.
+fn part(text: &str) -> (&str, &str) {
+    match text.split_once(' ') {
+        Some(parts) => parts,
+        None => (text, ""),
+    }
+}
+
+fn conn_of(text: &str) -> Option<Conn> {
+    Conn::new(text.parse::<u64>().ok()?)
+}
+
+impl Case {
+    /// No inbox yet.
+    pub fn new() -> Case {
+        Case { room: None }
+    }
+
+    /// Takes a line, and gives what it is answered by.
+    pub fn take<R: Threads + Wait + Copy + Send + 'static>(
+        &mut self,
+        rt: R,
+        alloc: Global,
+        line: &str,
+    ) -> io::Result<String> {
+        let (word, text) = part(line);
+        match word {
+            "#" => {
+                self.room = None;
+                line_of(alloc, line)
+            }
+            "inbox" => self.begin(alloc, text),
+            "threads" => pass_some(rt, alloc, text),
+            "crossing" => ends_cross(alloc),
+            _ => match &mut self.room {
+                None => line_of(alloc, "no inbox"),
+                Some(room) => step(&rt, alloc, room, word, text),
+            },
+        }
+    }
+
+    fn begin(&mut self, alloc: Global, text: &str) -> io::Result<String> {
+        match text.parse::<usize>() {
+            Ok(cap) if cap >= 1 => {
+                self.room = Some(Room::new(alloc, cap)?);
+                Ok(String::new(alloc))
+            }
+            _ => line_of(alloc, "no inbox has that capacity"),
+        }
+    }
+}
+
+// Tells that the ends may go to other threads.
+fn ends_cross(alloc: Global) -> io::Result<String> {
+    may_be_sent::<Door<Wire>>();
+    may_be_sent::<Seat<Wire>>();
+    may_be_sent::<Poster<Wire>>();
+    may_be_sent::<Inbox<Wire>>();
+    crossing(alloc)
+}
+
+fn pass_some<R: Threads + Wait + Copy + Send + 'static>(
+    rt: R,
+    alloc: Global,
+    text: &str,
+) -> io::Result<String> {
+    let (cap, rest) = part(text);
+    let (first, rest) = part(rest);
+    let (second, count) = part(rest);
+    match (
+        cap.parse::<usize>(),
+        conn_of(first),
+        conn_of(second),
+        count.parse::<u64>(),
+    ) {
+        (Ok(cap), Some(first), Some(second), Ok(count)) if cap >= 1 => {
+            pass_all(rt, alloc, cap, (first, second), count)
+        }
+        _ => line_of(alloc, "no capacity, connections and count"),
+    }
+}
+
+// What a word does that needs an inbox.
+fn step<R: Wait>(
+    rt: &R,
+    alloc: Global,
+    room: &mut Room,
+    word: &str,
+    text: &str,
+) -> io::Result<String> {
+    match word {
+        "receive" => told(alloc, room.receive(rt, true)),
+        "try" => told(alloc, room.receive(rt, false)),
+        "seats" => seats(alloc, room),
+        "stop" => stop(rt, alloc, room),
+        "close" => {
+            room.inbox = None;
+            Ok(String::new(alloc))
+        }
+        "desert" => {
+            room.door = None;
+            room.seats = Vec::new(alloc);
+            Ok(String::new(alloc))
+        }
+        _ => of_conn(rt, alloc, room, word, text),
+    }
+}
+
+// What a word does that names a connection.
+fn of_conn<R: Wait>(
+    rt: &R,
+    alloc: Global,
+    room: &mut Room,
+    word: &str,
+    text: &str,
+) -> io::Result<String> {
+    let (conn, rest) = part(text);
+    let Some(conn) = conn_of(conn) else {
+        return line_of(alloc, "no case has this word");
+    };
+    match word {
+        "poster" => done(alloc, room.seat_poster(alloc, conn)?, "its seat isn't free"),
+        "leave" => done(alloc, room.leave(conn)?, "no poster"),
+        "join" => join(rt, alloc, room, conn, rest),
+        _ => act(rt, alloc, room, conn, (word, rest)),
+    }
+}
+
+fn done(alloc: Global, is_done: bool, otherwise: &str) -> io::Result<String> {
+    if is_done {
+        Ok(String::new(alloc))
+    } else {
+        line_of(alloc, otherwise)
+    }
+}
+
+// Which seats are free: how many, and the numbers of the first and the last.
+fn seats(alloc: Global, room: &Room) -> io::Result<String> {
+    let count = room.seats.len();
+    match (room.seats.first(), room.seats.last()) {
+        (Some(first), Some(last)) => {
+            let first = first.number();
+            let last = last.number();
+            Ok(format!(in alloc; "{count} free, from {first} to {last}\n")?)
+        }
+        _ => line_of(alloc, "none free"),
+    }
+}
+
+fn stop<R: Wait>(rt: &R, alloc: Global, room: &mut Room) -> io::Result<String> {
+    match &mut room.door {
+        None => line_of(alloc, "no door"),
+        Some(door) => {
+            let is_posted = door.stop(rt);
+            done(alloc, is_posted, "nobody receives it")
+        }
+    }
+}
+
+fn join<R: Wait>(
+    rt: &R,
+    alloc: Global,
+    room: &mut Room,
+    conn: Conn,
+    text: &str,
+) -> io::Result<String> {
+    let (authid, wire) = part(text);
+    let Some(mut poster) = room.take_poster(conn) else {
+        return line_of(alloc, "no poster");
+    };
+    let wire = wire.parse::<u64>().unwrap_or(0);
+    let joining = joining_of(alloc, poster.conn(), authid, wire)?;
+    let posted = poster.post(rt, Act::Join(joining));
+    room.posters.push(poster)?;
+    answered(alloc, posted)
+}
+
+fn act<R: Wait>(
+    rt: &R,
+    alloc: Global,
+    room: &mut Room,
+    conn: Conn,
+    words: (&str, &str),
+) -> io::Result<String> {
+    let Some(act) = act_of(alloc, words.0, words.1)? else {
+        return line_of(alloc, "no case has this word");
+    };
+    let Some(mut poster) = room.take_poster(conn) else {
+        return line_of(alloc, "no poster");
+    };
+    let posted = post(rt, &mut poster, act);
+    room.posters.push(poster)?;
+    answered(alloc, posted)
+}

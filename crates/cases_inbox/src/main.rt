@@ -1,0 +1,33 @@
+//! Cases of `realm_actor`'s inbox, as lines of standard input; what each gives is printed.
+//!
+//! - `# TEXT` begins a case, and is printed as it stands.
+//! - `inbox CAP`: an inbox in which so many posts may wait, with its door and its seats; `seats` tells which of them are free.
+//! - `poster CONN` makes the poster of a connection out of the free seat of its number, and `leave CONN` frees that seat again.
+//! - `join CONN AUTHID WIRE`, `ping CONN TEXT`, `goodbye CONN`, `spoilt CONN`, `gone CONN` post an act; AUTHID is `-` where none is
+//!   asked for, and WIRE is the number of a transport. `stop` has the door post a stop.
+//! - `receive` waits for a post, `try` looks for one.
+//! - `close` drops the inbox, `desert` the door and each free seat.
+//! - `threads CAP CONN CONN COUNT`: two threads post so many PINGs each, numbered from 0, and a third receives them all.
+//! - `crossing`: what may go to other threads.
+#![tactic(auto)]
+
+mod acts;
+mod case;
+mod room;
+mod tally;
+mod threads;
+mod wire;
+mod work;
+
+use case::Case;
+use std::io;
+
+fn main(rt: HostRuntime) -> io::Result<()> {
+    let alloc = rt.alloc();
+    let mut case = Case::new();
+    for line in rt.lines(alloc) {
+        let told = case.take(rt, alloc, line?.as_str())?;
+        print!(rt; "{told}")?;
+    }
+    Ok(())
+}

@@ -1,0 +1,144 @@
+//! Two threads post, a third receives.
+ghost use Rattle.std.specs.Prelude.{◌≡◌, ◌≤◌, false, IfOk};
+ghost use Rattle.realm_actor.specs.Joins.{is_join};
+
+use crate::room::{Room, post, poster_at};
+use crate::tally::{Received, Tally};
+use crate::wire::Wire;
+use crate::work::{Work, start};
+use message_tree::Octets;
+use realm_actor::{Act, Inbox, Poster};
+use std::alloc::{AllocError, Global};
+use std::io;
+use std::sync::Wait;
+use std::thread::Threads;
+use wamp_ids::{Conn, seat};
+
+/// A poster, and how many PINGs it is to post.
+#[derive(Drop)]
+pub struct Numbered {
+    poster: Poster<Wire>,
+    count: u64,
+    alloc: Global,
+}
+
+// The PING of this number.
+fn ping_of(alloc: Global, number: u64) -> Result<Act<Wire>, AllocError>
+    ensures { IfOk result (λ act. is_join act ≡ false) }
+{
+    let octets = Octets::of(alloc, number.to_be_bytes().as_slice())?;
+    Ok(Act::Ping(octets))
+}
+
+impl<R: Wait + Copy> Work<R> for Numbered {
+    /// Posts them, numbered from 0.
+    fn run(self, rt: R) -> bool {
+        let Numbered {
+            mut poster,
+            count,
+            alloc,
+        } = self;
+        for number in 0..count {
+            let Ok(ping) = ping_of(alloc, number) else {
+                return false;
+            };
+            if post(&rt, &mut poster, ping).is_err() {
+                break;
+            }
+        }
+        true
+    }
+}
+
+/// What the two posters are to do, and where it arrives. The door and all other seats are gone.
+#[derive(Drop)]
+struct Both {
+    first: Numbered,
+    second: Numbered,
+    inbox: Inbox<Wire>,
+}
+
+fn work_of(room: &mut Room, alloc: Global, conn: Conn, count: u64) -> Option<Numbered> {
+    let at = room.take_seat(seat(conn))?;
+    let door = room.door.as_ref()?;
+    let poster = poster_at(door, alloc, at, conn).ok()?;
+    Some(Numbered {
+        poster,
+        count,
+        alloc,
+    })
+}
+
+fn both_of(mut room: Room, alloc: Global, first: Conn, second: Conn, count: u64) -> Option<Both> {
+    let first = work_of(&mut room, alloc, first, count)?;
+    let second = work_of(&mut room, alloc, second, count)?;
+    let Room { inbox, .. } = room;
+    Some(Both {
+        first,
+        second,
+        inbox: inbox?,
+    })
+}
+
+// Receives until each sender is gone.
+fn receive_all<R: Wait>(rt: &R, inbox: &mut Inbox<Wire>, received: &mut Received) {
+    for _ in rt.forever() {
+        match inbox.receive(rt) {
+            None => break,
+            Some(post) => received.sees(&post),
+        }
+    }
+}
+
+// Starts both threads and receives what they post. False where memory was refused.
+fn pass<R: Threads + Wait + Copy + Send + 'static>(
+    rt: R,
+    both: Both,
+    received: &mut Received,
+) -> Result<bool, AllocError> {
+    let Both {
+        first,
+        second,
+        mut inbox,
+    } = both;
+    let first = start(rt, first)?;
+    let second = start(rt, second);
+    let Ok(second) = second else {
+        drop(inbox);
+        first.join(&rt);
+        return Err(AllocError);
+    };
+    receive_all(&rt, &mut inbox, received);
+    let had_memory = first.join(&rt);
+    Ok(second.join(&rt) && had_memory)
+}
+
+/// Posts so many PINGs from each of two threads through an inbox of this capacity, and tells what a third received.
+pub fn pass_all<R: Threads + Wait + Copy + Send + 'static>(
+    rt: R,
+    alloc: Global,
+    cap: usize,
+    conns: (Conn, Conn),
+    count: u64,
+) -> io::Result<String>
+    requires { 1 ≤ cap }
+{
+    let (first, second) = conns;
+    let room = Room::new(alloc, cap)?;
+    let Some(both) = both_of(room, alloc, first, second, count) else {
+        return Ok(String::from_str(alloc, "they need the same seat\n")?);
+    };
+    let mut received = Received {
+        first: Tally::new(first),
+        second: Tally::new(second),
+        others: 0,
+    };
+    if !pass(rt, both, &mut received)? {
+        return Err(AllocError)?;
+    }
+    let mut told = received.first.told(alloc)?;
+    told.push_str(received.second.told(alloc)?.as_str())?;
+    let others = received.others;
+    write!(told, "others: {others}, and then none\n")?;
+    Ok(told)
+}

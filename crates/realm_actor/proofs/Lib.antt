@@ -1,0 +1,5 @@
+pub mod Rules
+pub mod Told
+pub mod Seating
+pub mod Joined
+pub mod Crossing

@@ -1,0 +1,8 @@
+pub mod Begins
+pub mod Past
+pub mod Joins
+pub mod Seats
+pub mod InTurn
+pub mod Ends
+pub mod Shown
+pub mod Laws

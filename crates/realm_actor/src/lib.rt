@@ -1,0 +1,32 @@
+//! The inbox of a realm's actor: many connections post, one thread receives, and each post is the next of its seat.
+//!
+//! [`opening::inbox`] makes a [`Door`], the 256 [`Seat`]s and the [`Inbox`]. A [`Poster`] posts the acts of one connection at its
+//! seat; a seat serves one connection after another. What was posted at each seat, and what was received, are facts that contracts
+//! see and that take no bytes. Each post carries what had been posted at its seat before it; and when it is received, that is
+//! exactly what had been received of the seat. So of each seat the inbox gives what was posted there, whole and in order, and
+//! [`laws`] says so of every moment.
+//!
+//! Nothing is promised of time: neither that a call returns while the inbox is full or empty, nor which seat comes first.
+#![tactic(auto)]
+
+mod act;
+mod ends;
+mod history;
+mod joining;
+pub mod laws;
+mod letter;
+pub mod opening;
+mod past;
+mod posting;
+mod rule;
+mod words;
+
+pub use act::Act;
+pub use ends::{Door, Inbox, Poster, Seat};
+pub use history::RealmHistory;
+pub use joining::Joining;
+pub use letter::{Letter, Post};
+pub use past::Past;
+pub use posting::Posting;
+pub use rule::{InTurn, View};
+pub use words::{IdSource, Shut};
