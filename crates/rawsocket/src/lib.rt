@@ -27,4 +27,4 @@ pub use memory::{MemorySink, MemorySource};
 pub use over_io::{ReadSource, WriteSink};
 pub use passed::Passed;
 pub use steps::Steps;
-pub use turns::{Turns, read_turn, write_all};
+pub use turns::{PIECE, Turns, read_turn, send, write_all};

@@ -5,9 +5,9 @@
 mod args;
 mod asked;
 mod details;
-mod dialogue;
 mod elements;
 mod fault;
+mod first_message;
 mod item;
 pub mod laws;
 mod opened;
@@ -20,12 +20,12 @@ mod verdict;
 
 pub use args::{Args, CarriedArgs};
 pub use asked::First;
-pub use dialogue::open_session;
 pub use eligibility::{Lists, Who};
 pub use fault::Fault;
+pub use first_message::{abort_uri, first};
 pub use item::{Item, Publication, Reason, Request};
 pub use opened::Opened;
-pub use opening::{abort_uri, first};
+pub use opening::open_session;
 pub use reading::read_said;
 pub use said::Said;
 pub use telling::item_message;

@@ -1,0 +1,5 @@
+use Rattle.session.proofs.Once.{one-opening as law}
+use Rattle.session.proofs.laws.one_opening.Goals as goal
+
+pub returns : goal.returns
+returns c = law
