@@ -1,4 +1,5 @@
-ghost use Rattle.std.specs.Prelude.{◌≡◌, ℕ, true, is_some, None, Some, IfOk, OnOk, OnErr, IfSome};
+ghost use Rattle.std.specs.Prelude.{◌≡◌, ℕ, true, not, ◌&&◌, is_some, None, Some, IfOk, OnOk, OnErr, IfSome};
+ghost use Rattle.wamp_ids.specs.Uri.{is_topic, is_reserved};
 ghost use Rattle.session.specs.Arguments.{is_all_carried};
 ghost use Rattle.retained.specs.Retained.{has_room, set_topic};
 ghost use Rattle.eligibility.specs.declared.who.Who.{Who};
@@ -55,6 +56,43 @@ fn carried(args: Args) -> Option<CarriedArgs>
     }
 }
 
+/// The topic of a PUBLISH; none where it is no topic, or a reserved one.
+fn open_topic(text: Text) -> Option<Topic>
+    ensures same { IfSome result (λ topic. topic ≡ text) }
+    ensures open { is_some result ≡ (is_topic text && not (is_reserved text)) }
+{
+    match Topic::from_string(text.into_string()) {
+        Ok(topic) if !topic.is_reserved() => Some(topic),
+        _ => None,
+    }
+}
+
+/// What a PUBLISH with these wishes asks for where it is accepted, or why it is refused.
+fn accepted_with(
+    store: &Store,
+    wishes: Wishes,
+    topic: Text,
+    args: Args,
+) -> Result<AcceptedPublication, Reason>
+    ensures answer { (word : ℕ) (w : Who) → published_by (has_room store.now topic) word w topic args (Some wishes) ≡ made_with word w result }
+    ensures room { IfOk result (λ a. a.wishes.retained ≡ true → has_room store.now a.topic ≡ true) }
+{
+    let Some(topic) = open_topic(topic) else {
+        return Err(Reason::InvalidUri);
+    };
+    let Some(args) = carried(args) else {
+        return Err(Reason::InvalidArgument);
+    };
+    if wishes.retained && !store.has_room(topic.text()) {
+        return Err(Reason::RetainedFull);
+    }
+    Ok(AcceptedPublication {
+        topic,
+        wishes,
+        args,
+    })
+}
+
 /// What a PUBLISH asks for where it is accepted, or why it is refused.
 fn accepted(
     alloc: Global,
@@ -66,27 +104,10 @@ fn accepted(
     ensures answer { IfOk result (λ accepted. (word : ℕ) (w : Who) → published_by (has_room store.now topic) word w topic args (wishes_of options) ≡ made_with word w accepted) }
     ensures room { IfOk result (λ accepted. IfOk accepted (λ a. a.wishes.retained ≡ true → has_room store.now a.topic ≡ true)) }
 {
-    let Some(wishes) = read_wishes(alloc, options)? else {
-        return Ok(Err(Reason::InvalidArgument));
-    };
-    let topic = match Topic::from_string(topic.into_string()) {
-        Ok(topic) => topic,
-        Err(_) => return Ok(Err(Reason::InvalidUri)),
-    };
-    if topic.is_reserved() {
-        return Ok(Err(Reason::InvalidUri));
+    match read_wishes(alloc, options)? {
+        Some(wishes) => Ok(accepted_with(store, wishes, topic, args)),
+        None => Ok(Err(Reason::InvalidArgument)),
     }
-    let Some(args) = carried(args) else {
-        return Ok(Err(Reason::InvalidArgument));
-    };
-    if wishes.retained && !store.has_room(topic.text()) {
-        return Ok(Err(Reason::RetainedFull));
-    }
-    Ok(Ok(AcceptedPublication {
-        topic,
-        wishes,
-        args,
-    }))
 }
 
 /// The publication that an accepted PUBLISH makes.
