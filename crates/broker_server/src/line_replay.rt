@@ -5,7 +5,7 @@ ghost use Rattle.realm.specs.Words.{draws_word};
 ghost use Rattle.broker_server.specs.Grants.{bytes_of};
 ghost use Rattle.broker_server.specs.Lines.{is_number};
 ghost use Rattle.broker_server.specs.Transcript.{PrintsEntry, PrintsMore, after, history_with, is_named, later, opening, refused, starting};
-ghost use Rattle.broker_server.specs.Scripts.{PrintsOpening};
+ghost use Rattle.broker_server.specs.LineReplays.{PrintsOpening};
 
 use crate::fault::Fault;
 use crate::grants::copy_grants;
@@ -21,14 +21,14 @@ use wamp_ids::{Conn, Topic};
 
 /// A replay of one realm: its history, and the numbers that were named so far.
 #[derive(Drop)]
-pub struct Script {
+pub struct LineReplay {
     world: World,
     name: Topic,
     named: Vec<Conn>,
     words: u64,
 }
 
-impl Model for Script {
+impl Model for LineReplay {
     ghost use Rattle.std.specs.Prelude.{◌≡◌, true};
     ghost use Rattle.broker_server.specs.Lines.{is_number};
     ghost use Rattle.broker_server.specs.Transcript.{Replay, next_word};
@@ -38,11 +38,11 @@ impl Model for Script {
 
     ghost coded = { replay_code };
 
-    ghost use Rattle.broker_server.specs.Scripts.{IsScript};
+    ghost use Rattle.broker_server.specs.LineReplays.{IsLineReplay};
 
     ghost view = { λ s. record { realm = s.name; named = s.named.items; history = s.world.history } };
 
-    ghost invariant = { λ s. IsScript (record { realm = s.name; named = s.named.items; history = s.world.history }) s.words };
+    ghost invariant = { λ s. IsLineReplay (record { realm = s.name; named = s.named.items; history = s.world.history }) s.words };
 }
 
 /// How many words an entry draws.
@@ -52,9 +52,13 @@ fn draws(entry: &Entry) -> u64
     if entry.draws_word() { 1 } else { 0 }
 }
 
-impl Script {
+impl LineReplay {
     /// A replay of the realm of this name, with these grants, before its first line.
-    pub fn new(alloc: Global, name: &Topic, grants: &[(String, String)]) -> Result<Script, Fault>
+    pub fn new(
+        alloc: Global,
+        name: &Topic,
+        grants: &[(String, String)],
+    ) -> Result<LineReplay, Fault>
         ensures { IfOk result (λ script. script ≡ starting (bytes_of grants.now) name.now) }
     {
         let config = RealmConfig {
@@ -64,7 +68,7 @@ impl Script {
         let Ok(world) = World::new(alloc, config, 1, 1) else {
             return Err(Fault::NoMemory);
         };
-        Ok(Script {
+        Ok(LineReplay {
             world,
             name: name.try_copy(alloc)?,
             named: Vec::new(alloc),
@@ -175,7 +179,7 @@ impl Script {
     {
         match speech {
             Speech::Gone => print_end(out, number),
-            Speech::Noise => Script::refuse(alloc, number, session::Fault::Shape, out),
+            Speech::Noise => LineReplay::refuse(alloc, number, session::Fault::Shape, out),
             Speech::Said(said) => self.open_session(alloc, number, said, out),
         }
     }
@@ -204,7 +208,7 @@ impl Script {
                 };
                 self.apply(alloc, number, entry, out)
             }
-            Err(fault) => Script::refuse(alloc, number, fault, out),
+            Err(fault) => LineReplay::refuse(alloc, number, fault, out),
         }
     }
 
@@ -212,7 +216,7 @@ impl Script {
     ///
     /// # Errors
     /// `NoMemory` where a growth was refused; nothing is said of the replay then.
-    pub fn tell(
+    pub fn apply_line(
         &mut self,
         alloc: Global,
         number: Conn,
