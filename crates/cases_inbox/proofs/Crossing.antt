@@ -2,11 +2,11 @@
 use denote.Param.Send.{IsSend, sendable}
 use denote.Param.SendFields.{declared_send}
 use Rattle.std.proofs.Crossing.{crosses}
-use Rattle.realm_actor.proofs.Crossing as ends
-use Rattle.realm_actor.specs.contracts.ends.Door as Door
-use Rattle.realm_actor.specs.contracts.ends.Inbox as Inbox
-use Rattle.realm_actor.specs.contracts.ends.Poster as Poster
-use Rattle.realm_actor.specs.contracts.ends.Seat as Seat
+use Rattle.realm_inbox.proofs.Crossing as ends
+use Rattle.realm_inbox.specs.contracts.ends.Door as Door
+use Rattle.realm_inbox.specs.contracts.ends.Inbox as Inbox
+use Rattle.realm_inbox.specs.contracts.ends.Poster as Poster
+use Rattle.realm_inbox.specs.contracts.ends.Seat as Seat
 use Rattle.cases_inbox.specs.contracts.threads.Numbered as Numbered
 use Rattle.cases_inbox.specs.contracts.wire.Wire as Wire
 use Rattle.cases_inbox.specs.contracts.wire.WireShut.TheImpl as shut

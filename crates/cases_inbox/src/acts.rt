@@ -1,12 +1,12 @@
 //! Acts and posts, as a line has them.
 ghost use Rattle.std.specs.Prelude.{◌≡◌, false, IfOk, IfSome};
-ghost use Rattle.realm_actor.specs.Joins.{is_join};
+ghost use Rattle.realm_inbox.specs.Joins.{is_join};
 
 use crate::wire::Wire;
 use case_text::{octets_of, part_of, spell};
 use message_tree::{Octets, Text};
 use outbox_queue::pair;
-use realm_actor::{Act, Joining, Letter, Post, RealmHistory};
+use realm_inbox::{Act, Joining, Letter, Post, RealmHistory};
 use session::{Item, Said};
 use std::alloc::Global;
 use std::io;

@@ -6,7 +6,7 @@ use crate::room::{Room, post};
 use crate::threads::pass_all;
 use crate::wire::Wire;
 use case_text::{crossing, line_of, may_be_sent};
-use realm_actor::{Act, Door, Inbox, Poster, Seat};
+use realm_inbox::{Act, Door, Inbox, Poster, Seat};
 use std::alloc::Global;
 use std::io;
 use std::sync::Wait;

@@ -1,4 +1,4 @@
-//! Cases of `realm_actor`'s inbox, as lines of standard input; what each gives is printed.
+//! Cases of `realm_inbox`'s inbox, as lines of standard input; what each gives is printed.
 //!
 //! - `# TEXT` begins a case, and is printed as it stands.
 //! - `inbox CAP`: an inbox in which so many posts may wait, with its door and its seats; `seats` tells which of them are free.

@@ -1,11 +1,11 @@
 //! The ends of one inbox that a case still has.
 ghost use Rattle.std.specs.Prelude.{◌≡◌, ◌≤◌, false};
-ghost use Rattle.realm_actor.specs.Joins.{is_join};
+ghost use Rattle.realm_inbox.specs.Joins.{is_join};
 
 use crate::acts::{act_of, joining_of};
 use crate::wire::Wire;
-use realm_actor::opening::inbox;
-use realm_actor::{Act, Door, Inbox, Post, Poster, Posting, Seat};
+use realm_inbox::opening::inbox;
+use realm_inbox::{Act, Door, Inbox, Post, Poster, Posting, Seat};
 use std::alloc::{AllocError, Global};
 use std::io;
 use std::sync::Wait;

@@ -1,6 +1,6 @@
 //! What was received of two connections.
 use crate::wire::Wire;
-use realm_actor::{Act, Post};
+use realm_inbox::{Act, Post};
 use std::alloc::Global;
 use std::io;
 use wamp_ids::Conn;

@@ -1,13 +1,13 @@
 //! Two threads post, a third receives.
 ghost use Rattle.std.specs.Prelude.{◌≡◌, ◌≤◌, false, IfOk};
-ghost use Rattle.realm_actor.specs.Joins.{is_join};
+ghost use Rattle.realm_inbox.specs.Joins.{is_join};
 
 use crate::room::{Room, post, poster_at};
 use crate::tally::{Received, Tally};
 use crate::wire::Wire;
 use crate::work::{Work, start};
 use message_tree::Octets;
-use realm_actor::{Act, Inbox, Poster};
+use realm_inbox::{Act, Inbox, Poster};
 use std::alloc::{AllocError, Global};
 use std::io;
 use std::sync::Wait;

@@ -1,5 +1,5 @@
 //! Transports that are only numbers.
-use realm_actor::Shut;
+use realm_inbox::Shut;
 
 /// A transport, known by its number.
 #[derive(Clone, Copy, Drop)]

@@ -1,5 +1,0 @@
-use Rattle.realm_actor.proofs.Told.{stops_by}
-use Rattle.realm_actor.proofs.ends.Door.stop.Goals as goal
-
-pub send_as-requires-clause-rule : goal.send_as-requires-clause-rule
-send_as-requires-clause-rule g c = stops_by _ _ _ c.args.self.now.sits

@@ -1,5 +1,0 @@
-use Rattle.realm_actor.proofs.Told.{stops_posted}
-use Rattle.realm_actor.proofs.laws.stops_received_were_posted.Goals as goal
-
-pub returns : goal.returns
-returns g c = stops_posted _

@@ -1,5 +1,0 @@
-use Rattle.realm_actor.proofs.Told.{cuts_door_by}
-use Rattle.realm_actor.proofs.opening.cut_door.Goals as goal
-
-pub another-requires-clause-rule : goal.another-requires-clause-rule
-another-requires-clause-rule g c = cuts_door_by _ _ c.requires.pass.1

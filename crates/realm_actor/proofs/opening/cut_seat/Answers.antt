@@ -1,5 +1,0 @@
-use Rattle.realm_actor.proofs.Told.{cuts_by}
-use Rattle.realm_actor.proofs.opening.cut_seat.Goals as goal
-
-pub another-cut-requires-clause-rule : goal.another-cut-requires-clause-rule
-another-cut-requires-clause-rule g c = cuts_by _ _ _ c.requires.pass.1

@@ -1,5 +1,0 @@
-use Rattle.realm_actor.proofs.Rules.{begins}
-use Rattle.realm_actor.proofs.opening.inbox.Goals as goal
-
-pub bounded_with-requires-clause-rule : goal.bounded_with-requires-clause-rule
-bounded_with-requires-clause-rule g c = begins

@@ -1,0 +1,202 @@
+-- Each step of an inbox keeps its rule.
+use Rattle.std.proofs.Common.{◌≡◌, ◌≢◌, ℕ, zero, suc, ◌+◌, true, cond, eqb, eq-eqb, ne_eqb, List, [], ◌∷◌, ◌++◌, length, set, sym, refl, ap, ◌∙◌, subst, arith, append_assoc}
+use Rattle.std.proofs.lemmas.List.{append-nil}
+use Rattle.std.proofs.Math.Nat.{add_assoc, add-zero}
+use mathlib.Core.Option.{some, some-injective, some-ne-none}
+use lib.ListN.{get_elem?}
+use Rattle.crossbeam_channel.specs.Fifo.{Pushes, Pops, Forks}
+use Rattle.wamp_ids.specs.Numbers.{seat_of}
+use Rattle.realm_inbox.specs.declared.act.Act as the
+use Rattle.realm_inbox.specs.declared.letter.Letter.{Letter}
+use Rattle.realm_inbox.specs.declared.letter.Post.{Post}
+use Rattle.realm_inbox.specs.declared.letter.Post.TheVariants.{Act, Stop}
+use Rattle.realm_inbox.specs.declared.rule.View.{View}
+use Rattle.realm_inbox.specs.declared.rule.View.TheVariants.{Reader, Seat, Door}
+use Rattle.realm_inbox.specs.Seats.{before, said, adds_at, at_seat, adds_stops, stops_of, IsNext, InOrder}
+use Rattle.realm_inbox.specs.InTurn.{fresh, new_door, after_post, after_stop, Receipt, Fits, Keeps}
+
+module _ {A : Type 0} where
+  -- a fact of each place of a list and of what stands there
+  abbrev Stand : (ℕ → A → Type 0) → List A → Type 0
+  Stand F xs = (place : ℕ) (x : A) → get_elem? xs place ≡ some x → F place x
+
+  -- one member is put in the place of another: the new fact is shown of it, and of each other by the old one
+  changed : (F G : ℕ → A → Type 0) (xs : List A) (at : ℕ) (new : A) → Stand F xs → G at new → ((place : ℕ) (x : A) → place ≢ at → F place x → G place x) → Stand G (set xs at new)
+  changed F G [] at new old mine others place x e = absurd (some-ne-none x (sym e))
+  changed F G (y ∷ ys) zero new old mine others zero x e = subst (λ z. G 0 z) (some-injective new x e) mine
+  changed F G (y ∷ ys) zero new old mine others (suc place) x e = others (suc place) x (λ h. omega arith) (old (suc place) x e)
+  changed F G (y ∷ ys) (suc at) new old mine others zero x e = others 0 x (λ h. omega arith) (old 0 x e)
+  changed F G (y ∷ ys) (suc at) new old mine others (suc place) x e =
+      changed (λ k. F (suc k)) (λ k. G (suc k)) ys at new (λ k. old (suc k)) mine (λ k z n f. others (suc k) z (λ h. n (omega (arith, h))) f) place x e
+
+  -- one member more, behind the others
+  joined : (F : ℕ → A → Type 0) (xs : List A) (new : A) → Stand F xs → F (length xs) new → Stand F (xs ++ new ∷ [])
+  joined F [] new old mine zero x e = subst (λ z. F 0 z) (some-injective new x e) mine
+  joined F [] new old mine (suc place) x e = absurd (some-ne-none x (sym e))
+  joined F (y ∷ ys) new old mine zero x e = old 0 x e
+  joined F (y ∷ ys) new old mine (suc place) x e = joined (λ k. F (suc k)) ys new (λ k. old (suc k)) mine place x e
+
+module _ {S : Type 0} where
+  -- what was posted at a seat, of posts and then of others
+  pub at_seat_append : (k : ℕ) (xs ys : List (Post S)) → at_seat k (xs ++ ys) ≡ at_seat k xs ++ at_seat k ys
+  at_seat_append k [] ys = refl
+  at_seat_append k (x ∷ xs) ys = ap (λ t. adds_at k x ++ t) (at_seat_append k xs ys) ∙ sym (append_assoc (adds_at k x) (at_seat k xs) (at_seat k ys))
+
+  pub at_seat_snoc : (k : ℕ) (xs : List (Post S)) (p : Post S) → at_seat k (xs ++ p ∷ []) ≡ at_seat k xs ++ adds_at k p
+  at_seat_snoc k xs p = at_seat_append k xs (p ∷ []) ∙ ap (λ t. at_seat k xs ++ t) (append-nil (adds_at k p))
+
+  pub stops_append : (xs ys : List (Post S)) → stops_of (xs ++ ys) ≡ stops_of xs + stops_of ys
+  stops_append [] ys = omega arith
+  stops_append (x ∷ xs) ys = ap (λ n. adds_stops x + n) (stops_append xs ys) ∙ sym (add_assoc (adds_stops x) (stops_of xs) (stops_of ys))
+
+  pub stops_snoc : (xs : List (Post S)) (p : Post S) → stops_of (xs ++ p ∷ []) ≡ stops_of xs + adds_stops p
+  stops_snoc xs p = stops_append xs (p ∷ []) ∙ ap (λ n. stops_of xs + n) (add-zero (adds_stops p))
+
+  pub adds_here : (k : ℕ) (l : Letter S) → seat_of l.conn ≡ k → adds_at k (Act l) ≡ said l ∷ []
+  adds_here k l e = ap (λ b. cond b (said l ∷ []) []) (eq-eqb (seat_of l.conn) k e)
+
+  adds_elsewhere : (k : ℕ) (l : Letter S) → seat_of l.conn ≢ k → adds_at k (Act l) ≡ []
+  adds_elsewhere k l n = ap (λ b. cond b (said l ∷ []) []) (ne_eqb (seat_of l.conn) k n)
+
+  in_order_snoc : (front ps : List (Post S)) (p : Post S) → InOrder front ps → IsNext (front ++ ps) p → InOrder front (ps ++ p ∷ [])
+  in_order_snoc front [] p o h = (subst (λ t. IsNext t p) (append-nil front) h, tt)
+  in_order_snoc front (x ∷ ps) p o h = (o.0, in_order_snoc (front ++ x ∷ []) ps p o.1 (subst (λ t. IsNext t p) (sym (append_assoc front (x ∷ []) ps)) h))
+
+  -- a view still fits where neither its seat nor, if it is the door's, the stops have grown
+  fits_all : (got all all' : List (Post S)) (owner : ℕ → ℕ) (reader next j : ℕ) (u : View S) → ((k : ℕ) → j ≡ owner k → at_seat k all' ≡ at_seat k all) → (j ≡ owner 0 → stops_of all' ≡ stops_of all)
+      → Fits got all owner reader next j u → Fits got all' owner reader next j u
+  fits_all got all all' owner reader next j (Reader n r) same stops f = f
+  fits_all got all all' owner reader next j (Seat k posted) same stops f = (f.0, f.1, f.2 ∙ sym (same k f.0))
+  fits_all got all all' owner reader next j (Door n) same stops f = (f.0, f.1, f.2 ∙ sym (stops f.0))
+
+  pub begins : Keeps {S = S} [] (fresh ∷ [])
+  begins = record {
+    got = [];
+    owner = λ k. 0;
+    reader = 0;
+    next = 0;
+    each_view = joined (Fits [] [] (λ k. 0) 0 0) [] fresh (λ j u e. absurd (some-ne-none u (sym e))) (refl, refl, refl);
+    no_post = λ k h. refl;
+    no_stop = λ e. refl;
+    in_order = tt;
+  }
+
+  pub posts_seat : (n pass k : ℕ) (posted : List (ℕ × the.Act S)) (l : Letter S) → seat_of l.conn ≡ k → before l ≡ posted → Pushes Keeps n pass (Seat k posted) (Act l) (λ w. w ≡ after_post (Seat k posted) (Act l))
+  posts_seat n pass k posted l here told items views room h at =
+      let mine = h.each_view pass (Seat k posted) at in
+      let w : View S = Seat k (posted ++ adds_at k (Act l)) in
+      let all : List (Post S) = h.got ++ items in
+      let all' : List (Post S) = h.got ++ (items ++ Act l ∷ []) in
+      let grown : all' ≡ all ++ Act l ∷ [] = sym (append_assoc h.got items (Act l ∷ [])) in
+      let more : (j : ℕ) → at_seat j all' ≡ at_seat j all ++ adds_at j (Act l) = λ j. ap (λ t. at_seat j t) grown ∙ at_seat_snoc j all (Act l) in
+      let same : (j : ℕ) → seat_of l.conn ≢ j → at_seat j all' ≡ at_seat j all = λ j n. more j ∙ ap (λ t. at_seat j all ++ t) (adds_elsewhere j l n) ∙ append-nil (at_seat j all) in
+      let no_more : stops_of all' ≡ stops_of all = let e = ap (λ t. stops_of t) grown ∙ stops_snoc all (Act l) in omega (arith, e) in
+      let F = Fits h.got all h.owner h.reader h.next in let G = Fits h.got all' h.owner h.reader h.next in (
+        w,
+        record {
+          got = h.got;
+          owner = h.owner;
+          reader = h.reader;
+          next = h.next;
+          each_view = changed F G views pass w h.each_view (mine.0, mine.1, ap (λ t. t ++ adds_at k (Act l)) mine.2 ∙ sym (more k))
+              (λ j u other f. fits_all h.got all all' h.owner h.reader h.next j u (λ i at_i. same i (λ e'. other (at_i ∙ ap h.owner (sym e' ∙ here) ∙ sym mine.0))) (λ _. no_more) f);
+          no_post = λ j le. same j (λ e. absurd (omega (arith, e, here, mine.1))) ∙ h.no_post j le;
+          no_stop = λ e. absurd (omega (arith, e, mine.1));
+          in_order = in_order_snoc h.got items (Act l) h.in_order (told ∙ mine.2 ∙ ap (λ i. at_seat i all) (sym here));
+        },
+        refl,
+      )
+
+  pub stops_door : (n pass m : ℕ) → Pushes (Keeps {S = S}) n pass (Door m) Stop (λ w. w ≡ after_stop (Door m))
+  stops_door n pass m items views room h at =
+      let mine = h.each_view pass (Door m) at in
+      let w : View S = Door (m + 1) in
+      let all : List (Post S) = h.got ++ items in
+      let all' : List (Post S) = h.got ++ (items ++ Stop ∷ []) in
+      let grown : all' ≡ all ++ Stop ∷ [] = sym (append_assoc h.got items (Stop ∷ [])) in
+      let same : (j : ℕ) → at_seat j all' ≡ at_seat j all = λ j. ap (λ t. at_seat j t) grown ∙ at_seat_snoc j all Stop ∙ append-nil (at_seat j all) in
+      let more : stops_of all' ≡ stops_of all + 1 = ap (λ t. stops_of t) grown ∙ stops_snoc all Stop in
+      let F = Fits h.got all h.owner h.reader h.next in let G = Fits h.got all' h.owner h.reader h.next in (
+        w,
+        record {
+          got = h.got;
+          owner = h.owner;
+          reader = h.reader;
+          next = h.next;
+          each_view = changed F G views pass w h.each_view (mine.0, mine.1, ap (λ t. t + 1) mine.2 ∙ sym more)
+              (λ j u other f. fits_all h.got all all' h.owner h.reader h.next j u (λ i at_i. same i) (λ door. absurd (other (door ∙ sym mine.0))) f);
+          no_post = λ j le. same j ∙ h.no_post j le;
+          no_stop = λ e. absurd (omega (arith, e, mine.1));
+          in_order = in_order_snoc h.got items Stop h.in_order tt;
+        },
+        refl,
+      )
+
+  -- the other views, where the reader got one more
+  fits_got : (got got' all all' : List (Post S)) (owner : ℕ → ℕ) (reader next j : ℕ) (u : View S) → j ≢ reader → all' ≡ all → Fits got all owner reader next j u → Fits got' all' owner reader next j u
+  fits_got got got' all all' owner reader next j (Reader n r) other is f = absurd (other f.0)
+  fits_got got got' all all' owner reader next j (Seat k posted) other is f = (f.0, f.1, f.2 ∙ ap (λ t. at_seat k t) (sym is))
+  fits_got got got' all all' owner reader next j (Door n) other is f = (f.0, f.1, f.2 ∙ ap (λ t. stops_of t) (sym is))
+
+  pub receives_reader : (pass n : ℕ) (r : List (Post S)) → Pops Keeps pass (Reader n r) (λ x w. Receipt (Reader n r) x w)
+  receives_reader pass n r x items views h at =
+      let mine = h.each_view pass (Reader n r) at in
+      let w : View S = Reader n (r ++ x ∷ []) in
+      let got' : List (Post S) = h.got ++ x ∷ [] in
+      let is : got' ++ items ≡ h.got ++ (x ∷ items) = append_assoc h.got (x ∷ []) items in
+      let F = Fits h.got (h.got ++ (x ∷ items)) h.owner h.reader h.next in let G = Fits got' (got' ++ items) h.owner h.reader h.next in (
+        w,
+        record {
+          got = got';
+          owner = h.owner;
+          reader = h.reader;
+          next = h.next;
+          each_view = changed F G views pass w h.each_view (mine.0, mine.1, ap (λ t. t ++ x ∷ []) mine.2)
+              (λ j u other f. fits_got h.got got' (h.got ++ (x ∷ items)) (got' ++ items) h.owner h.reader h.next j u (λ b. other (b ∙ sym mine.0)) is f);
+          no_post = λ k le. ap (λ t. at_seat k t) is ∙ h.no_post k le;
+          no_stop = λ e. ap (λ t. stops_of t) is ∙ h.no_stop e;
+          in_order = h.in_order.1;
+        },
+        (refl, subst (λ t. IsNext t x) (sym mine.2) h.in_order.0),
+      )
+
+  -- the other views, where the next number was cut
+  fits_cut : (got all : List (Post S)) (owner : ℕ → ℕ) (reader next new j : ℕ) (u : View S) → j ≢ reader → Fits got all owner reader next j u → Fits got all (λ k. cond (eqb k next) new (owner k)) reader (next + 1) j u
+  fits_cut got all owner reader next new j (Reader n r) other f = absurd (other f.0)
+  fits_cut got all owner reader next new j (Seat k posted) other f =
+      (f.0 ∙ ap (λ b. cond b new (owner k)) (sym (ne_eqb k next (λ e. absurd (omega (arith, e, f.1))))), omega (arith, f.1), f.2)
+  fits_cut got all owner reader next new j (Door n) other f =
+      (f.0 ∙ ap (λ b. cond b new (owner 0)) (sym (ne_eqb 0 next (λ e. absurd (omega (arith, e, f.1))))), omega (arith, f.1), f.2)
+
+  -- a view is cut for the next number, which fits where nothing was posted under it
+  cuts_next : (pass n : ℕ) (r : List (Post S)) (v : View S)
+      → ((got all : List (Post S)) (owner : ℕ → ℕ) (reader j : ℕ) → owner n ≡ j → at_seat n all ≡ [] → (n ≡ 0 → stops_of all ≡ 0) → Fits got all owner reader (n + 1) j v)
+      → Forks Keeps pass (Reader n r) (Reader (n + 1) r) v
+  cuts_next pass n r v fits items views h at =
+      let mine = h.each_view pass (Reader n r) at in
+      let all : List (Post S) = h.got ++ items in
+      let left : View S = Reader (n + 1) r in
+      let vs : List (View S) = set views pass left in
+      let owner' : ℕ → ℕ = λ k. cond (eqb k h.next) (length vs) (h.owner k) in
+      let here : eqb n h.next ≡ true = eq-eqb n h.next mine.1 in
+      let F = Fits h.got all h.owner h.reader h.next in let G = Fits h.got all owner' h.reader (h.next + 1) in
+      let old = changed F G views pass left h.each_view (mine.0, ap (λ t. t + 1) mine.1, mine.2)
+      (λ j u other f. fits_cut h.got all h.owner h.reader h.next (length vs) j u (λ b. other (b ∙ sym mine.0)) f) in
+      let new : Fits h.got all owner' h.reader (n + 1) (length vs) v =
+      fits h.got all owner' h.reader (length vs) (ap (λ b. cond b (length vs) (h.owner n)) here) (h.no_post n (omega (arith, mine.1))) (λ e. h.no_stop (sym mine.1 ∙ e)) in
+      record {
+        got = h.got;
+        owner = owner';
+        reader = h.reader;
+        next = h.next + 1;
+        each_view = joined G vs v old (subst (λ k. Fits h.got all owner' h.reader k (length vs) v) (ap (λ t. t + 1) mine.1) new);
+        no_post = λ k le. h.no_post k (omega (arith, le));
+        no_stop = λ e. absurd (omega (arith, e));
+        in_order = h.in_order;
+      }
+
+  pub cuts_seat : (pass n : ℕ) (r : List (Post S)) → Forks Keeps pass (Reader n r) (Reader (n + 1) r) (Seat n [])
+  cuts_seat pass n r = cuts_next pass n r (Seat n []) (λ got all owner reader j own none no. (sym own, omega arith, sym none))
+
+  pub cuts_new_door : (pass : ℕ) (r : List (Post S)) → Forks Keeps pass (Reader 0 r) (Reader 1 r) new_door
+  cuts_new_door pass r = cuts_next pass 0 r new_door (λ got all owner reader j own none no. (sym own, omega arith, sym (no refl)))

@@ -1,0 +1,5 @@
+use Rattle.realm_inbox.proofs.Rules.{begins}
+use Rattle.realm_inbox.proofs.opening.inbox.Goals as goal
+
+pub bounded_with-requires-clause-rule : goal.bounded_with-requires-clause-rule
+bounded_with-requires-clause-rule g c = begins

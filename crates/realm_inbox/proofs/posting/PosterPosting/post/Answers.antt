@@ -1,0 +1,5 @@
+use Rattle.realm_inbox.proofs.Joined.{posts_acts}
+use Rattle.realm_inbox.proofs.posting.PosterPosting.post.Goals as goal
+
+pub returns : goal.returns
+returns g c = posts_acts _ _ _ _ _ c.post.ensures.posted

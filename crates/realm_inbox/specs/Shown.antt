@@ -1,0 +1,64 @@
+-- What contracts see of an inbox's ends.
+use Rattle.std.specs.Prelude.{◌≡◌, ℕ, ◌+◌, ◌<◌, List, [], map, length, slice_index_or}
+use Rattle.crossbeam_channel.specs.Claims.{view}
+use Rattle.crossbeam_channel.specs.Ends.{receives_on, ruled_capacity}
+use Rattle.realm_inbox.specs.declared.act.Act.{Act}
+use Rattle.realm_inbox.specs.declared.letter.Post.{Post}
+use Rattle.realm_inbox.specs.declared.ends.Door.{Door}
+use Rattle.realm_inbox.specs.declared.ends.Inbox.{Inbox}
+use Rattle.realm_inbox.specs.declared.ends.Seat.{Seat}
+use Rattle.realm_inbox.specs.declared.ends.Poster.{Poster}
+use Rattle.realm_inbox.specs.Ends.{Place, place_of, posted_in, received_in, stops_in}
+
+module _ {S : Type 0} where
+  -- what the inbox gave so far, the oldest first
+  abbrev pub received : Inbox S → List (Post S)
+  received i = received_in (view i.pass)
+
+  -- how many posts may wait in it
+  abbrev pub capacity : Inbox S → ℕ
+  capacity i = ruled_capacity (receives_on i.receiver)
+
+  -- a seat's number, from 1 to 256
+  abbrev pub seat_number : Seat S → ℕ
+  seat_number s = s.number
+
+  -- what was posted at a seat, the oldest first, each act with its connection
+  abbrev pub posted_at : Seat S → List (ℕ × Act S)
+  posted_at s = posted_in (view s.pass)
+
+  abbrev pub poster_conn : Poster S → ℕ
+  poster_conn p = p.conn
+
+  -- what was posted at a poster's seat, also by posters before it
+  abbrev pub posted : Poster S → List (ℕ × Act S)
+  posted p = posted_at p.seat
+
+  -- the acts alone
+  abbrev pub posted_acts : Poster S → List (Act S)
+  posted_acts p = map (λ said. said.1) (posted p)
+
+  -- how many stops a door has posted
+  abbrev pub stops : Door S → ℕ
+  stops d = stops_in (view d.pass)
+
+  -- which inbox an end belongs to
+  abbrev pub inbox_of : Inbox S → Place S
+  inbox_of i = place_of i.pass
+
+  abbrev pub inbox_of_seat : Seat S → Place S
+  inbox_of_seat s = place_of s.pass
+
+  abbrev pub inbox_of_poster : Poster S → Place S
+  inbox_of_poster p = inbox_of_seat p.seat
+
+  abbrev pub inbox_of_door : Door S → Place S
+  inbox_of_door d = place_of d.pass
+
+  -- the seat of this number, where nothing was posted yet
+  abbrev pub IsNewSeat : Place S → ℕ → Seat S → Type 0
+  IsNewSeat place k s = (seat_number s ≡ k) × (posted_at s ≡ []) × (inbox_of_seat s ≡ place)
+
+  -- seats from 1 on, in order
+  abbrev pub AreNewSeats : Place S → List (Seat S) → Type 0
+  AreNewSeats place seats = (k : ℕ) (d : Seat S) → k < length seats → IsNewSeat place (k + 1) (slice_index_or seats k d)

@@ -1,0 +1,209 @@
+//! The ends of an inbox.
+ghost use Rattle.std.specs.Prelude.{◌≡◌, ◌≤◌, ◌+◌, [], ◌∷◌, ◌++◌, true, if◌then◌else◌, IfSome, MatchOption, MatchResult};
+ghost use Rattle.crossbeam_channel.specs.Claims.{view, IsSeatAt};
+ghost use Rattle.crossbeam_channel.specs.Ends.{sends_on, receives_on};
+ghost use Rattle.wamp_ids.specs.Numbers.{seat_of};
+ghost use Rattle.realm_inbox.specs.Past.{items_of};
+ghost use Rattle.realm_inbox.specs.Seats.{IsNext, BringsOwn};
+ghost use Rattle.realm_inbox.specs.Ends.{posted_in, is_seat, is_reader, is_door};
+
+use crate::act::Act;
+use crate::letter::{Letter, Post};
+use crate::past::Past;
+use crate::rule::{InTurn, Posts, Receives, Stops, View};
+use crate::words::Shut;
+use crossbeam_channel::{Pass, RuledReceiver, RuledSender};
+use std::alloc::{AllocError, Global};
+use std::snapshot::Snapshot;
+use std::sync::Wait;
+use wamp_ids::Conn;
+
+pub(crate) type Sending<S> = RuledSender<Post<S>, View<S>, InTurn>;
+
+pub(crate) type Receiving<S> = RuledReceiver<Post<S>, View<S>, InTurn>;
+
+pub(crate) type Ticket<S> = Pass<Post<S>, View<S>>;
+
+/// Makes posters, and posts stops. While it lives the inbox has a sender.
+///
+/// Contracts see how many stops it has posted, and which inbox it is of.
+#[derive(Drop)]
+pub struct Door<S: Shut> {
+    pub(crate) sender: Sending<S>,
+    pub(crate) pass: Ticket<S>,
+    ghost at: { IsSeatAt (sends_on sender) pass },
+    ghost sits: { is_door (view pass) ≡ true },
+}
+
+/// The right to post at one seat, for one poster at a time. While it lives the inbox has a sender, also where no poster uses it.
+///
+/// Contracts see its number, what was posted there, each act with its connection, and which inbox it is of.
+#[derive(Drop)]
+pub struct Seat<S: Shut> {
+    pub(crate) number: u64,
+    pub(crate) past: Past<(Conn, Act<S>)>,
+    pub(crate) sender: Sending<S>,
+    pub(crate) pass: Ticket<S>,
+    ghost in_range: { number ≤ 256 },
+    ghost at: { IsSeatAt (sends_on sender) pass },
+    ghost sits: { is_seat number (view pass) ≡ true },
+    ghost told: { items_of past ≡ posted_in (view pass) },
+}
+
+/// Posts the acts of one connection at its seat. While it lives the inbox has a sender.
+///
+/// Contracts see its connection, and what was posted at its seat, also by posters before it.
+#[derive(Drop)]
+pub struct Poster<S: Shut> {
+    pub(crate) conn: Conn,
+    pub(crate) seat: Seat<S>,
+    ghost own: { seat_of conn ≡ seat.number },
+}
+
+/// The receiving end. Once it is gone, posts come back.
+///
+/// Contracts see what was received, the oldest first, how many posts may wait, and which inbox it is.
+#[derive(Drop)]
+pub struct Inbox<S: Shut> {
+    pub(crate) next: u64,
+    pub(crate) receiver: Receiving<S>,
+    pub(crate) pass: Ticket<S>,
+    ghost at: { IsSeatAt (receives_on receiver) pass },
+    ghost reads: { is_reader next (view pass) ≡ true },
+}
+
+impl<S: Shut> Inbox<S> {
+    ghost use Rattle.realm_inbox.specs.Shown.{received, capacity, inbox_of};
+
+    /// Waits for a post. It is the next of its seat: what had been posted there before it is exactly what was received of the seat.
+    /// `None` once each sender is gone: the door, each poster and each seat.
+    pub fn receive<R: Wait>(&mut self, rt: &R) -> Option<Post<S>>
+        ensures given { MatchOption result (received self.new ≡ received self.old) (λ p. received self.new ≡ received self.old ++ p ∷ []) }
+        ensures in_turn { IfSome result (λ p. IsNext (received self.old) p) }
+        ensures same { (inbox_of self.new ≡ inbox_of self.old) × (capacity self.new ≡ capacity self.old) }
+    {
+        self.receiver
+            .recv_as::<Receives, R>(rt, &mut self.pass)
+            .ok()
+    }
+
+    /// A post, if one is found at once, as [`Inbox::receive`] gives it. `None` says only that nothing was received: the inbox was
+    /// empty at one moment of the call, a post may wait all the same, and each sender may be gone.
+    pub fn try_receive<R: Wait>(&mut self, rt: &R) -> Option<Post<S>>
+        ensures given { MatchOption result (received self.new ≡ received self.old) (λ p. received self.new ≡ received self.old ++ p ∷ []) }
+        ensures in_turn { IfSome result (λ p. IsNext (received self.old) p) }
+        ensures same { (inbox_of self.new ≡ inbox_of self.old) × (capacity self.new ≡ capacity self.old) }
+    {
+        self.receiver
+            .try_recv_as::<Receives, R>(rt, &mut self.pass)
+            .ok()
+    }
+}
+
+impl<S: Shut> Seat<S> {
+    ghost use Rattle.realm_inbox.specs.Shown.{posted_at, seat_number, inbox_of_seat};
+
+    /// Its number, from 1 to 256. The connections of this seat take turns there.
+    pub fn number(&self) -> u64
+        ensures number { result ≡ seat_number self.now }
+        ensures most { result ≤ 256 }
+    {
+        self.number
+    }
+
+    // Posts an act of a connection of this seat.
+    fn post<R: Wait>(&mut self, rt: &R, conn: Conn, act: Act<S>) -> Result<(), Act<S>>
+        requires seat { seat_of conn ≡ seat_number self.old }
+        requires own { BringsOwn conn act }
+        ensures posted { MatchResult result (λ _. posted_at self.new ≡ posted_at self.old ++ (conn, act) ∷ []) (λ back. (back ≡ act) × (posted_at self.new ≡ posted_at self.old)) }
+        ensures same { (seat_number self.new ≡ seat_number self.old) × (inbox_of_seat self.new ≡ inbox_of_seat self.old) }
+    {
+        let before = Snapshot::of(&self.past);
+        let said = (conn, act);
+        let last = Snapshot::of(&said);
+        let (conn, act) = said;
+        let letter = Letter { conn, act, before };
+        match self
+            .sender
+            .send_as::<Posts, R>(rt, &mut self.pass, Post::Act(letter))
+        {
+            Ok(()) => {
+                self.past.add(last);
+                Ok(())
+            }
+            Err(e) => match e.into_inner() {
+                Post::Act(letter) => Err(letter.act),
+                Post::Stop => unreachable!(),
+            },
+        }
+    }
+}
+
+impl<S: Shut> Poster<S> {
+    ghost use Rattle.realm_inbox.specs.Shown.{posted, posted_at, poster_conn, seat_number, inbox_of_poster, inbox_of_seat};
+
+    /// Posts an act of its connection, and waits while the inbox is full. A Join brings an outbox of this connection.
+    ///
+    /// # Errors
+    /// The act, where the inbox is gone. Nothing was posted then.
+    pub fn post<R: Wait>(&mut self, rt: &R, act: Act<S>) -> Result<(), Act<S>>
+        requires own { BringsOwn (poster_conn self.old) act }
+        ensures posted { MatchResult result (λ _. posted self.new ≡ posted self.old ++ (poster_conn self.old, act) ∷ []) (λ back. (back ≡ act) × (posted self.new ≡ posted self.old)) }
+        ensures same { (poster_conn self.new ≡ poster_conn self.old) × (inbox_of_poster self.new ≡ inbox_of_poster self.old) }
+    {
+        self.seat.post(rt, self.conn, act)
+    }
+
+    /// The connection that it posts for.
+    pub fn conn(&self) -> Conn
+        ensures { result ≡ poster_conn self.now }
+    {
+        self.conn
+    }
+
+    /// The seat that it posted at, for the next connection of that seat.
+    pub fn into_seat(self) -> Seat<S>
+        ensures number { seat_number result ≡ seat_of (poster_conn self) }
+        ensures posted { posted_at result ≡ posted self }
+        ensures same { inbox_of_seat result ≡ inbox_of_poster self }
+    {
+        let Poster { conn: _, seat } = self;
+        seat
+    }
+}
+
+impl<S: Shut> Door<S> {
+    ghost use Rattle.realm_inbox.specs.Shown.{posted, posted_at, poster_conn, seat_number, stops, inbox_of_poster, inbox_of_seat, inbox_of_door};
+
+    /// A poster of the connection at its seat, whose number is [`wamp_ids::seat`] of it.
+    ///
+    /// # Errors
+    /// None: it takes no memory and is never refused.
+    pub fn poster(
+        &self,
+        _alloc: Global,
+        seat: Seat<S>,
+        conn: Conn,
+    ) -> Result<Poster<S>, (AllocError, Seat<S>)>
+        requires own { seat_of conn ≡ seat_number seat }
+        ensures conn { MatchResult result (λ p. poster_conn p ≡ conn) (λ _. ⊥) }
+        ensures posted { MatchResult result (λ p. posted p ≡ posted_at seat) (λ _. ⊥) }
+        ensures same { MatchResult result (λ p. inbox_of_poster p ≡ inbox_of_seat seat) (λ _. ⊥) }
+    {
+        Ok(Poster { conn, seat })
+    }
+
+    /// Posts a stop, and waits while the inbox is full. False where the inbox is gone; nothing was posted then.
+    pub fn stop<R: Wait>(&mut self, rt: &R) -> bool
+        ensures posted { stops self.new ≡ (if result then stops self.old + 1 else stops self.old) }
+        ensures same { inbox_of_door self.new ≡ inbox_of_door self.old }
+    {
+        match self
+            .sender
+            .send_as::<Stops, R>(rt, &mut self.pass, Post::Stop)
+        {
+            Ok(()) => true,
+            Err(_) => false,
+        }
+    }
+}

@@ -1,0 +1,52 @@
+//! A realm's history, as the outboxes know it.
+ghost use Rattle.std.specs.Prelude.{◌≡◌};
+
+use outbox_queue::Owed;
+use realm::Realm;
+use session::Item;
+use std::marker::Model;
+use std::snapshot::Snapshot;
+
+/// The history of a realm at one moment. It takes no bytes.
+#[derive(Drop)]
+pub struct RealmHistory {
+    of: Snapshot<Realm>,
+}
+
+impl Model for RealmHistory {
+    ghost use Rattle.realm.specs.History.{History};
+    ghost use Rattle.realm.specs.HistoryCode.{history_code};
+
+    ghost Value = { History };
+
+    ghost coded = { history_code };
+
+    ghost view = { λ h. h.of.value };
+}
+
+impl Owed<Item> for RealmHistory {
+    ghost use Rattle.realm.specs.History.{Begins};
+    ghost use Rattle.realm.specs.Yield.{owed as owed_by};
+    ghost use Rattle.realm_inbox.specs.Begins.{begins_same, begins_longer, owed_more};
+
+    ghost begins = { Begins };
+
+    ghost owed = { owed_by };
+
+    ghost begins_itself = { begins_same };
+
+    ghost begins_on = { begins_longer };
+
+    ghost owes_on = { owed_more };
+}
+
+impl RealmHistory {
+    /// The history of the realm as it is now.
+    pub fn of(realm: &Realm) -> RealmHistory
+        ensures { result ≡ realm.now }
+    {
+        RealmHistory {
+            of: Snapshot::of(realm),
+        }
+    }
+}

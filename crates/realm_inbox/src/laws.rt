@@ -1,0 +1,15 @@
+//! What holds at every moment of an inbox: of each state that its rule allows.
+ghost use Rattle.realm_inbox.specs.Laws.{ReceivedBeginsPosted, StopsReceivedWerePosted};
+
+use crate::words::Shut;
+use std::marker::PhantomData;
+
+/// What was received of a seat, and then what waits of it, is what was posted there.
+pub fn received_begins_posted<S: Shut>(_transport: PhantomData<S>)
+    ensures { ReceivedBeginsPosted S }
+{}
+
+/// As many stops were received, or wait, as the door has posted.
+pub fn stops_received_were_posted<S: Shut>(_transport: PhantomData<S>)
+    ensures { StopsReceivedWerePosted S }
+{}

@@ -1,0 +1,99 @@
+//! How an inbox is made.
+ghost use Rattle.std.specs.Prelude.{◌≡◌, ℕ, ◌+◌, ◌<◌, ◌≤◌, List, [], ◌∷◌, ◌++◌, true, length, IfOk};
+ghost use Rattle.crossbeam_channel.specs.Claims.{view, IsSeatAt};
+ghost use Rattle.crossbeam_channel.specs.Ends.{sends_on};
+ghost use Rattle.realm_inbox.specs.Ends.{place_of, received_in, stops_in, is_reader, is_door};
+ghost use Rattle.realm_inbox.specs.Shown.{received, capacity, stops, inbox_of, inbox_of_door, IsNewSeat, AreNewSeats};
+
+use crate::ends::{Door, Inbox, Seat, Sending, Ticket};
+use crate::letter::Post;
+use crate::past::Past;
+use crate::rule::{CutDoor, CutSeat, InTurn, View};
+use crate::words::Shut;
+use crossbeam_channel::bounded_with;
+use std::alloc::{AllocError, Global};
+
+/// How many seats an inbox has.
+pub const SEATS: u64 = 256;
+
+// What the door knows, cut before any seat.
+fn cut_door<S: Shut>(sender: &Sending<S>, pass: &mut Ticket<S>) -> Ticket<S>
+    requires pass { IsSeatAt (sends_on sender.now) pass.old × (is_reader 0 (view pass.old) ≡ true) }
+    ensures pass { IsSeatAt (sends_on sender.now) pass.new × (is_reader 1 (view pass.new) ≡ true) × (received_in (view pass.new) ≡ received_in (view pass.old)) × (place_of pass.new ≡ place_of pass.old) }
+    ensures door { IsSeatAt (sends_on sender.now) result × (is_door (view result) ≡ true) × (stops_in (view result) ≡ 0) × (place_of result ≡ place_of pass.old) }
+{
+    sender.another::<CutDoor>(pass)
+}
+
+// The next seat.
+fn cut_seat<S: Shut>(
+    sender: &Sending<S>,
+    pass: &mut Ticket<S>,
+    number: u64,
+) -> Result<Seat<S>, AllocError>
+    requires count { number ≤ 256 }
+    requires pass { IsSeatAt (sends_on sender.now) pass.old × (is_reader number (view pass.old) ≡ true) }
+    ensures pass { IfOk result (λ _. IsSeatAt (sends_on sender.now) pass.new × (is_reader (number + 1) (view pass.new) ≡ true) × (received_in (view pass.new) ≡ received_in (view pass.old))) }
+    ensures seat { IfOk result (λ s. IsNewSeat (place_of pass.old) number s) }
+{
+    let own = sender.try_clone()?;
+    let cut = sender.another::<CutSeat>(pass);
+    Ok(Seat {
+        number,
+        past: Past::new(),
+        sender: own,
+        pass: cut,
+    })
+}
+
+// As many seats, from 1 on.
+fn cut_seats<S: Shut>(
+    alloc: Global,
+    sender: &Sending<S>,
+    pass: &mut Ticket<S>,
+    count: u64,
+) -> Result<Vec<Seat<S>>, AllocError>
+    requires pass { IsSeatAt (sends_on sender.now) pass.old × (is_reader 1 (view pass.old) ≡ true) × (received_in (view pass.old) ≡ []) }
+    requires count { count ≤ 256 }
+    ensures pass { IfOk result (λ _. IsSeatAt (sends_on sender.now) pass.new × (is_reader (count + 1) (view pass.new) ≡ true) × (received_in (view pass.new) ≡ [])) }
+    ensures seats { IfOk result (λ s. (length s.items ≡ count) × AreNewSeats (place_of pass.old) s.items) }
+{
+    let mut seats = Vec::new(alloc);
+    for i in 0..count {
+        let seat = cut_seat(sender, pass, i + 1)?;
+        seats.push(seat)?;
+    }
+    Ok(seats)
+}
+
+/// An inbox in which at most `cap` posts wait, 1 or more, with its door and its seats, from 1 to 256 in order. Nothing was posted
+/// or received yet.
+///
+/// # Errors
+/// Where a growth of memory was refused. All that the ends ever take is taken here.
+pub fn inbox<S: Shut>(
+    alloc: Global,
+    cap: usize,
+) -> Result<(Door<S>, Vec<Seat<S>>, Inbox<S>), AllocError>
+    requires { 1 ≤ cap }
+    ensures count { IfOk result (λ r. length r.1.items ≡ 256) }
+    ensures seats { IfOk result (λ r. AreNewSeats (inbox_of r.2) r.1.items) }
+    ensures inbox { IfOk result (λ r. (received r.2 ≡ []) × (capacity r.2 ≡ cap)) }
+    ensures door { IfOk result (λ r. (stops r.0 ≡ 0) × (inbox_of_door r.0 ≡ inbox_of r.2)) }
+{
+    let (sender, receiver, mut pass) = bounded_with::<Post<S>, View<S>, InTurn, Global>(
+        alloc, cap,
+    )?;
+    let door = cut_door(&sender, &mut pass);
+    let seats = cut_seats(alloc, &sender, &mut pass, SEATS)?;
+    let door = Door { sender, pass: door };
+    Ok((
+        door,
+        seats,
+        Inbox {
+            next: SEATS + 1,
+            receiver,
+            pass,
+        },
+    ))
+}

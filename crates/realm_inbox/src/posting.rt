@@ -1,0 +1,36 @@
+//! Where a reader posts what its client does.
+ghost use Rattle.std.specs.Prelude.{◌≡◌, ◌++◌, ◌∷◌, [], List, MatchResult, false};
+ghost use Rattle.realm_inbox.specs.Joins.{is_join};
+ghost use Rattle.realm_inbox.specs.declared.act.Act.{Act as AnAct};
+
+use crate::act::Act;
+use crate::ends::Poster;
+use crate::words::Shut;
+use std::sync::Wait;
+
+/// Where the acts of one connection go once it has asked for its session, one after another.
+pub trait Posting<S: Shut> {
+    /// What was posted so far, the oldest first.
+    ghost posted: { Self → List (AnAct S) };
+
+    /// Posts an act that is no Join, and may wait for room.
+    ///
+    /// # Errors
+    /// The act, where nobody receives it any more. Nothing was posted then.
+    fn post<R: Wait>(&mut self, rt: &R, act: Act<S>) -> Result<(), Act<S>>
+        requires { is_join act ≡ false }
+        ensures { MatchResult result (λ _. posted self.new ≡ posted self.old ++ act ∷ []) (λ back. (back ≡ act) × (posted self.new ≡ posted self.old)) };
+}
+
+impl<S: Shut> Posting<S> for Poster<S> {
+    ghost use Rattle.realm_inbox.specs.Shown.{posted_acts};
+
+    ghost posted = { posted_acts };
+
+    fn post<R: Wait>(&mut self, rt: &R, act: Act<S>) -> Result<(), Act<S>>
+        requires { is_join act ≡ false }
+        ensures { MatchResult result (λ _. posted_acts self.new ≡ posted_acts self.old ++ act ∷ []) (λ back. (back ≡ act) × (posted_acts self.new ≡ posted_acts self.old)) }
+    {
+        Poster::post(self, rt, act)
+    }
+}

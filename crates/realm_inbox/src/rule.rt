@@ -1,0 +1,97 @@
+//! The rule of an inbox, and the steps under it.
+use crate::act::Act;
+use crate::letter::Post;
+use crate::words::Shut;
+use crossbeam_channel::protocol::{Lesson, Outcome, Protocol, Split};
+use std::collections::LinkedList;
+use wamp_ids::Conn;
+
+/// What an end of an inbox knows. No value of it is made.
+pub enum View<S: Shut> {
+    /// The receiving end: which number is cut next, and what was received, the oldest first. The number 0 is the door's.
+    Reader(u64, LinkedList<Post<S>>),
+    /// A seat: its number, and what was posted there, the oldest first.
+    Seat(u64, LinkedList<(Conn, Act<S>)>),
+    /// The door: how many stops it has posted.
+    Door(u64),
+}
+
+/// The rule of an inbox: what was posted at a seat is what was received of it, and then what waits of it.
+pub struct InTurn;
+
+impl<S: Shut> Protocol<Post<S>, View<S>> for InTurn {
+    ghost use Rattle.realm_inbox.specs.InTurn.{Keeps, fresh};
+
+    ghost holds = { Keeps };
+
+    ghost first = { fresh };
+}
+
+// Cuts the pass of the next seat from the reader's.
+pub(crate) struct CutSeat;
+
+impl<S: Shut> Split<View<S>> for CutSeat {
+    ghost use Rattle.realm_inbox.specs.InTurn.{after_cut, next_seat};
+
+    ghost left = { after_cut };
+
+    ghost right = { next_seat };
+}
+
+// Cuts the pass of the door from the reader's, before any seat's.
+pub(crate) struct CutDoor;
+
+impl<S: Shut> Split<View<S>> for CutDoor {
+    ghost use Rattle.realm_inbox.specs.InTurn.{after_cut, new_door};
+
+    ghost left = { after_cut };
+
+    ghost right = { λ v. new_door };
+}
+
+// A post at a seat.
+pub(crate) struct Posts;
+
+impl<S: Shut> Outcome<Post<S>, View<S>> for Posts {
+    ghost use Rattle.std.specs.Prelude.{◌≡◌};
+    ghost use Rattle.realm_inbox.specs.InTurn.{after_post};
+
+    ghost then = { λ v x w. w ≡ after_post v x };
+}
+
+impl<S: Shut> Lesson<Post<S>, View<S>> for Posts {
+    ghost use Rattle.std.specs.Prelude.{⊤};
+
+    ghost fact = { λ v items. ⊤ };
+}
+
+// A stop, which the door posts.
+pub(crate) struct Stops;
+
+impl<S: Shut> Outcome<Post<S>, View<S>> for Stops {
+    ghost use Rattle.std.specs.Prelude.{◌≡◌};
+    ghost use Rattle.realm_inbox.specs.InTurn.{after_stop};
+
+    ghost then = { λ v x w. w ≡ after_stop v };
+}
+
+impl<S: Shut> Lesson<Post<S>, View<S>> for Stops {
+    ghost use Rattle.std.specs.Prelude.{⊤};
+
+    ghost fact = { λ v items. ⊤ };
+}
+
+// A receive.
+pub(crate) struct Receives;
+
+impl<S: Shut> Outcome<Post<S>, View<S>> for Receives {
+    ghost use Rattle.realm_inbox.specs.InTurn.{Receipt};
+
+    ghost then = { Receipt };
+}
+
+impl<S: Shut> Lesson<Post<S>, View<S>> for Receives {
+    ghost use Rattle.std.specs.Prelude.{⊤};
+
+    ghost fact = { λ v items. ⊤ };
+}
