@@ -2,13 +2,15 @@
 use Rattle.std.specs.Prelude.{◌≡◌, ◌==◌, ◌+◌, ◌%◌, ◌^◌, ℕ, Bool, cond, List, [], ◌∷◌, ◌++◌, codes, decimal, pos, None, Some}
 use Rattle.std.specs.declared.option.Option.{Option}
 use Rattle.std.specs.List.{list_any, flat_map}
-use Rattle.message_tree.specs.Data.{Data, whole, text, list, dict, no_items, item, no_entries}
+use Rattle.message_tree.specs.Data.{Data}
 use Rattle.json_codec.specs.Writing.{json_text}
 use Rattle.session.specs.Telling.{message_of}
 use Rattle.session.specs.declared.item.Item.{Item}
+use Rattle.session.specs.declared.item.Item.TheVariants.{Abort}
+use Rattle.session.specs.declared.item.Reason.{Reason}
 use Rattle.session.specs.declared.fault.Fault.{Fault}
 use Rattle.session.specs.declared.fault.Fault.TheVariants.{NoSuchRealm, Shape}
-use Rattle.session.specs.Opening.{abort_uri_of, first_of, is_hello}
+use Rattle.session.specs.Opening.{first_of, is_hello, reason_of}
 use Rattle.realm.specs.declared.entry.Entry.{Entry}
 use Rattle.realm.specs.declared.entry.Entry.TheVariants as entry
 use Rattle.realm.specs.Granting.{Grants}
@@ -79,17 +81,14 @@ printed_all given = flat_map (λ g. printed g.0 (item_text (message_of g.1))) gi
 abbrev pub ended : ℕ → List ℕ
 ended n = printed n (codes "end")
 
--- ABORT with a reason, as a connection gets it that has no session
-abbrev pub abort_of : List ℕ → Data
-abort_of reason = list (item (whole (pos 3)) (item (dict no_entries) (item (text reason) no_items)))
-
-abbrev pub abort_line : ℕ → Option (List ℕ) → List ℕ
+-- the line of the ABORT that a connection without a session gets
+abbrev pub abort_line : ℕ → Option Reason → List ℕ
 abort_line n None = []
-abort_line n (Some reason) = printed n (json_text (abort_of reason))
+abort_line n (Some reason) = printed n (item_text (message_of (Abort reason)))
 
 -- a number that opens no session gets the ABORT of the fault, and has ended
 abbrev pub refused : ℕ → Fault → List ℕ
-refused n fault = abort_line n (abort_uri_of fault) ++ ended n
+refused n fault = abort_line n (reason_of fault) ++ ended n
 
 -- what the first line of a number gives that opens no session: for `gone` no ABORT
 abbrev pub refusal : ℕ → Speech → List ℕ

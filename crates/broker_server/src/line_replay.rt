@@ -9,11 +9,11 @@ ghost use Rattle.broker_server.specs.LineReplays.{PrintsOpening};
 
 use crate::fault::Fault;
 use crate::grants::copy_grants;
-use crate::print::{print_abort, print_all, print_end};
+use crate::print::{print_all, print_end, print_item};
 use crate::speech::Speech;
 use message_tree::Text;
 use realm_core::{Entry, RealmConfig, World};
-use session::{First, Said, abort_uri, first};
+use session::{First, Item, Said, abort_reason, first};
 use std::alloc::Global;
 use std::marker::Model;
 use std::slice;
@@ -156,8 +156,8 @@ impl LineReplay {
         ensures printed { OnOk result (out.new.items ≡ out.old.items ++ refused number fault) }
         ensures fault { IfErr result (λ of. of ≡ Fault.NoMemory) }
     {
-        if let Some(reason) = abort_uri(fault) {
-            print_abort(alloc, out, number, reason)?;
+        if let Some(reason) = abort_reason(fault) {
+            print_item(alloc, out, number, &Item::Abort(reason))?;
         }
         print_end(out, number)
     }

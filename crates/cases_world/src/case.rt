@@ -2,8 +2,9 @@ ghost use Rattle.std.specs.Prelude.{◌≤◌, IfSome};
 
 use crate::churning::churn;
 use crate::entries::{entry_of, step_of};
-use crate::telling::{given_text, outcome_text, run_text, unless_refused};
+use crate::telling::{given_text, outcome_text, run_text};
 use crate::words::{conn, number, part};
+use case_items::unless_refused;
 use case_text::line_of;
 use realm_core::{Entry, RealmConfig, Step, World};
 use std::alloc::{AllocError, Global};

@@ -1,9 +1,9 @@
 //! Entries and steps, as a line has them.
 use crate::words::{conn, conn_and_word, number, part};
-use message_tree::{Message, Octets, Text};
-use realm_core::{Entry, Said, Step};
-use session::read_said;
-use std::alloc::{AllocError, Global};
+use case_items::said_of;
+use message_tree::{Octets, Text};
+use realm_core::{Entry, Step};
+use std::alloc::Global;
 use std::io;
 
 fn join(alloc: Global, text: &str) -> io::Result<Option<Entry>> {
@@ -22,29 +22,11 @@ fn join(alloc: Global, text: &str) -> io::Result<Option<Entry>> {
     }
 }
 
-/// What a client's message says.
-fn meant(alloc: Global, message: Message) -> io::Result<Option<Said>> {
-    match read_said(alloc, message) {
-        Ok(said) => Ok(Some(said)),
-        Err(session::Fault::NoMemory) => Err(AllocError)?,
-        Err(_) => Ok(None),
-    }
-}
-
-/// What a client says by a message in JSON.
-fn spoken(alloc: Global, text: &str) -> io::Result<Option<Said>> {
-    match json_codec::decode(alloc, text.as_bytes()) {
-        Ok(message) => meant(alloc, message),
-        Err(json_codec::Fault::NoMemory) => Err(AllocError)?,
-        Err(_) => Ok(None),
-    }
-}
-
 fn said(alloc: Global, text: &str) -> io::Result<Option<Entry>> {
     let Some((conn, word, message)) = conn_and_word(text) else {
         return Ok(None);
     };
-    match spoken(alloc, message)? {
+    match said_of(alloc, message)? {
         None => Ok(None),
         Some(said) => Ok(Some(Entry::Said { conn, word, said })),
     }

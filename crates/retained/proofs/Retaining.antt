@@ -1,5 +1,6 @@
 -- Lists of publications in ascending order of topics, each topic once.
 use Rattle.std.proofs.Common.{◌≡◌, ℕ, suc, Bool, true, false, cond, not, ◌||◌, List, [], ◌∷◌, length, take, refl, sym, ap, ◌∙◌}
+use Rattle.std.proofs.Math.Bool.{or_assoc, or_comm}
 use Rattle.std.proofs.lemmas.Bool.{true≢false}
 use Rattle.std.proofs.lemmas.Cmp.{nat_list_cmp_total}
 use Rattle.std.proofs.lemmas.Map.Text.{is_eq-slice_cmp}
@@ -152,16 +153,12 @@ AreApart-last : (kept : List Publication) → AreApart (last_of_each kept)
 AreApart-last [] = tt
 AreApart-last (p ∷ older) = (has-without p.topic (last_of_each older), AreApart-filter (λ q. not (bytes_eq q.topic p.topic)) (last_of_each older) (AreApart-last older))
 
-or_swap : (a b c : Bool) → a || (b || c) ≡ b || (a || c)
-or_swap true true c = refl
-or_swap true false c = refl
-or_swap false b c = refl
-
 has-put : (t : List ℕ) (p : Publication) (qs : List Publication) → has_topic t (put_by_topic p qs) ≡ bytes_eq p.topic t || has_topic t qs
 has-put t p [] = refl
 has-put t p (q ∷ qs) = elim (is_before p.topic q.topic) as (λ b. has_topic t (cond b (p ∷ q ∷ qs) (q ∷ put_by_topic p qs)) ≡ bytes_eq p.topic t || has_topic t (q ∷ qs)) [
   | true ↦ refl
-  | false ↦ ap (λ b. bytes_eq q.topic t || b) (has-put t p qs) ∙ or_swap (bytes_eq q.topic t) (bytes_eq p.topic t) (has_topic t qs)
+  | false ↦ ap (λ b. bytes_eq q.topic t || b) (has-put t p qs) ∙ sym (or_assoc (bytes_eq q.topic t) (bytes_eq p.topic t) (has_topic t qs))
+    ∙ ap (λ b. b || has_topic t qs) (or_comm (bytes_eq q.topic t) (bytes_eq p.topic t)) ∙ or_assoc (bytes_eq p.topic t) (bytes_eq q.topic t) (has_topic t qs)
 ]
 
 has-by_topic : (t : List ℕ) (ps : List Publication) → has_topic t (by_topic ps) ≡ has_topic t ps

@@ -1,11 +1,12 @@
 //! `wampd`: a publish-subscribe broker for WAMP.
 #![tactic(auto)]
 
-ghost use Rattle.std.specs.Prelude.{◌≡◌, ◌++◌, IfErr, OnOk};
+ghost use Rattle.std.specs.Prelude.{◌≡◌, ◌≢◌, ◌<◌, ◌≤◌, ◌+◌, ◌++◌, Err, IfErr, OnOk};
+ghost use Rattle.rawsocket.specs.Devices.{GrowsByBeginning};
 ghost use Rattle.broker_server.specs.Commands.{status_of};
 
 use broker_server::{Command, Fault, read_command, replay, report};
-use rawsocket::{ReadSource, Sink, Turns, WriteSink, write_all};
+use rawsocket::{ReadSource, Sink, Turns, WriteSink, send};
 use std::env;
 use std::process::ExitCode;
 
@@ -49,11 +50,16 @@ fn run(rt: &HostRuntime) -> Result<(), Fault> {
 /// Prints a text, given as its octets, whole.
 fn print<S: Sink>(output: &mut S, text: &[u8]) -> Result<(), Fault>
     ensures written { OnOk result (S.taken output.new ≡ S.taken output.old ++ text.now) }
+    ensures begun { GrowsByBeginning (S.taken output.old) (S.taken output.new) text.now }
     ensures fine { OnOk result (S.failures output.new ≡ S.failures output.old) }
+    ensures told { IfErr result (λ fault. fault ≢ Fault.WriteFault → S.failures output.new ≡ S.failures output.old) }
+    ensures cause { result ≡ Err Fault.WriteFault → S.failures output.old < S.failures output.new }
+    ensures writes { S.calls output.new ≤ S.calls output.old + 4294967296 }
 {
     let mut turns = Turns::new();
-    if write_all(output, text, &mut turns).is_err() || output.flush().is_err() {
-        return Err(Fault::WriteFault);
+    match send(output, text, &mut turns) {
+        Ok(()) => Ok(()),
+        Err(rawsocket::Fault::WriteFault) => Err(Fault::WriteFault),
+        Err(_) => Err(Fault::TooManyTurns),
     }
-    Ok(())
 }
