@@ -110,7 +110,15 @@ fn accepted(
     }
 }
 
-/// The publication that an accepted PUBLISH makes.
+/// The arguments of a publication. Those of one that is retained lose the octets that they are
+/// encoded as: it is kept for long, and given to few.
+fn kept(args: CarriedArgs, retained: bool) -> CarriedArgs
+    ensures { result ≡ args }
+{
+    if retained { args.unencoded() } else { args }
+}
+
+/// The publication that an accepted PUBLISH makes. The arguments are moved.
 fn publication(
     alloc: Global,
     publisher: &Who,
@@ -128,10 +136,10 @@ fn publication(
     Ok(Publication {
         id: Id::of_word(word),
         topic,
+        args: kept(args, wishes.retained),
         lists: wishes.lists,
         publisher,
         disclosed: wishes.disclosed,
-        args,
     })
 }
 
