@@ -48,7 +48,7 @@ parts s true id a o topic true false = simp (append_assoc, append-nil)
 parts s true id a o topic false true = simp (append_assoc, append-nil)
 parts s true id a o topic false false = simp (append_assoc, append-nil)
 parts s false id a o topic true true = simp (append_assoc, append-nil)
-parts s false id a o topic true false = simp (append_assoc, append-nil)
+parts s false id a o topic true false = simp append-nil
 parts s false id a o topic false true = simp (append_assoc, append-nil)
 parts s false id a o topic false false = refl
 

@@ -102,6 +102,7 @@ fn count_of(made: &Publication, with_topic: bool, retained: bool) -> u8
     }
 }
 
+/// Whether one of them is true.
 fn either(one: bool, other: bool) -> bool
     ensures { result ≡ one || other }
 {

@@ -3,6 +3,7 @@ ghost use Rattle.std.specs.Prelude.{◌≡◌, ◌≤◌, ◌<◌, ◌+◌, ◌+
 ghost use Rattle.message_tree.specs.Data.{item, no_items};
 ghost use Rattle.msgpack_codec.specs.Short.{item_count};
 ghost use Rattle.rawsocket.specs.Frames.{spelled};
+ghost use Rattle.rawsocket.specs.declared.handshake.Serializer.{Serializer};
 ghost use Rattle.session.specs.Frames.{frame_of, octets_of, Fits, IsSpelled, IsUnspelled, IsTooLong};
 ghost use Rattle.session.specs.Parts.{has_spelling, items_have_spelling, list_opening, further};
 ghost use Rattle.session.specs.Serializing.{serialized};
@@ -194,12 +195,11 @@ fn put_item(
             request,
             subscription,
         } => put_triple(out, alloc, serializer, 33, *request, *subscription),
-        Item::Pong(octets) => Ok(out.put_all(octets.as_slice())?),
         _ => put_message(out, alloc, serializer, item),
     }
 }
 
-/// The message of an item, by way of its tree.
+/// The payload of an item's frame, by way of the item's message.
 fn put_message(
     out: &mut Appender,
     alloc: Global,
@@ -254,8 +254,9 @@ pub fn write_payload(
     }
 }
 
-fn kind_of(_serializer: Serializer, item: &Item) -> Kind
-    ensures { result ≡ (frame_of _serializer item.now).kind }
+/// The kind of an item's frame.
+fn kind_of(item: &Item) -> Kind
+    ensures { (s : Serializer) → result ≡ (frame_of s item.now).kind }
 {
     match item {
         Item::Pong(_) => Kind::Pong,
@@ -293,6 +294,6 @@ pub fn write_item(
         out.truncate(at);
         return Err(Fault::TooLongForClient);
     }
-    fill_header(kind_of(serializer, item), at, out);
+    fill_header(kind_of(item), at, out);
     Ok(())
 }
