@@ -1,0 +1,5 @@
+pub mod Frames
+pub mod Posts
+pub mod Reading
+pub mod Seats
+pub mod Writing
