@@ -9,4 +9,4 @@ mod writing;
 
 pub use fault::Fault;
 pub use reading::decode;
-pub use writing::encode;
+pub use writing::{encode, encode_into, encode_number_into, encode_text_into};

@@ -5,6 +5,7 @@
 //!
 //! What no tree carries (a float, a value of an extension type, a str that isn't UTF-8, a map with
 //! a key that isn't a str) is read past into `Uncarried`.
+mod appender;
 mod fault;
 mod form;
 pub mod laws;
@@ -13,4 +14,4 @@ mod writing;
 
 pub use fault::Fault;
 pub use reading::decode;
-pub use writing::encode;
+pub use writing::{encode, encode_into, encode_number_into, encode_text_into};

@@ -1,146 +1,155 @@
 //! Messages to octets.
-ghost use Rattle.std.specs.Prelude.{◌≡◌, ◌<◌, nat_lt, ◌^◌, ◌++◌, ◌⊎◌, length, IfOk, IfErr, OnOk, true, false};
-ghost use Rattle.message_tree.specs.Data.{is_carried, items_carried, entries_carried, fits_codecs, entry_count};
+ghost use Rattle.std.specs.Prelude.{pos, ◌≡◌, ◌<◌, nat_lt, ◌^◌, ◌++◌, ◌⊎◌, length, IfOk, IfErr, OnOk, OnErr, true, false};
+ghost use Rattle.message_tree.specs.Data.{is_carried, items_carried, entries_carried, fits_codecs, entry_count, whole, text};
 ghost use Rattle.message_tree.specs.View.{view, dict_view, items_view};
 ghost use Rattle.message_tree.specs.Meaning.{meaning};
 ghost use Rattle.msgpack_codec.specs.Grammar.{Spells};
 ghost use Rattle.msgpack_codec.specs.Short.{text_head, bytes_head, list_head, dict_head, whole_short, from_zero, below_zero, short, items_short, entries_short, item_count, has_short, items_have_short, entries_have_short};
 
+use crate::appender::Appender;
 use crate::fault::Fault;
 use message_tree::{Dict, Message, Tree};
 use std::alloc::Global;
+use std::mem;
 
 /// MessagePack counts octets and members in four octets at most.
 const LIMIT: usize = 0x1_0000_0000;
 
 /// The head of a str of so many octets.
 #[tactic(auto, unfolding(crate::specs::Short::text_head))]
-fn put_text_head(out: &mut Vec<u8>, len: usize) -> Result<(), Fault>
+fn put_text_head(out: &mut Appender, len: usize) -> Result<(), Fault>
     requires { len < 2 ^ 32 }
-    ensures ok { OnOk result (out.new.items ≡ out.old.items ++ text_head len) }
+    ensures ok { OnOk result (out.new.since ≡ out.old.since ++ text_head len) }
+    ensures before { out.new.before ≡ out.old.before }
     ensures err { IfErr result (λ e. e ≡ Fault.NoMemory) }
 {
     if len < 32 {
-        out.push(0xa0 + len as u8)?;
+        out.put(0xa0 + len as u8)?;
     } else if len < 0x100 {
-        out.extend_from_slice(&[0xd9, len as u8])?;
+        out.put_all(&[0xd9, len as u8])?;
     } else if len < 0x1_0000 {
-        out.push(0xda)?;
-        out.extend_from_slice(&(len as u16).to_be_bytes())?;
+        out.put(0xda)?;
+        out.put_all(&(len as u16).to_be_bytes())?;
     } else {
-        out.push(0xdb)?;
-        out.extend_from_slice(&(len as u32).to_be_bytes())?;
+        out.put(0xdb)?;
+        out.put_all(&(len as u32).to_be_bytes())?;
     }
     Ok(())
 }
 
 /// The head of a bin of so many octets.
 #[tactic(auto, unfolding(crate::specs::Short::bytes_head))]
-fn put_bytes_head(out: &mut Vec<u8>, len: usize) -> Result<(), Fault>
+fn put_bytes_head(out: &mut Appender, len: usize) -> Result<(), Fault>
     requires { len < 2 ^ 32 }
-    ensures ok { OnOk result (out.new.items ≡ out.old.items ++ bytes_head len) }
+    ensures ok { OnOk result (out.new.since ≡ out.old.since ++ bytes_head len) }
+    ensures before { out.new.before ≡ out.old.before }
     ensures err { IfErr result (λ e. e ≡ Fault.NoMemory) }
 {
     if len < 0x100 {
-        out.extend_from_slice(&[0xc4, len as u8])?;
+        out.put_all(&[0xc4, len as u8])?;
     } else if len < 0x1_0000 {
-        out.push(0xc5)?;
-        out.extend_from_slice(&(len as u16).to_be_bytes())?;
+        out.put(0xc5)?;
+        out.put_all(&(len as u16).to_be_bytes())?;
     } else {
-        out.push(0xc6)?;
-        out.extend_from_slice(&(len as u32).to_be_bytes())?;
+        out.put(0xc6)?;
+        out.put_all(&(len as u32).to_be_bytes())?;
     }
     Ok(())
 }
 
 /// The head of an array of so many values.
 #[tactic(auto, unfolding(crate::specs::Short::list_head))]
-fn put_list_head(out: &mut Vec<u8>, len: usize) -> Result<(), Fault>
+fn put_list_head(out: &mut Appender, len: usize) -> Result<(), Fault>
     requires { len < 2 ^ 32 }
-    ensures ok { OnOk result (out.new.items ≡ out.old.items ++ list_head len) }
+    ensures ok { OnOk result (out.new.since ≡ out.old.since ++ list_head len) }
+    ensures before { out.new.before ≡ out.old.before }
     ensures err { IfErr result (λ e. e ≡ Fault.NoMemory) }
 {
     if len < 16 {
-        out.push(0x90 + len as u8)?;
+        out.put(0x90 + len as u8)?;
     } else if len < 0x1_0000 {
-        out.push(0xdc)?;
-        out.extend_from_slice(&(len as u16).to_be_bytes())?;
+        out.put(0xdc)?;
+        out.put_all(&(len as u16).to_be_bytes())?;
     } else {
-        out.push(0xdd)?;
-        out.extend_from_slice(&(len as u32).to_be_bytes())?;
+        out.put(0xdd)?;
+        out.put_all(&(len as u32).to_be_bytes())?;
     }
     Ok(())
 }
 
 /// The head of a map of so many pairs.
 #[tactic(auto, unfolding(crate::specs::Short::dict_head))]
-fn put_dict_head(out: &mut Vec<u8>, len: usize) -> Result<(), Fault>
+fn put_dict_head(out: &mut Appender, len: usize) -> Result<(), Fault>
     requires { len < 2 ^ 32 }
-    ensures ok { OnOk result (out.new.items ≡ out.old.items ++ dict_head len) }
+    ensures ok { OnOk result (out.new.since ≡ out.old.since ++ dict_head len) }
+    ensures before { out.new.before ≡ out.old.before }
     ensures err { IfErr result (λ e. e ≡ Fault.NoMemory) }
 {
     if len < 16 {
-        out.push(0x80 + len as u8)?;
+        out.put(0x80 + len as u8)?;
     } else if len < 0x1_0000 {
-        out.push(0xde)?;
-        out.extend_from_slice(&(len as u16).to_be_bytes())?;
+        out.put(0xde)?;
+        out.put_all(&(len as u16).to_be_bytes())?;
     } else {
-        out.push(0xdf)?;
-        out.extend_from_slice(&(len as u32).to_be_bytes())?;
+        out.put(0xdf)?;
+        out.put_all(&(len as u32).to_be_bytes())?;
     }
     Ok(())
 }
 
 /// A number from 0.
 #[tactic(auto, unfolding(crate::specs::Short::from_zero))]
-fn put_from_zero(out: &mut Vec<u8>, number: u64) -> Result<(), Fault>
-    ensures ok { OnOk result (out.new.items ≡ out.old.items ++ from_zero number) }
+fn put_from_zero(out: &mut Appender, number: u64) -> Result<(), Fault>
+    ensures ok { OnOk result (out.new.since ≡ out.old.since ++ from_zero number) }
+    ensures before { out.new.before ≡ out.old.before }
     ensures err { IfErr result (λ e. e ≡ Fault.NoMemory) }
 {
     if number < 0x80 {
-        out.push(number as u8)?;
+        out.put(number as u8)?;
     } else if number < 0x100 {
-        out.extend_from_slice(&[0xcc, number as u8])?;
+        out.put_all(&[0xcc, number as u8])?;
     } else if number < 0x1_0000 {
-        out.push(0xcd)?;
-        out.extend_from_slice(&(number as u16).to_be_bytes())?;
+        out.put(0xcd)?;
+        out.put_all(&(number as u16).to_be_bytes())?;
     } else if number < 0x1_0000_0000 {
-        out.push(0xce)?;
-        out.extend_from_slice(&(number as u32).to_be_bytes())?;
+        out.put(0xce)?;
+        out.put_all(&(number as u32).to_be_bytes())?;
     } else {
-        out.push(0xcf)?;
-        out.extend_from_slice(&number.to_be_bytes())?;
+        out.put(0xcf)?;
+        out.put_all(&number.to_be_bytes())?;
     }
     Ok(())
 }
 
 /// The number -(below + 1).
 #[tactic(auto, unfolding(crate::specs::Short::below_zero))]
-fn put_below_zero(out: &mut Vec<u8>, below: u64) -> Result<(), Fault>
+fn put_below_zero(out: &mut Appender, below: u64) -> Result<(), Fault>
     requires { below < 2 ^ 63 }
-    ensures ok { OnOk result (out.new.items ≡ out.old.items ++ below_zero below) }
+    ensures ok { OnOk result (out.new.since ≡ out.old.since ++ below_zero below) }
+    ensures before { out.new.before ≡ out.old.before }
     ensures err { IfErr result (λ e. e ≡ Fault.NoMemory) }
 {
     if below < 0x20 {
-        out.push(0xff - below as u8)?;
+        out.put(0xff - below as u8)?;
     } else if below < 0x80 {
-        out.extend_from_slice(&[0xd0, 0xff - below as u8])?;
+        out.put_all(&[0xd0, 0xff - below as u8])?;
     } else if below < 0x8000 {
-        out.push(0xd1)?;
-        out.extend_from_slice(&(0xffff - below as u16).to_be_bytes())?;
+        out.put(0xd1)?;
+        out.put_all(&(0xffff - below as u16).to_be_bytes())?;
     } else if below < 0x8000_0000 {
-        out.push(0xd2)?;
-        out.extend_from_slice(&(0xffff_ffff - below as u32).to_be_bytes())?;
+        out.put(0xd2)?;
+        out.put_all(&(0xffff_ffff - below as u32).to_be_bytes())?;
     } else {
-        out.push(0xd3)?;
-        out.extend_from_slice(&(u64::MAX - below).to_be_bytes())?;
+        out.put(0xd3)?;
+        out.put_all(&(u64::MAX - below).to_be_bytes())?;
     }
     Ok(())
 }
 
-fn put_whole(out: &mut Vec<u8>, number: i128) -> Result<(), Fault>
+fn put_whole(out: &mut Appender, number: i128) -> Result<(), Fault>
     requires { fits_codecs number ≡ true }
-    ensures ok { OnOk result (out.new.items ≡ out.old.items ++ whole_short number) }
+    ensures ok { OnOk result (out.new.since ≡ out.old.since ++ whole_short number) }
+    ensures before { out.new.before ≡ out.old.before }
     ensures err { IfErr result (λ e. e ≡ Fault.NoMemory) }
 {
     if number < 0 {
@@ -150,25 +159,27 @@ fn put_whole(out: &mut Vec<u8>, number: i128) -> Result<(), Fault>
     }
 }
 
-fn put_text(out: &mut Vec<u8>, text: &str) -> Result<(), Fault>
+fn put_text(out: &mut Appender, text: &str) -> Result<(), Fault>
     requires { length text.now < 2 ^ 32 }
     ensures ok { OnOk result
-        (out.new.items ≡ out.old.items ++ (text_head (length text.now) ++ text.now)) }
+        (out.new.since ≡ out.old.since ++ (text_head (length text.now) ++ text.now)) }
+    ensures before { out.new.before ≡ out.old.before }
     ensures err { IfErr result (λ e. e ≡ Fault.NoMemory) }
 {
     put_text_head(out, text.len())?;
-    out.extend_from_slice(text.as_bytes())?;
+    out.put_all(text.as_bytes())?;
     Ok(())
 }
 
-fn put_bytes(out: &mut Vec<u8>, bytes: &[u8]) -> Result<(), Fault>
+fn put_bytes(out: &mut Appender, bytes: &[u8]) -> Result<(), Fault>
     requires { length bytes.now < 2 ^ 32 }
     ensures ok { OnOk result
-        (out.new.items ≡ out.old.items ++ (bytes_head (length bytes.now) ++ bytes.now)) }
+        (out.new.since ≡ out.old.since ++ (bytes_head (length bytes.now) ++ bytes.now)) }
+    ensures before { out.new.before ≡ out.old.before }
     ensures err { IfErr result (λ e. e ≡ Fault.NoMemory) }
 {
     put_bytes_head(out, bytes.len())?;
-    out.extend_from_slice(bytes)?;
+    out.put_all(bytes)?;
     Ok(())
 }
 
@@ -184,74 +195,61 @@ fn is_short(text: &str) -> bool
     text.len() < LIMIT
 }
 
-/// Whether each text, byte string, list and dictionary has a spelling.
-#[cycle(fits)]
-fn fits(tree: &Tree) -> bool
-    ensures { result ≡ has_short (view tree.now) }
-{
-    match tree {
-        Tree::Text(text) => text.len() < LIMIT,
-        Tree::Bytes(bytes) => bytes.len() < LIMIT,
-        Tree::List(items) => count(items) < LIMIT && items_fit(items),
-        Tree::Dict(dict) => dict.len() < LIMIT && entries_fit(dict),
-        _ => true,
-    }
-}
-
-#[cycle(fits)]
-fn items_fit(items: &Vec<Tree>) -> bool
-    ensures { result ≡ items_have_short (items_view items.now.items) }
-{
-    for item in items {
-        if !fits(item) {
-            return false;
-        }
-    }
-    true
-}
-
-#[cycle(fits)]
-fn entries_fit(dict: &Dict) -> bool
-    ensures { result ≡ entries_have_short (dict_view dict.now) }
-{
-    for (key, tree) in dict.iter() {
-        if !is_short(key.as_str()) || !fits(tree) {
-            return false;
-        }
-    }
-    true
-}
-
-/// Writes a tree at the end.
+/// Writes a tree at the end. It ends where the tree has no spelling.
 #[cycle(write)]
-fn write(out: &mut Vec<u8>, tree: &Tree) -> Result<(), Fault>
+fn write(out: &mut Appender, tree: &Tree) -> Result<(), Fault>
     requires carried { is_carried (view tree.now) ≡ true }
-    requires short { has_short (view tree.now) ≡ true }
-    ensures ok { OnOk result (out.new.items ≡ out.old.items ++ short (view tree.now)) }
-    ensures err { IfErr result (λ e. e ≡ Fault.NoMemory) }
+    ensures ok { OnOk result (out.new.since ≡ out.old.since ++ short (view tree.now)) }
+    ensures fits { OnOk result (has_short (view tree.now) ≡ true) }
+    ensures unfit { result ≡ Err Fault.UncarriedLeaf → has_short (view tree.now) ≡ false }
+    ensures before { out.new.before ≡ out.old.before }
+    ensures fault { IfErr result (λ e. (e ≡ Fault.NoMemory) ⊎ (e ≡ Fault.UncarriedLeaf)) }
 {
     match tree {
-        Tree::Null => Ok(out.push(0xc0)?),
-        Tree::Flag(true) => Ok(out.push(0xc3)?),
-        Tree::Flag(false) => Ok(out.push(0xc2)?),
+        Tree::Null => Ok(out.put(0xc0)?),
+        Tree::Flag(true) => Ok(out.put(0xc3)?),
+        Tree::Flag(false) => Ok(out.put(0xc2)?),
         Tree::Whole(number) => put_whole(out, *number),
-        Tree::Text(text) => put_text(out, text.as_str()),
-        Tree::Bytes(bytes) => put_bytes(out, bytes.as_slice()),
-        Tree::List(items) => write_items(out, items),
-        Tree::Dict(dict) => write_entries(out, dict),
+        Tree::Text(text) => {
+            if !is_short(text.as_str()) {
+                return Err(Fault::UncarriedLeaf);
+            }
+            put_text(out, text.as_str())
+        }
+        Tree::Bytes(bytes) => {
+            if bytes.len() >= LIMIT {
+                return Err(Fault::UncarriedLeaf);
+            }
+            put_bytes(out, bytes.as_slice())
+        }
+        Tree::List(items) => {
+            if count(items) >= LIMIT {
+                return Err(Fault::UncarriedLeaf);
+            }
+            write_items(out, items)
+        }
+        Tree::Dict(dict) => {
+            if dict.len() >= LIMIT {
+                return Err(Fault::UncarriedLeaf);
+            }
+            write_entries(out, dict)
+        }
         Tree::Uncarried => unreachable!(),
     }
 }
 
 #[cycle(write)]
-fn write_items(out: &mut Vec<u8>, items: &Vec<Tree>) -> Result<(), Fault>
+fn write_items(out: &mut Appender, items: &Vec<Tree>) -> Result<(), Fault>
     requires few { item_count (items_view items.now.items) < 2 ^ 32 }
     requires carried { items_carried (items_view items.now.items) ≡ true }
-    requires short { items_have_short (items_view items.now.items) ≡ true }
-    ensures ok { OnOk result (out.new.items ≡ out.old.items
+    ensures ok { OnOk result (out.new.since ≡ out.old.since
         ++ (list_head (item_count (items_view items.now.items))
         ++ items_short (items_view items.now.items))) }
-    ensures err { IfErr result (λ e. e ≡ Fault.NoMemory) }
+    ensures fits { OnOk result (items_have_short (items_view items.now.items) ≡ true) }
+    ensures unfit { result ≡ Err Fault.UncarriedLeaf
+        → items_have_short (items_view items.now.items) ≡ false }
+    ensures before { out.new.before ≡ out.old.before }
+    ensures fault { IfErr result (λ e. (e ≡ Fault.NoMemory) ⊎ (e ≡ Fault.UncarriedLeaf)) }
 {
     put_list_head(out, count(items))?;
     for item in items {
@@ -261,20 +259,104 @@ fn write_items(out: &mut Vec<u8>, items: &Vec<Tree>) -> Result<(), Fault>
 }
 
 #[cycle(write)]
-fn write_entries(out: &mut Vec<u8>, dict: &Dict) -> Result<(), Fault>
+fn write_entries(out: &mut Appender, dict: &Dict) -> Result<(), Fault>
     requires few { entry_count (dict_view dict.now) < 2 ^ 32 }
     requires carried { entries_carried (dict_view dict.now) ≡ true }
-    requires short { entries_have_short (dict_view dict.now) ≡ true }
-    ensures ok { OnOk result (out.new.items ≡ out.old.items
+    ensures ok { OnOk result (out.new.since ≡ out.old.since
         ++ (dict_head (entry_count (dict_view dict.now)) ++ entries_short (dict_view dict.now))) }
-    ensures err { IfErr result (λ e. e ≡ Fault.NoMemory) }
+    ensures fits { OnOk result (entries_have_short (dict_view dict.now) ≡ true) }
+    ensures unfit { result ≡ Err Fault.UncarriedLeaf
+        → entries_have_short (dict_view dict.now) ≡ false }
+    ensures before { out.new.before ≡ out.old.before }
+    ensures fault { IfErr result (λ e. (e ≡ Fault.NoMemory) ⊎ (e ≡ Fault.UncarriedLeaf)) }
 {
     put_dict_head(out, dict.len())?;
     for (key, tree) in dict.iter() {
+        if !is_short(key.as_str()) {
+            return Err(Fault::UncarriedLeaf);
+        }
         put_text(out, key.as_str())?;
         write(out, tree)?;
     }
     Ok(())
+}
+
+/// Writes a carried tree at the end, as [`encode`] does, with no walk before.
+///
+/// # Errors
+/// [`Fault::UncarriedLeaf`] where a text, byte string, list or dictionary in it, keys among the
+/// texts, has 2^32 or more octets or members; [`Fault::NoMemory`] where a growth was refused. What
+/// was written stays as it was.
+pub fn encode_into(alloc: Global, tree: &Tree, out: &mut Vec<u8>) -> Result<(), Fault>
+    requires carried { is_carried (view tree.now) ≡ true }
+    ensures ok { OnOk result (out.new.items ≡ out.old.items ++ short (view tree.now)) }
+    ensures fits { OnOk result (has_short (view tree.now) ≡ true) }
+    ensures err { OnErr result (out.new.items ≡ out.old.items) }
+    ensures unfit { result ≡ Err Fault.UncarriedLeaf → has_short (view tree.now) ≡ false }
+    ensures fault { IfErr result (λ e. (e ≡ Fault.NoMemory) ⊎ (e ≡ Fault.UncarriedLeaf)) }
+{
+    let mut appender = Appender::new(mem::replace(out, Vec::new(alloc)));
+    let written = write(&mut appender, tree);
+    match written {
+        Ok(()) => {
+            *out = appender.into_vec();
+            Ok(())
+        }
+        Err(fault) => {
+            *out = appender.into_before();
+            Err(fault)
+        }
+    }
+}
+
+/// Writes a whole number at the end, as [`encode_into`] does.
+///
+/// # Errors
+/// [`Fault::NoMemory`] where a growth was refused; what was written stays as it was.
+pub fn encode_number_into(alloc: Global, number: u64, out: &mut Vec<u8>) -> Result<(), Fault>
+    ensures ok { OnOk result (out.new.items ≡ out.old.items ++ short (whole (pos number))) }
+    ensures err { OnErr result (out.new.items ≡ out.old.items) }
+    ensures fault { IfErr result (λ e. e ≡ Fault.NoMemory) }
+{
+    let mut appender = Appender::new(mem::replace(out, Vec::new(alloc)));
+    match put_from_zero(&mut appender, number) {
+        Ok(()) => {
+            *out = appender.into_vec();
+            Ok(())
+        }
+        Err(fault) => {
+            *out = appender.into_before();
+            Err(fault)
+        }
+    }
+}
+
+/// Writes a text at the end, as [`encode_into`] does.
+///
+/// # Errors
+/// [`Fault::UncarriedLeaf`] where it has 2^32 or more octets; [`Fault::NoMemory`] where a growth was
+/// refused. What was written stays as it was.
+pub fn encode_text_into(alloc: Global, of: &str, out: &mut Vec<u8>) -> Result<(), Fault>
+    ensures ok { OnOk result (out.new.items ≡ out.old.items ++ short (text of.now)) }
+    ensures fits { OnOk result (has_short (text of.now) ≡ true) }
+    ensures err { OnErr result (out.new.items ≡ out.old.items) }
+    ensures unfit { result ≡ Err Fault.UncarriedLeaf → has_short (text of.now) ≡ false }
+    ensures fault { IfErr result (λ e. (e ≡ Fault.NoMemory) ⊎ (e ≡ Fault.UncarriedLeaf)) }
+{
+    if !is_short(of) {
+        return Err(Fault::UncarriedLeaf);
+    }
+    let mut appender = Appender::new(mem::replace(out, Vec::new(alloc)));
+    match put_text(&mut appender, of) {
+        Ok(()) => {
+            *out = appender.into_vec();
+            Ok(())
+        }
+        Err(_) => {
+            *out = appender.into_before();
+            Err(Fault::NoMemory)
+        }
+    }
 }
 
 /// The octets of a message: the shortest spelling of each value (MessagePack specification,
@@ -294,10 +376,10 @@ pub fn encode(alloc: Global, message: &Message) -> Result<Vec<u8>, Fault>
         ⊎ (has_short (meaning message.now) ≡ false)) }
     ensures fault { IfErr result (λ e. (e ≡ Fault.NoMemory) ⊎ (e ≡ Fault.UncarriedLeaf)) }
 {
-    if !message.is_carried() || !fits(message.tree()) {
+    if !message.is_carried() {
         return Err(Fault::UncarriedLeaf);
     }
     let mut out = Vec::new(alloc);
-    write(&mut out, message.tree())?;
+    encode_into(alloc, message.tree(), &mut out)?;
     Ok(out)
 }

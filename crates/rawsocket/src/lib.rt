@@ -21,7 +21,7 @@ mod turns;
 pub use deframer::{Deframer, Fed};
 pub use device::{Sink, Source};
 pub use fault::Fault;
-pub use frame::{Frame, Kind, write_frame};
+pub use frame::{Frame, Kind, fill_header, write_frame};
 pub use handshake::{Handshake, Serializer, answer, no_seat_reply};
 pub use memory::{MemorySink, MemorySource};
 pub use over_io::{ReadSource, WriteSink};

@@ -1,8 +1,9 @@
 -- The message that tells a client an item.
 use Rattle.std.specs.Prelude.{ℕ, pos, Bool, true, cond, List, codes, None, Some}
 use Rattle.std.specs.declared.option.Option.{Option}
-use Rattle.message_tree.specs.Data.{Data, flag, whole, text, list, dict, Items, no_items, item, Entries, no_entries, put}
+use Rattle.message_tree.specs.Data.{Data, flag, whole, text, list, dict, no_items, item, Entries, no_entries, put}
 use Rattle.eligibility.specs.declared.who.Who.{Who}
+use Rattle.session.specs.Arguments.{last_items}
 use Rattle.session.specs.declared.item.Publication.{Publication}
 use Rattle.session.specs.declared.item.Reason.{Reason}
 use Rattle.session.specs.declared.item.Reason.TheVariants.{ProtocolViolation, NoSuchRealm, NotAuthorized, SessionIdTaken, InvalidUri, InvalidArgument, NoSuchSubscription, TooManySubscriptions, RetainedFull, GoodbyeAndOut, SystemShutdown}
@@ -39,27 +40,21 @@ put_if wanted k d es = cond wanted (put k d es) es
 -- the features that the broker announces
 abbrev pub features : Entries
 features =
-    put_if true (codes "event_retention") (flag true) (put_if true (codes "pattern_based_subscription") (flag true) (put_if true (codes "publisher_exclusion") (flag true)
-    (put_if true (codes "publisher_identification") (flag true) (put_if true (codes "subscriber_blackwhite_listing") (flag true) no_entries))))
+    put (codes "event_retention") (flag true) (put (codes "pattern_based_subscription") (flag true) (put (codes "publisher_exclusion") (flag true)
+    (put (codes "publisher_identification") (flag true) (put (codes "subscriber_blackwhite_listing") (flag true) no_entries))))
 
 abbrev pub roles : Entries
-roles = put_if true (codes "broker") (dict (put_if true (codes "features") (dict features) no_entries)) no_entries
+roles = put (codes "broker") (dict (put (codes "features") (dict features) no_entries)) no_entries
 
 unfoldable pub welcome_details : Who → Entries
 welcome_details w =
-    put_if true (codes "authid") (text w.authid) (put_if true (codes "authrole") (text w.authrole) (put_if true (codes "roles") (dict roles) no_entries))
+    put (codes "authid") (text w.authid) (put (codes "authrole") (text w.authrole) (put (codes "roles") (dict roles) no_entries))
 
 unfoldable pub event_details : Publication → Bool → Bool → Entries
 event_details p with_topic retained =
     put_if p.disclosed (codes "publisher") (number p.publisher.id) (put_if p.disclosed (codes "publisher_authid") (text p.publisher.authid)
     (put_if p.disclosed (codes "publisher_authrole") (text p.publisher.authrole)
     (put_if retained (codes "retained") (flag true) (put_if with_topic (codes "topic") (text p.topic) no_entries))))
-
--- (Arguments, (ArgumentsKw))
-abbrev pub last_items : Option Data → Option Data → Items
-last_items None k = no_items
-last_items (Some a) None = item a no_items
-last_items (Some a) (Some k) = item a (item k no_items)
 
 -- [type, Request or Subscription, Publication or Subscription]
 abbrev pub triple : ℕ → ℕ → ℕ → Data

@@ -1,24 +1,34 @@
 ghost use Rattle.std.specs.Prelude.{◌≡◌, ◌≤◌, ◌↔◌, None, Some, IfSome, IsOk, IfOk, IfErr, true};
 ghost use Rattle.std.specs.Option.{option_copied};
 ghost use Rattle.message_tree.specs.Data.{depth, is_carried};
-ghost use Rattle.session.specs.Arguments.{is_all_carried, is_carried_if_any, is_args, is_kwargs};
+ghost use Rattle.session.specs.Arguments.{FitMessages, is_all_carried, is_carried_if_any, is_args, is_kwargs};
+ghost use Rattle.session.specs.Tails.{IsTail};
 
+use crate::appender::Appender;
 use crate::fault::Fault;
-use message_tree::Content;
+use crate::writing::put_args;
+use message_tree::{Content, Octets};
+use rawsocket::Serializer;
 use std::alloc::Global;
 use std::marker::Model;
 
 /// The arguments of a PUBLISH, as they came: Arguments and ArgumentsKw, each where it was given.
 /// Arguments is a list, ArgumentsKw a dictionary, or either is uncarried as a whole. Each nests at
 /// most 99 levels, and there is no ArgumentsKw without Arguments.
+///
+/// Beside them may stand the octets that they are in a message of either serialization, so that an
+/// event for many receivers is encoded once. No contract shows whether they do.
 #[derive(Drop)]
 pub struct Args {
     args: Option<Content>,
     kwargs: Option<Content>,
+    json: Option<Octets>,
+    msgpack: Option<Octets>,
 }
 
 impl Model for Args {
-    ghost use Rattle.session.specs.Arguments.{Arguments, FitMessages, arguments_code};
+    ghost use Rattle.session.specs.Arguments.{Arguments, arguments_code};
+    ghost use Rattle.session.specs.Tails.{Encoded};
 
     ghost Value = { Arguments };
 
@@ -26,18 +36,27 @@ impl Model for Args {
 
     ghost view = { λ a. record { args = a.args; kwargs = a.kwargs } };
 
-    ghost invariant = { λ a. FitMessages (record { args = a.args; kwargs = a.kwargs }) };
+    ghost invariant = { λ a. Encoded (record { args = a.args; kwargs = a.kwargs }) a.json a.msgpack };
 }
 
 impl Args {
+    fn plain(args: Option<Content>, kwargs: Option<Content>) -> Args
+        requires { FitMessages (record { args = args; kwargs = kwargs }) }
+        ensures { result ≡ record { args = args; kwargs = kwargs } }
+    {
+        Args {
+            args,
+            kwargs,
+            json: None,
+            msgpack: None,
+        }
+    }
+
     /// No arguments.
     pub fn none() -> Args
         ensures { result ≡ record { args = None; kwargs = None } }
     {
-        Args {
-            args: None,
-            kwargs: None,
-        }
+        Args::plain(None, None)
     }
 
     /// Arguments alone.
@@ -46,11 +65,7 @@ impl Args {
         requires shallow { depth args ≤ 99 }
         ensures { result ≡ record { args = Some args; kwargs = None } }
     {
-        let kwargs = None;
-        Args {
-            args: Some(args),
-            kwargs,
-        }
+        Args::plain(Some(args), None)
     }
 
     /// Arguments and ArgumentsKw.
@@ -61,10 +76,7 @@ impl Args {
         requires kwargs_shallow { depth kwargs ≤ 99 }
         ensures { result ≡ record { args = Some args; kwargs = Some kwargs } }
     {
-        Args {
-            args: Some(args),
-            kwargs: Some(kwargs),
-        }
+        Args::plain(Some(args), Some(kwargs))
     }
 
     /// Arguments: a list, or uncarried.
@@ -90,7 +102,64 @@ impl Args {
     pub fn is_carried(&self) -> bool
         ensures { result ≡ is_all_carried self.now }
     {
+        if self.json.is_some() {
+            return true;
+        }
+        if self.msgpack.is_some() {
+            return true;
+        }
         is_carried_if_any(&self.args) && is_carried_if_any(&self.kwargs)
+    }
+
+    /// The same arguments, encoded for the messages of a serialization, unless they aren't carried,
+    /// have no spelling there, or a growth is refused.
+    pub fn encoded(self, alloc: Global, serializer: Serializer) -> Args
+        ensures { result ≡ self }
+    {
+        if !self.is_carried() || self.tail(serializer).is_some() {
+            return self;
+        }
+        let mut out = Appender::new(Vec::new(alloc));
+        match put_args(&mut out, alloc, serializer, &self) {
+            Err(_) => self,
+            Ok(()) => {
+                let tail = Some(Octets::from_vec(out.into_vec()));
+                let Args {
+                    args,
+                    kwargs,
+                    json,
+                    msgpack,
+                } = self;
+                match serializer {
+                    Serializer::Json => Args {
+                        args,
+                        kwargs,
+                        json: tail,
+                        msgpack,
+                    },
+                    Serializer::MsgPack => Args {
+                        args,
+                        kwargs,
+                        json,
+                        msgpack: tail,
+                    },
+                }
+            }
+        }
+    }
+
+    /// What stands at the end of a message with these arguments, where it is encoded.
+    pub(crate) fn tail(&self, serializer: Serializer) -> Option<&[u8]>
+        ensures { IfSome result (λ octets. IsTail serializer self.now octets.now) }
+    {
+        let tail = match serializer {
+            Serializer::Json => &self.json,
+            Serializer::MsgPack => &self.msgpack,
+        };
+        match tail {
+            Some(octets) => Some(octets.as_slice()),
+            None => None,
+        }
     }
 
     /// Equal ones, in memory of their own.
@@ -103,7 +172,7 @@ impl Args {
     {
         let args = copy_if_any(alloc, &self.args)?;
         let kwargs = copy_if_any(alloc, &self.kwargs)?;
-        Ok(Args { args, kwargs })
+        Ok(Args::plain(args, kwargs))
     }
 }
 
@@ -156,6 +225,22 @@ impl CarriedArgs {
             Ok(CarriedArgs { args })
         } else {
             Err(args)
+        }
+    }
+
+    /// The same arguments, without the octets that [`Args::encoded`] keeps beside them.
+    pub fn unencoded(self) -> CarriedArgs
+        ensures { result ≡ self }
+    {
+        let CarriedArgs { args } = self;
+        let Args {
+            args,
+            kwargs,
+            json: _,
+            msgpack: _,
+        } = args;
+        CarriedArgs {
+            args: Args::plain(args, kwargs),
         }
     }
 

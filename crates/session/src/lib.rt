@@ -2,10 +2,12 @@
 //! types.
 #![tactic(auto)]
 
+mod appender;
 mod args;
 mod asked;
 mod details;
 mod elements;
+mod event_details;
 mod fault;
 mod first_message;
 mod item;
@@ -17,15 +19,17 @@ mod said;
 mod serializing;
 mod telling;
 mod verdict;
+mod writing;
 
 pub use args::{Args, CarriedArgs};
 pub use asked::First;
 pub use eligibility::{Lists, Who};
 pub use fault::Fault;
-pub use first_message::{abort_uri, first};
+pub use first_message::{abort_reason, abort_uri, first};
 pub use item::{Item, Publication, Reason, Request};
 pub use opened::Opened;
 pub use opening::open_session;
 pub use reading::read_said;
 pub use said::Said;
 pub use telling::item_message;
+pub use writing::{write_item, write_payload};
