@@ -4,7 +4,7 @@ use Rattle.std.proofs.lemmas.Grind.{flat_map-append}
 use Rattle.std.specs.List.{AllByRecursion}
 use Rattle.rawsocket.specs.declared.handshake.Serializer.{Serializer}
 use Rattle.session.specs.declared.item.Item.{Item}
-use Rattle.connection.specs.Frames.{octets_of}
+use Rattle.session.specs.Frames.{octets_of}
 use Rattle.connection.specs.Writing.{IsWritable, frames_of, IsWhole, LacksLast, IsRefused, IsMissing, IsCut, IsWrittenBy, WritesSince, IsBetween, EndsAt, BreaksAt}
 use Rattle.connection.specs.declared.writing.WriteEnd.{WriteEnd}
 use Rattle.connection.specs.declared.writing.WriteEnd.TheVariants.{Stopped, Device, TooLong, NoMemory, TooManyTurns}

@@ -1,4 +1,3 @@
-pub mod Frames
 pub mod Posts
 pub mod Reading
 pub mod Seats

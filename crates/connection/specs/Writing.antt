@@ -8,7 +8,7 @@ use Rattle.session.specs.declared.item.Item.{Item}
 use Rattle.session.specs.Telling.{message_of}
 use Rattle.outbox_queue.specs.Ends.{Taking}
 use Rattle.outbox_queue.specs.Rule.{Grows}
-use Rattle.connection.specs.Frames.{octets_of, Fits, IsSpelled, IsTooLong}
+use Rattle.session.specs.Frames.{octets_of, Fits, IsSpelled, IsTooLong}
 use Rattle.connection.specs.declared.writing.WriteEnd.{WriteEnd}
 use Rattle.connection.specs.declared.writing.WriteEnd.TheVariants.{Stopped, Device, TooLong, NoMemory, TooManyTurns}
 

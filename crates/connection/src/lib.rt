@@ -7,7 +7,6 @@
 
 mod decoding;
 mod fault;
-mod frames;
 mod reading;
 mod seats;
 mod writing;

@@ -2,13 +2,12 @@
 ghost use Rattle.std.specs.Prelude.{◌≡◌, ◌≢◌, ◌≤◌, ◌<◌, ◌+◌, ◌++◌, ◌∷◌, ◌⊎◌, [], IfOk, IfErr, OnOk, OnErr};
 ghost use Rattle.rawsocket.specs.Devices.{GrowsByBeginning};
 ghost use Rattle.session.specs.Opened.{AreUsedUp, AreWithinTurns};
-ghost use Rattle.connection.specs.Frames.{octets_of};
+ghost use Rattle.session.specs.Frames.{octets_of};
 ghost use Rattle.connection.specs.Writing.{IsWritable, IsWhole, IsWrittenBy, WritesSince, IsLater, IsBetween, BreaksAt, end_by};
 
-use crate::frames::write_item;
 use outbox_queue::{Drain, Next, Owed, Waited};
 use rawsocket::{Serializer, Sink, Turns, write_all};
-use session::{Fault, Item};
+use session::{Fault, Item, write_item};
 use std::alloc::Global;
 use std::sync::Wait;
 
