@@ -1,0 +1,4 @@
+mod Acts
+mod Later
+mod Onward
+mod Written

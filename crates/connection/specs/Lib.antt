@@ -1,0 +1,4 @@
+pub mod Posts
+pub mod Reading
+pub mod Seats
+pub mod Writing

@@ -1,0 +1,92 @@
+-- What the frames of a client are posted as.
+use Rattle.std.specs.Prelude.{◌≡◌, ◌⊎◌, ℕ, Bool, true, false, List, [], ◌∷◌, None, Some}
+use Rattle.std.specs.declared.option.Option.{Option}
+use Rattle.message_tree.specs.Data.{Data}
+use Rattle.rawsocket.specs.Frames.{Content}
+use Rattle.rawsocket.specs.declared.fault.Fault as stream
+use Rattle.rawsocket.specs.declared.frame.Kind.{Kind}
+use Rattle.rawsocket.specs.declared.frame.Kind.TheVariants as kind
+use Rattle.rawsocket.specs.declared.handshake.Serializer.{Serializer}
+use Rattle.realm_inbox.specs.declared.act.Act.{Act}
+use Rattle.realm_inbox.specs.declared.act.Act.TheVariants.{Said, Ping, Spoilt}
+use Rattle.session.specs.Handing.{stream_fault}
+use Rattle.session.specs.Reading.{said_of}
+use Rattle.session.specs.Serializing.{Decodes, IsUndecodable}
+use Rattle.session.specs.declared.fault.Fault.{Fault}
+use Rattle.session.specs.declared.fault.Fault.TheVariants.{Shape}
+use Rattle.session.specs.declared.said.Said as session
+use Rattle.session.specs.declared.said.Said.TheVariants.{Abort, Goodbye}
+
+-- a payload is a message of a client, which says this
+pub record Says (s : Serializer) (payload : List ℕ) (said : session.Said) : Type 0 where
+  pub message : Data
+  pub decodes : Decodes s payload message
+  pub says : said_of message ≡ Some said
+
+-- it is a message, but of no client
+pub record HasNoShape (s : Serializer) (payload : List ℕ) : Type 0 where
+  pub message : Data
+  pub decodes : Decodes s payload message
+  pub says : said_of message ≡ None
+
+-- it says nothing, for this fault
+abbrev pub SaysNothing : Serializer → List ℕ → Fault → Type 0
+SaysNothing s payload Shape = HasNoShape s payload
+SaysNothing s payload fault = IsUndecodable s payload fault
+
+-- after it a client says no more
+abbrev pub is_farewell : session.Said → Bool
+is_farewell Abort = true
+is_farewell Goodbye = true
+is_farewell _ = false
+
+-- how a client's frames go: on, or to an end by a farewell, or by what breaks the protocol
+pub data Course : Type 0 where
+  GoesOn : Course
+  Leaves : Course
+  Breaks : Fault → Course
+
+module _ {S : Type 0} where
+  -- this act, and then those of the next frames
+  pub record First (act : Act S) (Next : List (Act S) → Course → Type 0) (acts : List (Act S)) (course : Course) : Type 0 where
+    pub more : List (Act S)
+    pub acts_are : acts ≡ act ∷ more
+    pub next : Next more course
+
+  -- a message that is no farewell is posted, and the next frames count
+  pub record SaysMore (s : Serializer) (payload : List ℕ) (Next : List (Act S) → Course → Type 0) (acts : List (Act S)) (course : Course) : Type 0 where
+    pub said : session.Said
+    pub says : Says s payload said
+    pub stays : is_farewell said ≡ false
+    pub first : First (Said said) Next acts course
+
+  -- a farewell is posted last
+  pub record SaysFarewell (s : Serializer) (payload : List ℕ) (acts : List (Act S)) (course : Course) : Type 0 where
+    pub said : session.Said
+    pub says : Says s payload said
+    pub leaves : is_farewell said ≡ true
+    pub acts_are : acts ≡ Said said ∷ []
+    pub course_is : course ≡ Leaves
+
+  -- what says nothing is posted last, as Spoilt
+  pub record Spoils (s : Serializer) (payload : List ℕ) (acts : List (Act S)) (course : Course) : Type 0 where
+    pub fault : Fault
+    pub nothing : SaysNothing s payload fault
+    pub acts_are : acts ≡ Spoilt ∷ []
+    pub course_is : course ≡ Breaks fault
+
+  -- by the kind of a frame: a PING is posted, a PONG is not
+  abbrev pub PostsBy : Serializer → List ℕ → (List (Act S) → Course → Type 0) → Kind → List (Act S) → Course → Type 0
+  PostsBy s payload Next kind.Message acts course = SaysMore s payload Next acts course ⊎ (SaysFarewell s payload acts course ⊎ Spoils s payload acts course)
+  PostsBy s payload Next kind.Ping acts course = First (Ping payload) Next acts course
+  PostsBy s payload Next kind.Pong acts course = Next acts course
+
+  -- what stands behind the last frame may be at fault: then it is posted last, as Spoilt
+  abbrev pub PostsLast : Option stream.Fault → List (Act S) → Course → Type 0
+  PostsLast None acts course = (acts ≡ []) × (course ≡ GoesOn)
+  PostsLast (Some fault) acts course = (acts ≡ Spoilt ∷ []) × (course ≡ Breaks (stream_fault fault))
+
+  -- the posts of frames, and of what stands behind them
+  abbrev pub Posts : Serializer → Option stream.Fault → List Content → List (Act S) → Course → Type 0
+  Posts s fault [] acts course = PostsLast fault acts course
+  Posts s fault (c ∷ frames) acts course = PostsBy s c.payload (Posts s fault frames) c.kind acts course

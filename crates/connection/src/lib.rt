@@ -1,0 +1,17 @@
+//! The two ends of a connection (WAMP, "RawSocket Transport"): what its reader posts of the octets that come, what its writer
+//! writes of the items that are owed, and the seats that connections sit at.
+//!
+//! [`read_posts`] and [`write_items`] run in a thread each, and end only where their stream or the other threads make them. Each
+//! says by its end what was posted, or written, of all that it read, or took.
+#![tactic(auto)]
+
+mod decoding;
+mod fault;
+mod reading;
+mod seats;
+mod writing;
+
+pub use fault::Fault;
+pub use reading::{ReadEnd, read_posts};
+pub use seats::Seats;
+pub use writing::{WriteEnd, write_items};
