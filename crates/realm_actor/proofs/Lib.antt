@@ -1,0 +1,15 @@
+pub mod Offering
+pub mod Standing
+pub mod Passing
+pub mod Entering
+pub mod Fullness
+pub mod Inserting
+pub mod Spoken
+pub mod Marks
+pub mod Acting
+pub mod Named
+pub mod Doing
+pub mod Leaving
+pub mod Knowing
+pub mod Stopping
+pub mod Turning

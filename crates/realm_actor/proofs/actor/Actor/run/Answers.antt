@@ -1,0 +1,24 @@
+use Rattle.std.proofs.Common.{sym, ◌∙◌}
+use Rattle.realm_inbox.specs.Shown.{received}
+use Rattle.realm_actor.proofs.Turning.{progress_none, progress_on, ends_left, ends_stopped}
+use Rattle.realm_actor.proofs.actor.Actor.run.Goals as goal
+
+pub loop-init : goal.loop-init
+loop-init g c = progress_none c.args.self (received c.args.inbox.now) c.requires.in_turn
+
+pub returns-in_default : goal.returns-in_default
+returns-in_default g c = record { ran = ends_left c.args.self c.loop.self c.sweep.new.self (received c.args.inbox.now) (received c.loop.inbox) (received c.next_post.new.inbox) c.loop.invariant c.sweep.ensures c.in_default.ensures.given }
+
+pub loop-preserved : goal.loop-preserved
+loop-preserved g c =
+    let given = c.in-Some-next_post.ensures.given in
+    progress_on c.args.self c.loop.self c.sweep.new.self c.take.new.self (received c.args.inbox.now) (received c.loop.inbox) (received c.next_post.new.inbox) c.take.result c.in-Some-next_post.post
+    (sym c.is_stop-ends.ensures ∙ c.if-ends.false) c.loop.invariant c.sweep.ensures c.in-Some-next_post.ensures.in_turn given c.take.ensures.handles
+
+pub returns-then-ends : goal.returns-then-ends
+returns-then-ends g c =
+    let given = c.in-Some-next_post.ensures.given in
+    record {
+      ran = ends_stopped c.args.self c.loop.self c.sweep.new.self c.take.new.self (received c.args.inbox.now) (received c.loop.inbox) (received c.next_post.new.inbox) c.take.result c.in-Some-next_post.post
+          (sym c.is_stop-ends.ensures ∙ c.if-ends.true) c.loop.invariant c.sweep.ensures given c.take.ensures.handles;
+    }

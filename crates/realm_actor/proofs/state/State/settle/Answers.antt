@@ -1,0 +1,6 @@
+use Rattle.std.proofs.Common.{refl}
+use Rattle.realm_actor.proofs.Knowing.{knows_settled}
+use Rattle.realm_actor.proofs.state.State.settle.Goals as goal
+
+pub returns-clause-knows : goal.returns-clause-knows
+returns-clause-knows g c = knows_settled c.settle_row.result c.args.self.now.table _ c.args.drain.conn c.args.drain (λ rest. rest.items.items) _ c.settle_row.ensures.rows c.settle_row.ensures.err refl refl refl

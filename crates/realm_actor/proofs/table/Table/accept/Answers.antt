@@ -1,0 +1,23 @@
+use Rattle.std.proofs.Common.{subst}
+use Rattle.realm_actor.specs.Tables.{Sound}
+use Rattle.realm_actor.specs.Cutting.{Cuts}
+use Rattle.realm_actor.proofs.table.Table.accept.Goals as goal
+
+pub cut_found-requires-clause-none : goal.cut_found-requires-clause-none
+cut_found-requires-clause-none g c = λ quiet. c.in_ok-is_full.ensures.none quiet c.requires.none
+
+pub returns-clause-ok : goal.returns-clause-ok
+returns-clause-ok g c =
+    let is = c.in_ok-is_full.ensures.history in
+    let before = c.enter.new.self in
+    let cuts = c.cut_found.ensures.cuts in (
+      cuts.0,
+      record {
+        mid = before.rows.items;
+        went = c.in_ok-is_full.ensures.rows;
+        sound = subst (λ h. Sound h before.rows.items) is c.in_ok-is_full.ensures.sound;
+        cuts = subst (λ h. Cuts h before.rows.items cuts.0 c.cut_found.new.self.realm c.cut_found.new.self.rows.items) is cuts.1;
+        none_full = c.cut_found.ensures.none;
+      },
+      cuts.2,
+    )

@@ -1,0 +1,32 @@
+use Rattle.std.proofs.Common.{refl, sym, ap, ◌∙◌, subst, [], ◌++◌, append-nil, append_assoc, length, add-one, arith}
+use Rattle.realm_actor.specs.Closing.{Closes, first, one_more}
+use Rattle.realm_actor.proofs.Stopping.{nil_append, closes_moved}
+use Rattle.realm_actor.proofs.table.Table.close_all.Goals as goal
+
+pub loop-place-init : goal.loop-place-init
+loop-place-init g c = record { closes = ([], [], first, sym (append-nil (g.W.IdSource.given c.args.words.now)), refl); sound = c.requires.sound; none = c.requires.none; knows = λ k. k }
+
+pub close_at-is_closed-requires-clause-inside : goal.close_at-is_closed-requires-clause-inside
+close_at-is_closed-requires-clause-inside g c =
+    let n = (closes_moved c.loop-place.invariant.closes.2).0 in
+    omega (arith, n, c.loop-place-test.true)
+
+pub loop-place-preserved : goal.loop-place-preserved
+loop-place-preserved g c =
+    let i = c.loop-place.invariant in
+    let t = i.closes in
+    let u = c.close_at-is_closed.ensures.closes in
+    let a = c.args.self.now in
+    let b = c.close_at-is_closed.new.self in
+    record {
+      closes = (
+        t.0 ++ u.0,
+        t.1 ++ u.1,
+        subst (λ k. Closes a.realm a.rows.items k (t.0 ++ u.0) (t.1 ++ u.1) b.realm b.rows.items) (sym (add-one c.loop-place.place)) (one_more t.2 u.2),
+        u.3 ∙ ap (λ l. l ++ u.0) t.3 ∙ append_assoc (g.W.IdSource.given c.args.words.now) t.0 u.0,
+        c.both-all_closed.ensures ∙ nil_append t.1 u.1 c.loop-place.all_closed c.close_at-is_closed.result t.4 u.4,
+      );
+      sound = c.close_at-is_closed.ensures.sound;
+      none = c.close_at-is_closed.ensures.none;
+      knows = λ k. c.close_at-is_closed.ensures.knows (i.knows k);
+    }

@@ -1,0 +1,6 @@
+use Rattle.std.proofs.Common.{sym, [], append-nil}
+use Rattle.realm_actor.specs.Cutting.{none}
+use Rattle.realm_actor.proofs.table.Table.cut_found.Goals as goal
+
+pub returns-else-is_full-clause-cuts : goal.returns-else-is_full-clause-cuts
+returns-else-is_full-clause-cuts g c = ([], none, sym (append-nil (g.W.IdSource.given c.args.words.now)))

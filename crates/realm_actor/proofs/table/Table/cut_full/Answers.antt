@@ -1,0 +1,34 @@
+use Rattle.std.proofs.Common.{sym, ap, ◌∙◌, subst, [], ◌∷◌, ◌++◌, append-nil, append_assoc}
+use Rattle.realm_actor.specs.Rows.{Ascending}
+use Rattle.realm_actor.specs.Cutting.{none, one_more, IsLeastFull}
+use Rattle.realm_actor.proofs.Fullness.{full_live}
+use Rattle.realm_actor.proofs.table.Table.cut_full.Goals as goal
+
+pub loop-init : goal.loop-init
+loop-init g c = ((tt, tt), ([], none, sym (append-nil (g.W.IdSource.given c.args.words.now))), c.requires, λ k. k)
+
+pub loop-preserved : goal.loop-preserved
+loop-preserved g c =
+    let i = c.loop.invariant in
+    let so_far = i.1 in
+    let word = c.next_word-word.result in
+    let conn = c.in-Some-least_full.conn in
+    let least = subst (λ l. IsLeastFull l conn) c.as_slice.ensures.value c.in-Some-least_full.ensures in
+    let entered = c.cut.ensures.history in (
+      (tt, tt),
+      (
+        so_far.0 ++ word ∷ [],
+        one_more conn word so_far.1 i.2 least entered.1 entered.2 c.cut.ensures.rows,
+        c.next_word-word.ensures ∙ ap (λ l. l ++ word ∷ []) so_far.2 ∙ append_assoc (g.W.IdSource.given c.args.words.now) so_far.0 (word ∷ []),
+      ),
+      c.cut.ensures.sound,
+      λ k. c.cut.ensures.knows (i.3 k),
+    )
+
+pub cut-requires-clause-live : goal.cut-requires-clause-live
+cut-requires-clause-live g c =
+    let conn = c.in-Some-least_full.conn in
+    full_live c.loop.self.realm c.loop.self.rows.items conn c.loop.invariant.2 (subst (λ l. IsLeastFull l conn) c.as_slice.ensures.value c.in-Some-least_full.ensures)
+
+pub shut_transport-requires : goal.shut_transport-requires
+shut_transport-requires g c = subst (λ l. Ascending l) (sym c.as_slice-in-loop.ensures.value) c.cut.ensures.sound.ascending

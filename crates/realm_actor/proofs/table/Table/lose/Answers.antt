@@ -1,0 +1,44 @@
+use Rattle.std.proofs.Common.{sym, ap, ◌∙◌, subst, ◌++◌, ◌∷◌, [], append_assoc}
+use Rattle.realm.specs.Sessions.{live}
+use Rattle.realm.specs.History.{◌▷◌}
+use Rattle.realm_actor.specs.Rows.{Ascending}
+use Rattle.realm_actor.specs.Tables.{EachWent, Sound}
+use Rattle.realm_actor.specs.Cutting.{Accepted, Cuts}
+use Rattle.realm_actor.proofs.Doing.{sound_same, same_marked}
+use Rattle.realm_actor.proofs.table.Table.lose.Goals as goal
+
+pub cut-requires-clause-sound : goal.cut-requires-clause-sound
+cut-requires-clause-sound g c =
+    let a = c.args.self.now in
+    let b = c.mark_lost.new.self in
+    let m = c.mark_lost.ensures in
+    subst (λ h. Sound h b.rows.items) (sym m.realm) (sound_same a.rows.items b.rows.items (same_marked c.args.conn a.rows.items b.rows.items m.rows) a.realm c.requires.sound)
+
+pub returns-clause-lost : goal.returns-clause-lost
+returns-clause-lost g c =
+    let a = c.args.self.now in
+    let marked = c.mark_lost.new.self in
+    let m = c.mark_lost.ensures in
+    let entered = c.cut.ensures.history in
+    let cuts = c.cut_full.ensures.cuts in
+    let word = c.next_word-word.result in
+    let news = c.cut_full.new.self in
+    let is = entered.2 ∙ ap (λ h. h ▷ entered.0) m.realm in (
+      word,
+      cuts.0,
+      entered.0,
+      marked.rows.items,
+      entered.1,
+      m.rows,
+      record {
+        mid = c.cut.new.self.rows.items;
+        went = c.cut.ensures.rows;
+        sound = subst (λ h. Sound h c.cut.new.self.rows.items) is c.cut.ensures.sound;
+        cuts = subst (λ h. Cuts h c.cut.new.self.rows.items cuts.0 news.realm news.rows.items) is cuts.1;
+        none_full = c.cut_full.ensures.none;
+      },
+      cuts.2 ∙ ap (λ l. l ++ cuts.0) c.next_word-word.ensures ∙ append_assoc (g.W.IdSource.given c.args.words.now) (word ∷ []) cuts.0,
+    )
+
+pub shut_transport-requires : goal.shut_transport-requires
+shut_transport-requires g c = subst (λ l. Ascending l) (sym c.as_slice.ensures.value) c.cut.ensures.sound.ascending

@@ -1,0 +1,11 @@
+pub mod Following
+pub mod Rows
+pub mod Tables
+pub mod Cutting
+pub mod Naming
+pub mod Handling
+pub mod Closing
+pub mod Standing
+pub mod Acting
+pub mod Settling
+pub mod Running

@@ -1,0 +1,147 @@
+//! The actor of a realm.
+ghost use Rattle.std.specs.Prelude.{◌≡◌, [], IfOk, IfErr, is_some};
+ghost use Rattle.realm.specs.Granting.{pairs_of};
+ghost use Rattle.realm.specs.History.{begun};
+ghost use Rattle.realm.specs.Sessions.{live};
+ghost use Rattle.realm_actor.specs.Naming.{outbox_of};
+ghost use Rattle.realm_actor.specs.Running.{Handles, IsNextOf};
+ghost use Rattle.realm_actor.specs.Settling.{IsOther, Settles, Sweeps};
+ghost use Rattle.realm_actor.specs.Standing.{Stands};
+
+use crate::outcome::Outcome;
+use crate::state::State;
+use outbox_queue::{Drain, Rest};
+use realm::{Fault, RealmConfig};
+use realm_inbox::{IdSource, Post, RealmHistory, Shut};
+use session::Item;
+use std::alloc::{AllocError, Global};
+use std::marker::Model;
+use std::sync::Wait;
+use wamp_ids::Conn;
+
+/// The actor of a realm: it alone changes the realm, and adds what each entry of its history gives to the sessions' outboxes.
+///
+/// Contracts see the realm's history, the rows of its sessions, the words that were drawn, whom the last post found full, or cut,
+/// and the acts that were handled, each with its connection.
+#[derive(Drop)]
+pub struct Actor<S: Shut, W: IdSource> {
+    state: State<S, W>,
+}
+
+impl<S: Shut, W: IdSource> Model for Actor<S, W> {
+    ghost use Rattle.realm_actor.specs.Acting.{Acting, acting};
+
+    ghost Value = { Acting S };
+
+    ghost use Rattle.std.specs.Coded.{codes};
+    ghost use Rattle.realm.specs.HistoryCode.{history_code};
+    ghost use Rattle.message_tree.specs.Code.{data_code, entries_code};
+
+    ghost coded = { Prim.hlevel (codes, history_code, data_code, entries_code) };
+
+    ghost use Rattle.realm_actor.specs.Standing.{IsRoomy, Knows, Stands};
+
+    ghost view = { λ a. acting (W.given a.state.words) a.state };
+
+    ghost invariant = { λ a. Stands a.state.table.realm a.state.table.rows.items × IsRoomy a.state × Knows a.state.table };
+}
+
+impl<S: Shut, W: IdSource> Actor<S, W> {
+    /// An actor of a realm with an empty history. Each entry that draws a word gets the next one of `words`.
+    ///
+    /// # Errors
+    /// `NoMemory` where memory for the realm was refused.
+    pub fn new(alloc: Global, config: RealmConfig, words: W) -> Result<Actor<S, W>, Fault>
+        ensures { IfOk result (λ a. a ≡ record { history = begun (pairs_of config.grants.items); rows = []; words = W.given words; last_cut = []; handled = [] }) }
+    {
+        Ok(Actor {
+            state: State::new(alloc, config, words)?,
+        })
+    }
+
+    /// Shows what holds of an actor between two posts: what was added to each held outbox begins what the history owes its
+    /// connection, and is all of that where no step found it full; the outbox is open exactly where its session is live; and
+    /// nobody who was found full is live.
+    pub fn shows(&self)
+        ensures { Stands self.now.history self.now.rows }
+    {
+        let _ = &self.state;
+    }
+
+    /// Whether the connection has a live session.
+    pub fn is_live(&self, conn: Conn) -> bool
+        ensures { result ≡ live self.now.history conn }
+    {
+        self.state.is_live(conn)
+    }
+
+    /// Whether the connection's outbox is held.
+    pub fn holds(&self, conn: Conn) -> bool
+        ensures { result ≡ is_some (outbox_of self.now.rows conn) }
+    {
+        self.state.holds(conn)
+    }
+
+    /// The connections that the last post found full, or cut for want of memory, ascending.
+    pub fn last_cut(&self) -> &[Conn]
+        ensures { result.now ≡ self.now.last_cut }
+    {
+        self.state.last_cut()
+    }
+
+    /// Handles a post, which is the next of its seat: adds what it gives to the outboxes, cuts whom that found full, and wakes the
+    /// writers of those that got something.
+    ///
+    /// An act of a connection enters the history (`Applied`), or it is `Dropped`: a Join that may not join, whose transport is
+    /// shut, or another act of a connection that isn't live. Where memory was refused it doesn't enter, and the session is cut
+    /// instead, if it is live (`NoMemory`). A stop closes each live session, ascending (WAMP, "Session Closing"); it is `NoMemory`
+    /// where one had to be cut instead.
+    pub fn handle<R: Wait>(&mut self, rt: &R, alloc: Global, post: Post<S>) -> Outcome
+        requires next { IsNextOf self.old.handled post }
+        ensures handles { Handles result post self.old self.new }
+    {
+        let outcome = self.take(rt, alloc, post);
+        self.wake();
+        outcome
+    }
+
+    // The same, but nobody is woken whose outbox isn't half full.
+    pub(crate) fn take<R: Wait>(&mut self, rt: &R, alloc: Global, post: Post<S>) -> Outcome
+        ensures handles { Handles result post self.old self.new }
+    {
+        let state = &mut self.state;
+        state.handle(rt, alloc, post)
+    }
+
+    // Wakes the writers of those that got something since they were last woken.
+    pub(crate) fn wake(&self) {
+        self.state.wake();
+    }
+
+    /// Forgets the sessions that aren't live: their outboxes are dropped, if they are held.
+    pub fn sweep(&mut self)
+        ensures { Sweeps self.old self.new }
+    {
+        let state = &mut self.state;
+        state.sweep();
+    }
+
+    /// Puts the outbox of the drain's connection and the drain together again, and holds it no longer. The outbox is held, and it
+    /// is the other end of the drain. What was taken, followed by what comes back, is what was added.
+    ///
+    /// # Errors
+    /// Where there is no memory for what is left, the drain comes back, and nothing changed.
+    pub fn settle<R: Wait>(
+        &mut self,
+        rt: &R,
+        alloc: Global,
+        drain: Drain<Item, RealmHistory>,
+    ) -> Result<Rest<Item>, (AllocError, Drain<Item, RealmHistory>)>
+        requires { IsOther drain (outbox_of self.old.rows drain.conn) }
+        ensures ok { IfOk result (λ rest. Settles drain.conn drain rest.items.items self.old self.new) }
+        ensures err { IfErr result (λ back. (self.new ≡ self.old) × (back.1 ≡ drain)) }
+    {
+        let state = &mut self.state;
+        state.settle(rt, alloc, drain)
+    }
+}

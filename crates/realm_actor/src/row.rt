@@ -1,0 +1,162 @@
+//! A session's row in the actor's table: its outbox and its transport, as long as they are held.
+ghost use Rattle.std.specs.Prelude.{◌≡◌, ◌<◌, false, true, ◌∷◌, List, Some};
+ghost use Rattle.std.specs.Option.{ForSome};
+ghost use Rattle.session.specs.declared.item.Item.{Item as AnItem};
+ghost use Rattle.realm_actor.specs.Following.{Follows, Goes};
+
+use outbox_queue::Outbox;
+use realm_inbox::{RealmHistory, Shut};
+use session::Item;
+use std::cell::Cell;
+use std::sync::Wait;
+use wamp_ids::Conn;
+
+/// The outbox of a session, its transport, and whether a step found the outbox full.
+#[derive(Drop)]
+pub struct Held<S: Shut> {
+    pub outbox: Outbox<Item, RealmHistory>,
+    pub transport: S,
+    pub is_full: bool,
+    /// How many items were added since its writer was last woken.
+    pub since_wake: Cell<usize>,
+    ghost full: { is_full ≡ true → 0 < outbox.full_finds },
+    ghost never: { is_full ≡ false → outbox.full_finds ≡ 0 },
+}
+
+impl<S: Shut> Held<S> {
+    /// Adds the item, which is the next that is due, unless the outbox was found full before or is now. True where it
+    /// is now.
+    pub fn offer<R: Wait>(&mut self, rt: &R, item: Item, history: &RealmHistory) -> bool
+        requires { (due : List AnItem) × Follows history.now (item ∷ due) self.old.outbox }
+        ensures follows { (due : List AnItem) → Follows history.now (item ∷ due) self.old.outbox → Follows history.now due self.new.outbox }
+        ensures goes { Goes self.old.outbox self.new.outbox }
+        ensures rose { result ≡ true → self.old.outbox.full_finds < self.new.outbox.full_finds }
+        ensures same { result ≡ false → self.new.outbox.full_finds ≡ self.old.outbox.full_finds }
+        ensures transport { self.new.transport ≡ self.old.transport }
+    {
+        if self.is_full {
+            return false;
+        }
+        let stamped = self.outbox.stamp(item, history);
+        if self.outbox.add(rt, stamped).is_err() {
+            self.is_full = true;
+            return true;
+        }
+        self.count();
+        false
+    }
+
+    // One item more waits for its writer to be woken.
+    fn count(&self) {
+        self.since_wake.set(self.since_wake.get().saturating_add(1));
+    }
+
+    /// Closes the outbox.
+    pub fn close(&mut self)
+        ensures outbox { self.new.outbox ≡ record self.old.outbox { is_closed = true } }
+        ensures transport { self.new.transport ≡ self.old.transport }
+    {
+        self.outbox.close();
+    }
+
+    // Wakes the writer, if as many items were added since it was last woken.
+    fn wake_from(&self, least: usize) {
+        if least <= self.since_wake.get() {
+            self.since_wake.set(0);
+            self.outbox.wake();
+        }
+    }
+}
+
+/// A row of the actor's table. A session that is live and no longer held has one too.
+#[derive(Drop)]
+pub struct Row<S: Shut> {
+    pub conn: Conn,
+    pub held: Option<Held<S>>,
+    /// Whether it was found full in the handling of the post.
+    pub is_cut: bool,
+    /// Whether it was cut for want of memory in the handling of the post.
+    pub is_lost: bool,
+
+    ghost of_conn: { ForSome held (λ e. e.outbox.conn ≡ conn) },
+}
+
+impl<S: Shut> Row<S> {
+    ghost use Rattle.realm_actor.specs.Rows.{Rose, RowDue, RowGoes, box_in};
+    ghost use Rattle.realm_actor.specs.Tables.{BoxEnds};
+
+    /// Offers the item, which is the next that is due, to the row's outbox, if it is held. True where that is found full.
+    pub fn offer<R: Wait>(&mut self, rt: &R, item: Item, history: &RealmHistory) -> bool
+        requires { (due : List AnItem) × RowDue history.now (item ∷ due) self.old }
+        ensures due { (due : List AnItem) → RowDue history.now (item ∷ due) self.old → RowDue history.now due self.new }
+        ensures goes { RowGoes self.old self.new }
+        ensures same { result ≡ false → Rose (box_in self.old) (box_in self.new) → ⊥ }
+    {
+        let Some(held) = &mut self.held else {
+            return false;
+        };
+        if held.offer(rt, item, history) {
+            self.is_cut = true;
+            return true;
+        }
+        false
+    }
+
+    /// The row of a connection that joins.
+    pub fn new(conn: Conn, outbox: Outbox<Item, RealmHistory>, transport: S) -> Row<S>
+        requires own { outbox.conn ≡ conn }
+        requires never { outbox.full_finds ≡ 0 }
+        ensures conn { result.conn ≡ conn }
+        ensures outbox { box_in result ≡ Some outbox }
+        ensures is_cut { result.is_cut ≡ false }
+        ensures is_lost { result.is_lost ≡ false }
+    {
+        let held = Held {
+            outbox,
+            transport,
+            is_full: false,
+            since_wake: Cell::new(0),
+        };
+        Row {
+            conn,
+            held: Some(held),
+            is_cut: false,
+            is_lost: false,
+        }
+    }
+
+    /// Shuts the row's transport, if it is held.
+    pub fn shut(&self) {
+        if let Some(held) = &self.held {
+            held.transport.shut();
+        }
+    }
+
+    /// Closes the row's outbox, if it is held.
+    pub fn close(&mut self)
+        ensures conn { self.new.conn ≡ self.old.conn }
+        ensures is_cut { self.new.is_cut ≡ self.old.is_cut }
+        ensures is_lost { self.new.is_lost ≡ self.old.is_lost }
+        ensures outbox { BoxEnds true (box_in self.old) (box_in self.new) }
+    {
+        let Some(held) = &mut self.held else {
+            return;
+        };
+        held.close();
+    }
+
+    /// Wakes the row's writer, if items were added since it was last woken.
+    pub fn wake(&self) {
+        if let Some(held) = &self.held {
+            held.wake_from(1);
+        }
+    }
+
+    /// The same, if these items are half of its outbox's capacity: then its waking may not wait.
+    pub fn wake_in_need(&self) {
+        if let Some(held) = &self.held {
+            let capacity = held.outbox.capacity();
+            held.wake_from(capacity - capacity / 2);
+        }
+    }
+}

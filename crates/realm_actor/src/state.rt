@@ -1,0 +1,107 @@
+//! What an actor keeps.
+ghost use Rattle.std.specs.Prelude.{◌≡◌, [], ◌∷◌, ◌++◌, true, false, List, ℕ, IfOk};
+ghost use Rattle.realm.specs.Granting.{pairs_of};
+ghost use Rattle.realm.specs.History.{begun};
+ghost use Rattle.realm.specs.Sessions.{conn_of, live, may_come};
+ghost use Rattle.realm.specs.declared.entry.Entry.{Entry as AnEntry};
+ghost use Rattle.realm_inbox.specs.Past.{items_of};
+ghost use Rattle.realm_actor.specs.declared.row.Row.{Row as ARow};
+ghost use Rattle.realm_actor.specs.Tables.{EachMarked, Sound};
+ghost use Rattle.realm_actor.specs.Cutting.{Accepted, IsCutOf, NoneFull};
+ghost use Rattle.realm_actor.specs.Handling.{MatchOutcome};
+ghost use Rattle.realm_actor.specs.Standing.{Knows};
+
+use crate::outcome::Outcome;
+use crate::pushing::wake_all;
+use crate::table::Table;
+use realm::{Entry, Fault, Realm, RealmConfig};
+use realm_inbox::{IdSource, Letter, Past, Shut};
+use std::alloc::Global;
+use std::sync::Wait;
+use wamp_ids::Conn;
+
+/// A realm with its rows, its source of words, the connections that the last post found full, or cut, and the letters that were
+/// handled.
+#[derive(Drop)]
+pub struct State<S: Shut, W: IdSource> {
+    pub table: Table<S>,
+    pub words: W,
+    pub last_cut: Vec<Conn>,
+    pub handled: Past<Letter<S>>,
+}
+
+impl<S: Shut, W: IdSource> State<S, W> {
+    /// An actor of a realm with an empty history.
+    pub fn new(alloc: Global, config: RealmConfig, words: W) -> Result<State<S, W>, Fault>
+        ensures history { IfOk result (λ a. a.table.realm ≡ begun (pairs_of config.grants.items)) }
+        ensures rows { IfOk result (λ a. a.table.rows.items ≡ []) }
+        ensures words { IfOk result (λ a. a.words ≡ words) }
+        ensures last_cut { IfOk result (λ a. a.last_cut.items ≡ []) }
+        ensures handled { IfOk result (λ a. items_of a.handled ≡ []) }
+        ensures knows { IfOk result (λ a. Knows a.table) }
+    {
+        let realm = Realm::new(alloc, config)?;
+        Ok(State {
+            table: Table {
+                realm,
+                rows: Vec::new(alloc),
+                has_marks: false,
+                has_ended: false,
+            },
+            words,
+            last_cut: Vec::new(alloc),
+            handled: Past::new(),
+        })
+    }
+
+    /// Whether the connection has a live session.
+    pub fn is_live(&self, conn: Conn) -> bool
+        ensures { result ≡ live self.now.table.realm conn }
+    {
+        self.table.realm.is_live(conn)
+    }
+
+    /// The connections that the last post found full, or cut, ascending.
+    pub fn last_cut(&self) -> &[Conn]
+        ensures { result.now ≡ self.now.last_cut.items }
+    {
+        self.last_cut.as_slice()
+    }
+
+    /// Wakes each writer for whom items were added since it was last woken.
+    pub fn wake(&self) {
+        wake_all(self.table.rows.as_slice());
+    }
+
+    // An entry of a live session enters, or for want of memory the session is cut; then who was found full is cut.
+    pub(crate) fn take_in<R: Wait>(
+        &mut self,
+        rt: &R,
+        alloc: Global,
+        entry: Entry,
+        conn: Conn,
+    ) -> Outcome
+        requires sound { Sound self.old.table.realm self.old.table.rows.items }
+        requires none { NoneFull self.old.table.rows.items }
+        requires own { conn_of entry ≡ conn }
+        requires comes { may_come self.old.table.realm entry ≡ true }
+        requires live { live self.old.table.realm conn ≡ true }
+        ensures outcome { MatchOutcome result
+            ((drawn : List ℕ) × Accepted self.old.table.realm self.old.table.rows.items entry drawn self.new.table.realm self.new.table.rows.items × (W.given self.new.words ≡ W.given self.old.words ++ drawn))
+            ⊥
+            ((word : ℕ) × (drawn : List ℕ) × (e : AnEntry) × (marked : List (ARow _)) × IsCutOf conn word e × EachMarked conn self.old.table.rows.items marked × Accepted self.old.table.realm marked e drawn self.new.table.realm self.new.table.rows.items × (W.given self.new.words ≡ W.given self.old.words ++ word ∷ drawn)) }
+        ensures last_cut { self.new.last_cut ≡ self.old.last_cut }
+        ensures handled { self.new.handled ≡ self.old.handled }
+        ensures sound { Sound self.new.table.realm self.new.table.rows.items }
+        ensures knows { Knows self.old.table → Knows self.new.table }
+    {
+        let State { table, words, .. } = self;
+        match table.accept(rt, alloc, words, entry, conn) {
+            Ok(()) => Outcome::Applied,
+            Err(_) => {
+                table.lose(rt, alloc, words, conn);
+                Outcome::NoMemory
+            }
+        }
+    }
+}
