@@ -13,3 +13,7 @@ pub mod Leaving
 pub mod Knowing
 pub mod Stopping
 pub mod Turning
+pub mod Making
+pub mod Holding
+pub mod Keeping
+pub mod Ordering

@@ -32,7 +32,7 @@ ended : (b : Bool) (o : Option Who) → b ≡ true → is_some (cond b None o) �
 ended true o e = refl
 ended false o e = absurd (cc)
 
-still_dead : (h : History) (c d : ℕ) (e : Entry) → IsCutOf d c e → (x : ℕ) → live h x ≡ false → live (h ▷ e) x ≡ false
+pub still_dead : (h : History) (c d : ℕ) (e : Entry) → IsCutOf d c e → (x : ℕ) → live h x ≡ false → live (h ▷ e) x ≡ false
 unfolding who
 still_dead h c d e is x dead = ⊎_elim
     (λ (one : e ≡ Cut d (Some c)). subst (λ f. live (h ▷ f) x ≡ false) (sym one) (gone (eqb d x) (who h x) dead))

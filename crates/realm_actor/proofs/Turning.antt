@@ -12,7 +12,7 @@ use Rattle.realm_inbox.proofs.Rules.{at_seat_snoc}
 use Rattle.realm_actor.specs.declared.outcome.Outcome.{Outcome}
 use Rattle.realm_actor.specs.Acting.{Acting}
 use Rattle.realm_actor.specs.Settling.{Sweeps}
-use Rattle.realm_actor.specs.Running.{Handles, Runs, none, one_more, Ran, left, stopped, is_stop, said_of, stands_at, SameAtSeats}
+use Rattle.realm_actor.specs.Running.{Handles, Runs, none, one_more, Ran, left, stopped, is_stop, said_of, stands_at, IsNextOf, SameAtSeats}
 
 module _ {S : Type 0} where
   in_order_snoc : (front ps : List (Post S)) (p : Post S) → InOrder front ps → IsNext (front ++ ps) p → InOrder front (ps ++ p ∷ [])
@@ -23,6 +23,11 @@ module _ {S : Type 0} where
   stands_said : (k : ℕ) (p : Post S) → stands_at k (said_of p) ≡ adds_at k p
   stands_said k (Act l) = refl
   stands_said k Stop = refl
+
+  -- what is received next is next for who handled the same at each seat
+  pub next_of_same : (acts : List (ℕ × the.Act S)) (got : List (Post S)) (p : Post S) → SameAtSeats acts got → IsNext got p → IsNextOf acts p
+  next_of_same acts got (Act l) same next = next ∙ sym (same (seat_of_letter l))
+  next_of_same acts got Stop same next = tt
 
   pub same_grown : (acts acts' : List (ℕ × the.Act S)) (got got' : List (Post S)) (p : Post S) → SameAtSeats acts got → acts' ≡ acts ++ said_of p → got' ≡ got ++ p ∷ [] → SameAtSeats acts' got'
   same_grown acts acts' got got' p same a g k =

@@ -8,4 +8,6 @@ pub mod Closing
 pub mod Standing
 pub mod Acting
 pub mod Settling
+pub mod Making
 pub mod Running
+pub mod Order

@@ -1,6 +1,7 @@
 -- What an actor does with a post, and in a run.
-use Rattle.std.specs.Prelude.{◌≡◌, ◌==◌, ℕ, Bool, true, false, List, [], ◌∷◌, ◌++◌, filter}
+use Rattle.std.specs.Prelude.{◌≡◌, ◌==◌, ◌⊎◌, ℕ, Bool, true, false, List, [], ◌∷◌, ◌++◌, filter, None, is_some}
 use Rattle.realm.specs.History.{History}
+use Rattle.realm.specs.Sessions.{live}
 use Rattle.realm_inbox.specs.declared.letter.Letter.{Letter}
 use Rattle.realm_inbox.specs.declared.letter.Post.{Post}
 use Rattle.realm_inbox.specs.declared.letter.Post.TheVariants as post
@@ -13,6 +14,8 @@ use Rattle.realm_actor.specs.Acting.{Acting}
 use Rattle.realm_actor.specs.Handling.{is_dropped, Does}
 use Rattle.realm_actor.specs.Closing.{Stops}
 use Rattle.realm_actor.specs.Settling.{Sweeps}
+use Rattle.realm_actor.specs.Naming.{outbox_of}
+use Rattle.realm_actor.specs.Making.{was_closed}
 
 module _ {S : Type 0} where
   -- a post is dropped where its act is; a stop never is
@@ -61,3 +64,8 @@ module _ {S : Type 0} where
   -- the acts are, seat by seat, what these posts are there
   abbrev pub SameAtSeats : List (ℕ × Act S) → List (Post S) → Type 0
   SameAtSeats acts ps = (k : ℕ) → stands_at k acts ≡ at_seat k ps
+
+  -- who is live at the end, or was closed in between, is held, unless it was live and not held at the start
+  abbrev pub KeepsHeld : Acting S → Acting S → Type 0
+  KeepsHeld a z = (c : ℕ) → (live z.history c ≡ true) ⊎ ((was_closed c a.history ≡ false) × (was_closed c z.history ≡ true))
+      → ((live a.history c ≡ true) × (outbox_of a.rows c ≡ None)) ⊎ (is_some (outbox_of z.rows c) ≡ true)

@@ -1,10 +1,22 @@
-//! The actor of a realm: it alone owns the realm, and adds what each entry gives to the outboxes of the sessions.
+//! The actor of a realm: one thread owns the realm, takes posts from the inbox, applies them, and adds what each gives to the
+//! outboxes of the sessions.
+//!
+//! An [`Actor`] keeps a row for each session that is live or whose outbox it holds. [`Actor::handle`] applies one post,
+//! [`Actor::run`] all that an [`Inbox`] gives. A session whose outbox is found full gets none of its later items, and is cut
+//! with the entry's last item: the least first, also those that are found full by what the Cuts give. [`Actor::last_cut`] names
+//! them. [`Actor::settle`] puts an outbox and its drain together again; what was taken, followed by the rest, is what was added.
+//!
+//! Between two posts, what was added to each held outbox begins what the realm's history owes its connection, and is all of it
+//! unless a step found the outbox full ([`Actor::shows`]).
+//!
+//! Nothing is promised of time, nor that a writer is woken or a transport is shut.
 #![tactic(auto)]
 
 mod actor;
 mod closing;
 mod cutting;
 mod handling;
+pub mod laws;
 mod naming;
 mod outcome;
 mod places;
@@ -20,5 +32,5 @@ pub use actor::Actor;
 pub use outcome::Outcome;
 pub use realm_inbox::{
     Act, Door, IdSource, InTurn, Inbox, Joining, Letter, Past, Post, Poster, Posting, RealmHistory,
-    Seat, Shut, View, laws, opening,
+    Seat, Shut, View, opening,
 };

@@ -1,9 +1,10 @@
 //! How an actor runs.
 ghost use Rattle.std.specs.Prelude.{◌≡◌, ◌++◌, [], ◌∷◌, true, false, List, MatchOption, IfSome};
+ghost use Rattle.realm.specs.History.{Begins};
 ghost use Rattle.realm_inbox.specs.declared.letter.Post.{Post as APost};
 ghost use Rattle.realm_inbox.specs.Seats.{IsNext, InOrder};
 ghost use Rattle.realm_inbox.specs.Shown.{received};
-ghost use Rattle.realm_actor.specs.Running.{Ran, SameAtSeats, is_stop};
+ghost use Rattle.realm_actor.specs.Running.{KeepsHeld, Ran, SameAtSeats, is_stop};
 
 use crate::actor::Actor;
 use realm_inbox::{IdSource, Inbox, Post, Shut};
@@ -31,6 +32,8 @@ impl<S: Shut, W: IdSource> Actor<S, W> {
     pub fn run<R: Wait>(mut self, rt: &R, alloc: Global, inbox: &mut Inbox<S>) -> Actor<S, W>
         requires in_turn { SameAtSeats self.handled (received inbox.old) }
         ensures ran { (came : List (APost S)) × (received inbox.new ≡ received inbox.old ++ came) × InOrder (received inbox.old) came × Ran self came result }
+        ensures begins { Begins self.history result.history }
+        ensures held { KeepsHeld self result }
     {
         let mut unwoken = 0;
         for _ in rt.forever() {

@@ -1,13 +1,15 @@
 use Rattle.std.proofs.Common.{sym, ◌∙◌}
 use Rattle.realm_inbox.specs.Shown.{received}
 use Rattle.realm_actor.proofs.Turning.{progress_none, progress_on, ends_left, ends_stopped}
+use Rattle.realm_actor.proofs.Making.{ran_begins}
+use Rattle.realm_actor.proofs.Holding.{ran_holds}
 use Rattle.realm_actor.proofs.actor.Actor.run.Goals as goal
 
 pub loop-init : goal.loop-init
 loop-init g c = progress_none c.args.self (received c.args.inbox.now) c.requires.in_turn
 
 pub returns-in_default : goal.returns-in_default
-returns-in_default g c = record { ran = ends_left c.args.self c.loop.self c.sweep.new.self (received c.args.inbox.now) (received c.loop.inbox) (received c.next_post.new.inbox) c.loop.invariant c.sweep.ensures c.in_default.ensures.given }
+returns-in_default g c = let e = ends_left c.args.self c.loop.self c.sweep.new.self (received c.args.inbox.now) (received c.loop.inbox) (received c.next_post.new.inbox) c.loop.invariant c.sweep.ensures c.in_default.ensures.given in record { ran = e; begins = ran_begins e.3; held = ran_holds e.3 }
 
 pub loop-preserved : goal.loop-preserved
 loop-preserved g c =
@@ -18,7 +20,6 @@ loop-preserved g c =
 pub returns-then-ends : goal.returns-then-ends
 returns-then-ends g c =
     let given = c.in-Some-next_post.ensures.given in
-    record {
-      ran = ends_stopped c.args.self c.loop.self c.sweep.new.self c.take.new.self (received c.args.inbox.now) (received c.loop.inbox) (received c.next_post.new.inbox) c.take.result c.in-Some-next_post.post
-          (sym c.is_stop-ends.ensures ∙ c.if-ends.true) c.loop.invariant c.sweep.ensures given c.take.ensures.handles;
-    }
+    let e = ends_stopped c.args.self c.loop.self c.sweep.new.self c.take.new.self (received c.args.inbox.now) (received c.loop.inbox) (received c.next_post.new.inbox) c.take.result c.in-Some-next_post.post
+    (sym c.is_stop-ends.ensures ∙ c.if-ends.true) c.loop.invariant c.sweep.ensures given c.take.ensures.handles in
+    record { ran = e; begins = ran_begins e.3; held = ran_holds e.3 }
