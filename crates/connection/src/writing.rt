@@ -163,7 +163,8 @@ fn write_next<R: Wait, H: Owed<Item>, S: Sink>(
 
 /// Takes items and writes their frames, one after another, until the outbox is closed and nothing is left in it, or something fails.
 /// The device is told to pass on what it holds only where no item waits; so over a buffered device many items cost one write, and
-/// nothing is held back while the next item is waited for.
+/// nothing is held back while the next item is waited for. Unless the device fails, or its turns are used up, all that was written is
+/// passed on before it ends. Nothing is tried again after a failure.
 ///
 /// The limit is the most octets that the client takes in one payload.
 pub fn write_items<R: Wait, H: Owed<Item>, S: Sink>(

@@ -1,0 +1,116 @@
+//! What is posted, and in words.
+ghost use Rattle.std.specs.Prelude.{◌≡◌, ◌++◌, ◌∷◌, [], MatchResult, false};
+ghost use Rattle.realm_inbox.specs.Joins.{is_join};
+
+use case_text::spell;
+use realm_inbox::{Act, Posting, Shut};
+use session::Said;
+use std::alloc::{AllocError, Global};
+use std::io;
+use std::sync::Wait;
+
+/// The most acts that a log has room for.
+const ROOM: usize = 64;
+
+/// A transport that is nowhere.
+#[derive(Clone, Copy, Drop)]
+pub struct Nowhere;
+
+impl Shut for Nowhere {
+    fn shut(&self) {}
+
+    fn twin(&self) -> Option<Nowhere> {
+        Some(*self)
+    }
+}
+
+/// The acts that were posted, while there was room. Later ones come back.
+#[derive(Drop)]
+pub struct Log {
+    acts: Vec<Act<Nowhere>>,
+    room: usize,
+}
+
+impl Log {
+    /// Room for so many acts, and for no more than 64.
+    pub fn new(alloc: Global, room: usize) -> Result<Log, AllocError> {
+        Ok(Log {
+            acts: Vec::with_capacity(alloc, ROOM)?,
+            room: room.min(ROOM),
+        })
+    }
+
+    /// The acts, each in words behind a space.
+    pub fn told(&self, alloc: Global) -> io::Result<String> {
+        let mut words = String::new(alloc);
+        for act in &self.acts {
+            words.push_str("posted ")?;
+            tell_act(&mut words, act)?;
+            words.push('\n')?;
+        }
+        Ok(words)
+    }
+
+    /// How many they are.
+    pub fn count(&self) -> usize {
+        self.acts.len()
+    }
+}
+
+impl Posting<Nowhere> for Log {
+    ghost posted = { λ l. l.acts.items };
+
+    fn post<R: Wait>(&mut self, _rt: &R, act: Act<Nowhere>) -> Result<(), Act<Nowhere>>
+        requires { is_join act ≡ false }
+        ensures { MatchResult result (λ _. self.new.acts.items ≡ self.old.acts.items ++ act ∷ []) (λ back. (back ≡ act) × (self.new.acts.items ≡ self.old.acts.items)) }
+    {
+        if self.acts.len() >= self.room {
+            return Err(act);
+        }
+        match self.acts.push(act) {
+            Ok(()) => Ok(()),
+            Err(refused) => Err(refused.value),
+        }
+    }
+}
+
+fn tell_act(out: &mut String, act: &Act<Nowhere>) -> io::Result<()> {
+    match act {
+        Act::Join(_) => Ok(out.push_str("join")?),
+        Act::Said(said) => tell_said(out, said),
+        Act::Ping(octets) => {
+            out.push_str("ping ")?;
+            spell(out, octets.as_slice())
+        }
+        Act::Spoilt => Ok(out.push_str("spoilt")?),
+        Act::Gone => Ok(out.push_str("gone")?),
+    }
+}
+
+fn tell_said(out: &mut String, said: &Said) -> io::Result<()> {
+    match said {
+        Said::Hello { .. } => Ok(out.push_str("hello")?),
+        Said::Abort => Ok(out.push_str("abort")?),
+        Said::Goodbye => Ok(out.push_str("goodbye")?),
+        Said::Publish { request, topic, .. } => tell_request(
+            out,
+            "publish",
+            request.value(),
+            topic.as_str(),
+        ),
+        Said::Subscribe { request, topic, .. } => tell_request(
+            out,
+            "subscribe",
+            request.value(),
+            topic.as_str(),
+        ),
+        Said::Unsubscribe { request, .. } => {
+            let number = request.value();
+            Ok(write!(out, "unsubscribe {number}")?)
+        }
+    }
+}
+
+fn tell_request(out: &mut String, name: &str, request: u64, topic: &str) -> io::Result<()> {
+    Ok(write!(out, "{name} {request} {topic}")?)
+}

@@ -1,0 +1,130 @@
+//! The words of the table.
+use crate::client::{Client, Devices, Manner};
+use crate::reader::Stream;
+use crate::writer::Debt;
+use case_text::{line_of, number_of, octets_of};
+use connection::Seats;
+use std::alloc::Global;
+use std::io;
+use std::sync::Wait;
+use wamp_ids::Conn;
+
+/// What the lines of a case have said so far.
+#[derive(Drop)]
+pub struct Case {
+    client: Client,
+    devices: Devices,
+    debt: Debt,
+    stream: Stream,
+    seats: Seats,
+}
+
+impl Case {
+    pub fn new(alloc: Global) -> Case {
+        Case {
+            client: Client::least(),
+            devices: Devices::good(),
+            debt: Debt::new(alloc),
+            stream: Stream::new(alloc),
+            seats: Seats::new(),
+        }
+    }
+
+    /// Takes a line, and gives what it is answered by.
+    pub fn take<R: Wait + Copy>(
+        &mut self,
+        rt: &R,
+        alloc: Global,
+        line: &str,
+    ) -> io::Result<String> {
+        match line.split_once(' ') {
+            Some(("#", _)) => {
+                *self = Case::new(alloc);
+                line_of(alloc, line)
+            }
+            Some((word, text)) => self.set(alloc, line, word, text),
+            None => self.run(rt, alloc, line),
+        }
+    }
+
+    // Keeps what a line says.
+    fn set(&mut self, alloc: Global, line: &str, word: &str, text: &str) -> io::Result<String> {
+        match word {
+            "client" => self.client = Client::of(text).unwrap_or(self.client),
+            "early" => self.stream.early = octets_of(alloc, text)?,
+            "octets" => {
+                let octets = octets_of(alloc, text)?;
+                self.stream.octets.extend_from_slice(octets.as_slice())?
+            }
+            "room" => self.stream.room = number_of(text) as usize,
+            "fails" => self.devices.failing = number_of(text),
+            "back" => self.give_back(text),
+            "event" | "letters" | "published" | "pong" => self.owe(alloc, line)?,
+            _ => return line_of(alloc, "no case has this word"),
+        }
+        Ok(String::new(alloc))
+    }
+
+    fn owe(&mut self, alloc: Global, line: &str) -> io::Result<()> {
+        self.debt.lines.push(String::from_str(alloc, line)?)?;
+        Ok(())
+    }
+
+    fn give_back(&mut self, text: &str) {
+        if let Some(conn) = Conn::new(number_of(text)) {
+            self.seats.give_back(conn);
+        }
+    }
+
+    // Does what a word alone asks for.
+    fn run<R: Wait + Copy>(&mut self, rt: &R, alloc: Global, word: &str) -> io::Result<String> {
+        match word {
+            "slowly" => self.devices.manner = Manner::Slow,
+            "held" => self.devices.manner = Manner::Held,
+            "fed" => self.devices.manner = Manner::Fed,
+            "seats" => self.seats = Seats::new(),
+            "goodbye" => self.owe(alloc, word)?,
+            "take" => return self.seat(alloc),
+            "fill" => return self.fill(alloc),
+            "write" => return self.debt.write(rt, alloc, self.client, self.devices),
+            "writes" => {
+                return self
+                    .debt
+                    .write_failing(rt, alloc, self.client, self.devices);
+            }
+            "read" => return self.stream.read(rt, alloc, self.client, self.devices),
+            "reads" => {
+                return self
+                    .stream
+                    .read_failing(rt, alloc, self.client, self.devices);
+            }
+            _ => return line_of(alloc, "no case has this word"),
+        }
+        Ok(String::new(alloc))
+    }
+
+    // Takes a seat, and gives its number.
+    fn seat(&mut self, alloc: Global) -> io::Result<String> {
+        match self.seats.take() {
+            Ok(conn) => {
+                let number = conn.value();
+                Ok(format!(in alloc; "{number}\n")?)
+            }
+            Err(fault) => Ok(format!(in alloc; "{fault}\n")?),
+        }
+    }
+
+    // Takes all seats that are free, and gives their count and the last number.
+    fn fill(&mut self, alloc: Global) -> io::Result<String> {
+        let mut count: u64 = 0;
+        let mut last: u64 = 0;
+        for _ in 0..1000 {
+            let Ok(conn) = self.seats.take() else {
+                break;
+            };
+            count = count.wrapping_add(1);
+            last = conn.value();
+        }
+        Ok(format!(in alloc; "{count} taken, the last {last}\n")?)
+    }
+}

@@ -1,0 +1,55 @@
+//! Cases of `connection`, as lines of standard input; what each gives is printed.
+//!
+//! - `# TEXT` begins a case, and is printed as it stands. Its client speaks JSON and takes 512 octets in one payload.
+//! - `client SERIALIZER LIMIT`: another client, of `json` or `msgpack`.
+//! - `seats`: a new table; `take` takes a seat, `back CONN` gives one back, and `fill` takes all that are free.
+//! - What a connection is owed: `event SUBSCRIPTION PUBLICATION ARGUMENTS`, the arguments in JSON; `letters SUBSCRIPTION PUBLICATION N
+//!   LETTER`, an EVENT with one text of so many letters; `published REQUEST PUBLICATION`, `pong TEXT`, `goodbye`.
+//! - `write` writes all that, and tells what the device got and how it ended.
+//! - `early TEXT`: octets that the opening of the session read behind HELLO; `octets TEXT`: those that come after. `\7f` is an octet.
+//! - `room N`: how many acts are received before they come back.
+//! - `read` reads the octets, and tells what was posted and how it ended.
+//! - `slowly`: devices give and take one octet at a time. `held`: the device written to holds octets back until it is told to pass them
+//!   on, and only those passed on are told. `fed`: the same, and each item is owed only once all before it was passed on.
+//! - `fails N`: the call of this number fails, from 0.
+//! - `reads`, `writes`: the same for each call that fails, the first one first, until none does.
+#![tactic(auto)]
+
+mod acts;
+mod case;
+mod client;
+mod fed;
+mod items;
+mod owed;
+mod reader;
+mod writer;
+
+use case::Case;
+use case_text::is_refused;
+use std::alloc::Global;
+use std::io;
+use std::sync::Wait;
+
+fn main(rt: HostRuntime) -> io::Result<()> {
+    let alloc = rt.alloc();
+    let mut case = Case::new(alloc);
+    for line in rt.lines(alloc) {
+        let told = answer(&rt, alloc, &mut case, line?.as_str())?;
+        print!(rt; "{told}")?;
+    }
+    Ok(())
+}
+
+/// What a line is answered by; one that memory was refused for is taken once more.
+fn answer<R: Wait + Copy>(
+    rt: &R,
+    alloc: Global,
+    case: &mut Case,
+    line: &str,
+) -> io::Result<String> {
+    let told = case.take(rt, alloc, line)?;
+    if is_refused(told.as_str()) {
+        return case.take(rt, alloc, line);
+    }
+    Ok(told)
+}

@@ -1,0 +1,128 @@
+//! The reader's end of a case.
+use crate::acts::{Log, Nowhere};
+use crate::client::{Client, Devices, Manner};
+use connection::{ReadEnd, read_posts};
+use rawsocket::testing::{FailsAt, OneByOne};
+use rawsocket::{Deframer, MemorySource, Source};
+use session::Opened;
+use std::alloc::{AllocError, Global};
+use std::io;
+use std::sync::Wait;
+
+/// What a client has sent.
+#[derive(Drop)]
+pub struct Stream {
+    pub early: Vec<u8>,
+    pub octets: Vec<u8>,
+    pub room: usize,
+}
+
+fn opened(alloc: Global, client: Client, early: &[u8]) -> Result<Opened, AllocError> {
+    let mut deframer = Deframer::new(alloc);
+    let Ok(fed) = deframer.feed(alloc, early) else {
+        return Err(AllocError);
+    };
+    Ok(Opened {
+        serializer: client.serializer,
+        limit: client.limit,
+        realm: 0,
+        authid: None,
+        deframer,
+        early: fed.frames,
+    })
+}
+
+fn in_words(alloc: Global, end: ReadEnd) -> io::Result<String> {
+    let words = match end {
+        ReadEnd::Left => "left",
+        ReadEnd::Violation(fault) => return Ok(format!(in alloc; "violation {fault}\n")?),
+        ReadEnd::Ended => "ended",
+        ReadEnd::Device => "device failed",
+        ReadEnd::TooManyTurns => "too many turns",
+        ReadEnd::NoMemory => "E1 no memory",
+        ReadEnd::ActorGone => "nobody receives",
+    };
+    Ok(format!(in alloc; "{words}\n")?)
+}
+
+impl Stream {
+    /// Nothing, and room for all acts.
+    pub fn new(alloc: Global) -> Stream {
+        Stream {
+            early: Vec::new(alloc),
+            octets: Vec::new(alloc),
+            room: usize::MAX,
+        }
+    }
+
+    // Posts what the octets say.
+    fn run<R: Wait>(
+        &self,
+        rt: &R,
+        alloc: Global,
+        client: Client,
+        devices: Devices,
+        log: &mut Log,
+    ) -> io::Result<ReadEnd> {
+        let source = MemorySource::new(self.octets.as_slice().to_vec(alloc)?);
+        let opened = opened(alloc, client, self.early.as_slice())?;
+        if devices.manner == Manner::Slow {
+            let mut source = FailsAt::new(OneByOne::new(source), devices.failing);
+            Ok(post_all(rt, alloc, &mut source, opened, log))
+        } else {
+            let mut source = FailsAt::new(source, devices.failing);
+            Ok(post_all(rt, alloc, &mut source, opened, log))
+        }
+    }
+
+    /// Posts what the octets say, and tells it.
+    pub fn read<R: Wait>(
+        &self,
+        rt: &R,
+        alloc: Global,
+        client: Client,
+        devices: Devices,
+    ) -> io::Result<String> {
+        let mut log = Log::new(alloc, self.room)?;
+        let end = self.run(rt, alloc, client, devices, &mut log)?;
+        let posted = log.told(alloc)?;
+        let end = in_words(alloc, end)?;
+        Ok(format!(in alloc; "{posted}{end}")?)
+    }
+
+    /// The same for each call that fails: how many acts are posted, and how it ends.
+    pub fn read_failing<R: Wait>(
+        &self,
+        rt: &R,
+        alloc: Global,
+        client: Client,
+        devices: Devices,
+    ) -> io::Result<String> {
+        let mut told = String::new(alloc);
+        for call in 0..u64::MAX {
+            let mut log = Log::new(alloc, self.room)?;
+            let failing = Devices {
+                failing: call,
+                ..devices
+            };
+            let end = self.run(rt, alloc, client, failing, &mut log)?;
+            let count = log.count();
+            write!(told, "{call}: {count} posted, ")?;
+            told.push_str(in_words(alloc, end)?.as_str())?;
+            if end != ReadEnd::Device {
+                break;
+            }
+        }
+        Ok(told)
+    }
+}
+
+fn post_all<R: Wait, I: Source>(
+    rt: &R,
+    alloc: Global,
+    source: &mut I,
+    opened: Opened,
+    log: &mut Log,
+) -> ReadEnd {
+    read_posts::<R, Nowhere, I, Log>(rt, alloc, source, opened, log)
+}
