@@ -1,3 +1,4 @@
+use crate::appending::{appended, header, letters, number};
 use crate::beyond::{beyond, faults};
 use crate::devices::{reads, writes};
 use crate::dictionaries::{copies, dictionary, get};
@@ -61,6 +62,9 @@ fn told(alloc: Global, word: &str, rest: &str) -> io::Result<String> {
         "json" => json(alloc, &octets_of(alloc, rest)?),
         "msgpack" => msgpack(alloc, &octets_of(alloc, rest)?),
         "nested" => nested(alloc, rest),
+        "number" => number(alloc, rest),
+        "letters" => letters(alloc, rest),
+        "appended" => appended(alloc, &octets_of(alloc, rest)?),
         "great" => great(alloc, rest),
         "dict" => dictionary(alloc, rest),
         "get" => get(alloc, rest),
@@ -70,6 +74,7 @@ fn told(alloc: Global, word: &str, rest: &str) -> io::Result<String> {
         "octets" => octets(alloc, rest),
         "shared" => shared(alloc, rest),
         "handshake" => handshake(alloc, &octets_of(alloc, rest)?),
+        "header" => header(alloc, rest),
         "cut" => cut_everywhere(alloc, &octets_of(alloc, rest)?),
         "reads" => reads(alloc, rest),
         "writes" => writes(alloc, rest),

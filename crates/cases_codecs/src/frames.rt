@@ -86,7 +86,8 @@ impl Stream {
     }
 }
 
-fn kind_of(name: &str) -> Kind {
+/// The kind of this name.
+pub fn kind_of(name: &str) -> Kind {
     match name {
         "ping" => Kind::Ping,
         "pong" => Kind::Pong,

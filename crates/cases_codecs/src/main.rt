@@ -7,6 +7,7 @@
 //!     and then the message in JSON and in MessagePack; where it is no message, the fault;
 //!   - `nested N WORD OPEN LAST CLOSE`: does so for N times OPEN, then LAST, then N times CLOSE;
 //!     `-` is nothing;
+//!   - `number N`, `letters TEXT`, `appended JSON`: values written behind others;
 //!   - `beyond`: whether trees that nothing serializes are carried, and what is written of them;
 //!   - `great KIND N`: a tree of so many letters, octets, items or keys, as MessagePack begins it.
 //! - Trees:
@@ -15,11 +16,12 @@
 //!   - `copies JSON`: depth, whether it is carried, and whether each type copies it;
 //!   - `deep N`: so many lists in one another, as a message;
 //!   - `text TEXT`, `octets OCTETS`, `shared TEXT`: what holds them, and a copy or twin.
-//! - Frames, described in `frames.rt`, and devices, in `devices.rt`.
+//! - Frames, described in `frames.rt`, headers, in `appending.rt`, and devices, in `devices.rt`.
 //! - `threads`: that streams and devices may go to another thread.
 //! - `faults`: each fault.
 #![tactic(auto)]
 
+mod appending;
 mod beyond;
 mod case;
 mod describing;

@@ -2,6 +2,7 @@ use crate::opening::Stream;
 use crate::publishing::{arguments, carried, event, threads};
 use crate::saying::said;
 use crate::telling::{faults, reasons, replies};
+use crate::writing::{frame, frames};
 use case_text::{line_of, number_of, octets_of};
 use std::alloc::Global;
 use std::io;
@@ -29,6 +30,8 @@ impl Case {
             Some(("say", json)) => said(alloc, json),
             Some(("event", text)) => event(alloc, text),
             Some(("carried", json)) => carried(alloc, json),
+            Some(("frames", serializer)) => frames(alloc, serializer),
+            Some(("frame", words)) => frame(alloc, words),
             Some(("realms", names)) => self.stream.take_realms(alloc, names),
             Some((word, text)) => self.set(alloc, word, text),
             None => self.run(alloc, line),

@@ -2,12 +2,13 @@
 //!
 //! - `# TEXT` begins a case, and is printed as it stands.
 //! - `say JSON`: what a client's message says.
-//! - `event SUBSCRIPTION MARKS JSON`: the EVENT that a PUBLISH in JSON gives this subscription; the
+//! - `event MARKS JSON`: the EVENT that a PUBLISH in JSON gives subscription 1; the
 //!   marks are letters of `dtr`: disclosed, with its topic, retained.
 //! - `carried JSON`: whether the arguments of a PUBLISH are carried, and whether they are taken so.
 //! - `arguments`: none, and a list alone.
 //! - `threads`: that what is said and published may be shared between threads.
 //! - `replies`, `reasons`, `faults`: each message of that kind.
+//! - `frames`, `frame`: items as they are written, described in `writing.rt`.
 //! - `open`: opens a session, as the lines before it say:
 //!   - `realms NAMES`, by spaces;
 //!   - `octets TEXT`: more octets of the stream; `\7f` is an octet;
@@ -22,6 +23,7 @@ mod opening;
 mod publishing;
 mod saying;
 mod telling;
+mod writing;
 
 use case::Case;
 use case_text::is_refused;

@@ -3,6 +3,7 @@ use crate::saying::args_in_words;
 use crate::telling::{anonymous, told_if};
 use case_text::{crossing, may_be_shared};
 use message_tree::{Content, Shared, Tree};
+use rawsocket::Serializer;
 use session::{Args, CarriedArgs, Item, Lists, Publication, Said, read_said};
 use std::alloc::Global;
 use std::io;
@@ -39,14 +40,27 @@ pub fn carried(alloc: Global, json: &str) -> io::Result<String> {
     Ok(format!(in alloc; "{is_carried} {is_taken}\n")?)
 }
 
-/// The carried arguments of a PUBLISH in JSON, by a copy of them.
-fn carried_of(alloc: Global, json: &str) -> Option<CarriedArgs> {
-    let args = args_of(alloc, json)?;
-    CarriedArgs::of(args.try_copy(alloc).ok()?).ok()
+/// The arguments, encoded in JSON under the mark `j`, in MessagePack under `m`.
+fn encoded(alloc: Global, args: Args, marks: &str) -> Args {
+    let mut args = args;
+    if marks.contains('j') {
+        args = args.encoded(alloc, Serializer::Json);
+    }
+    if marks.contains('m') {
+        args = args.encoded(alloc, Serializer::MsgPack);
+    }
+    args
 }
 
-fn publication(alloc: Global, json: &str, disclosed: bool) -> Option<Publication> {
-    let args = carried_of(alloc, json)?;
+/// The carried arguments of a PUBLISH in JSON, by a copy of them.
+fn carried_of(alloc: Global, json: &str, marks: &str) -> Option<CarriedArgs> {
+    let args = args_of(alloc, json)?;
+    let args = encoded(alloc, args.try_copy(alloc).ok()?, marks);
+    CarriedArgs::of(args).ok()
+}
+
+fn publication(alloc: Global, json: &str, marks: &str) -> Option<Publication> {
+    let args = carried_of(alloc, json, marks)?;
     let topic = Topic::read(alloc, "a.b.c").ok()?;
     let publisher = anonymous(alloc, 2)?;
     Some(Publication {
@@ -54,13 +68,14 @@ fn publication(alloc: Global, json: &str, disclosed: bool) -> Option<Publication
         topic,
         lists: Lists::everyone(),
         publisher,
-        disclosed,
+        disclosed: marks.contains('d'),
         args,
     })
 }
 
-fn event_item(alloc: Global, json: &str, marks: &str) -> Option<Item> {
-    let publication = publication(alloc, json, marks.contains('d'))?;
+/// The EVENT that a PUBLISH in JSON gives subscription 1, under these marks.
+pub fn event_item(alloc: Global, json: &str, marks: &str) -> Option<Item> {
+    let publication = publication(alloc, json, marks)?;
     Some(Item::Event {
         subscription: Id::new(1).ok()?,
         publication: Shared::new(alloc, publication).ok()?,
@@ -69,7 +84,7 @@ fn event_item(alloc: Global, json: &str, marks: &str) -> Option<Item> {
     })
 }
 
-/// The EVENT that a PUBLISH in JSON gives subscription 1, under these marks.
+/// The message of that EVENT, by the words `MARKS JSON`.
 pub fn event(alloc: Global, text: &str) -> io::Result<String> {
     match text.split_once(' ') {
         None => Ok(String::from_str(alloc, "no marks\n")?),

@@ -64,6 +64,20 @@ fn pong(alloc: Global) -> Option<Item> {
     Some(Item::Pong(Octets::of(alloc, b"abcd".as_slice()).ok()?))
 }
 
+/// An item of each kind but EVENT.
+pub fn each_kind(alloc: Global) -> [Option<Item>; 8] {
+    [
+        welcome(alloc),
+        Some(Item::Abort(Reason::NoSuchRealm)),
+        Some(Item::Goodbye(Reason::GoodbyeAndOut)),
+        error_of(Request::Subscribe, Reason::InvalidUri),
+        published(),
+        subscribed(),
+        unsubscribed(),
+        pong(alloc),
+    ]
+}
+
 /// Each reply that has no reason.
 pub fn replies(alloc: Global) -> io::Result<String> {
     let welcome = told_if(alloc, welcome(alloc))?;

@@ -313,11 +313,16 @@ pub fn encode_into(alloc: Global, tree: &Tree, out: &mut Vec<u8>) -> Result<(), 
 ///
 /// # Errors
 /// [`Fault::NoMemory`] where a growth was refused; what was written stays as it was.
+#[tactic(auto, unfolding(crate::specs::Short::from_zero))]
 pub fn encode_number_into(alloc: Global, number: u64, out: &mut Vec<u8>) -> Result<(), Fault>
     ensures ok { OnOk result (out.new.items ≡ out.old.items ++ short (whole (pos number))) }
     ensures err { OnErr result (out.new.items ≡ out.old.items) }
     ensures fault { IfErr result (λ e. e ≡ Fault.NoMemory) }
 {
+    if number <= 0x7f {
+        out.push(number as u8)?;
+        return Ok(());
+    }
     let mut appender = Appender::new(mem::replace(out, Vec::new(alloc)));
     match put_from_zero(&mut appender, number) {
         Ok(()) => {

@@ -155,7 +155,7 @@ impl Appender {
     {
         match serializer {
             Serializer::Json => self.put_all(b","),
-            Serializer::MsgPack => self.put_all(&[]),
+            Serializer::MsgPack => Ok(()),
         }
     }
 
@@ -166,7 +166,7 @@ impl Appender {
     {
         match serializer {
             Serializer::Json => self.put_all(b"]"),
-            Serializer::MsgPack => self.put_all(&[]),
+            Serializer::MsgPack => Ok(()),
         }
     }
 
@@ -230,7 +230,7 @@ impl Appender {
     {
         match serializer {
             Serializer::Json => self.put_all(b"}"),
-            Serializer::MsgPack => self.put_all(&[]),
+            Serializer::MsgPack => Ok(()),
         }
     }
 }

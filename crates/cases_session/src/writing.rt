@@ -1,0 +1,153 @@
+//! Items as they are written:
+//!
+//! - `frames SERIALIZER`: the frame of each kind of item but EVENT.
+//! - `frame SERIALIZER LIMIT MARKS JSON`: the frame of the EVENT that `event MARKS JSON` tells, for a
+//!   client that takes so many octets. Further marks are `j` and `m`: its arguments are encoded
+//!   before, in JSON, in MessagePack.
+//!
+//! A frame is written behind the octets `ab`, and compared with the frame of the payload alone and
+//! with that of the item's message. Of more than 300 octets their number, the first 12 and the last
+//! 4 are printed.
+use crate::publishing::event_item;
+use crate::telling::each_kind;
+use case_text::{line_of, spell};
+use message_tree::Message;
+use rawsocket::{Kind, Serializer, write_frame};
+use session::{Item, item_message, write_item, write_payload};
+use std::alloc::Global;
+use std::io;
+
+/// What the buffer holds before.
+const BEFORE: &[u8] = b"ab";
+
+/// The most octets that a client may take.
+const MOST: u32 = 16_777_215;
+
+fn serializer_of(name: &str) -> Serializer {
+    match name {
+        "json" => Serializer::Json,
+        _ => Serializer::MsgPack,
+    }
+}
+
+/// The frames of all kinds of items but EVENT.
+pub fn frames(alloc: Global, serializer: &str) -> io::Result<String> {
+    let mut text = String::new(alloc);
+    for item in each_kind(alloc) {
+        let line = told_if(alloc, serializer_of(serializer), MOST, item)?;
+        text.push_str(line.as_str())?;
+    }
+    Ok(text)
+}
+
+/// The frame of an EVENT, by the words `SERIALIZER LIMIT MARKS JSON`.
+pub fn frame(alloc: Global, words: &str) -> io::Result<String> {
+    let Some((serializer, rest)) = words.split_once(' ') else {
+        return line_of(alloc, "no limit");
+    };
+    let Some((limit, rest)) = rest.split_once(' ') else {
+        return line_of(alloc, "no marks");
+    };
+    let Some((marks, json)) = rest.split_once(' ') else {
+        return line_of(alloc, "no message");
+    };
+    let limit = limit.parse::<u32>().unwrap_or(MOST).min(MOST);
+    let item = event_item(alloc, json, marks);
+    told_if(alloc, serializer_of(serializer), limit, item)
+}
+
+/// The frame of an item: there is one, unless memory was refused.
+fn told_if(
+    alloc: Global,
+    serializer: Serializer,
+    limit: u32,
+    item: Option<Item>,
+) -> io::Result<String> {
+    match &item {
+        None => line_of(alloc, "no item, or E1 no memory"),
+        Some(item) => told(alloc, serializer, limit.min(MOST), item),
+    }
+}
+
+fn told(alloc: Global, serializer: Serializer, limit: u32, item: &Item) -> io::Result<String> {
+    let mut out = begun(alloc)?;
+    match write_item(alloc, serializer, limit.min(MOST), item, &mut out) {
+        Ok(()) => compared(alloc, serializer, item, &out),
+        Err(_) if out.as_slice() != BEFORE => line_of(alloc, "the buffer is not as before"),
+        Err(fault) => Ok(format!(in alloc; "{fault}\n")?),
+    }
+}
+
+fn begun(alloc: Global) -> io::Result<Vec<u8>> {
+    let mut out = Vec::new(alloc);
+    out.extend_from_slice(BEFORE)?;
+    Ok(out)
+}
+
+/// What was written, and whether the other ways write it.
+fn compared(alloc: Global, serializer: Serializer, item: &Item, out: &[u8]) -> io::Result<String> {
+    let mut text = String::new(alloc);
+    summarize(&mut text, out)?;
+    match is_alike(alloc, serializer, item, out) {
+        Some(true) => {}
+        Some(false) => text.push_str(" but not by other ways")?,
+        None => text.push_str(" E1 no memory")?,
+    }
+    text.push('\n')?;
+    Ok(text)
+}
+
+/// Whether the other ways write this; nothing where memory was refused.
+fn is_alike(alloc: Global, serializer: Serializer, item: &Item, out: &[u8]) -> Option<bool> {
+    let payload = by_payload(alloc, serializer, item)?;
+    let message = by_message(alloc, serializer, item)?;
+    Some(payload.as_slice() == out && message.as_slice() == out)
+}
+
+fn kind_of(item: &Item) -> Kind {
+    match item {
+        Item::Pong(_) => Kind::Pong,
+        _ => Kind::Message,
+    }
+}
+
+/// The frame of this payload, behind the same octets.
+fn framed(alloc: Global, item: &Item, payload: &[u8]) -> Option<Vec<u8>> {
+    let mut out = begun(alloc).ok()?;
+    write_frame(alloc, kind_of(item), payload, &mut out).ok()?;
+    Some(out)
+}
+
+fn by_payload(alloc: Global, serializer: Serializer, item: &Item) -> Option<Vec<u8>> {
+    let mut payload = Vec::new(alloc);
+    write_payload(alloc, serializer, item, &mut payload).ok()?;
+    framed(alloc, item, &payload)
+}
+
+fn by_message(alloc: Global, serializer: Serializer, item: &Item) -> Option<Vec<u8>> {
+    match (item_message(alloc, item).ok()?, item) {
+        (Some(message), _) => framed(alloc, item, &encoded(alloc, serializer, &message)?),
+        (None, Item::Pong(octets)) => framed(alloc, item, octets.as_slice()),
+        _ => None,
+    }
+}
+
+fn encoded(alloc: Global, serializer: Serializer, message: &Message) -> Option<Vec<u8>> {
+    match serializer {
+        Serializer::Json => json_codec::encode(alloc, message).ok(),
+        Serializer::MsgPack => msgpack_codec::encode(alloc, message).ok(),
+    }
+}
+
+fn summarize(text: &mut String, octets: &[u8]) -> io::Result<()> {
+    let count = octets.len();
+    if count <= 300 {
+        return spell(text, octets);
+    }
+    let first = &octets[..count.min(12)];
+    let last = &octets[count.saturating_sub(4)..];
+    write!(text, "{count} octets: ")?;
+    spell(text, first)?;
+    text.push_str(" .. ")?;
+    spell(text, last)
+}
