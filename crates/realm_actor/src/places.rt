@@ -20,17 +20,17 @@ fn place_by<S: Shut>(rows: &[Row<S>], number: u64) -> usize
     requires { Ascending rows.now }
     ensures { PartsAt rows.now number result }
 {
-    let mut low = 0;
-    let mut high = rows.len();
-    while low < high {
-        let middle = low + (high - low) / 2;
+    let mut from = 0;
+    let mut end = rows.len();
+    while from < end {
+        let middle = from + (end - from) / 2;
         if rows[middle].conn.value() < number {
-            low = middle + 1;
+            from = middle + 1;
         } else {
-            high = middle;
+            end = middle;
         }
     }
-    low
+    from
 }
 
 // Whether the row at the place is that of the connection of this number.
