@@ -158,7 +158,7 @@ has-put t p [] = refl
 has-put t p (q ∷ qs) = elim (is_before p.topic q.topic) as (λ b. has_topic t (cond b (p ∷ q ∷ qs) (q ∷ put_by_topic p qs)) ≡ bytes_eq p.topic t || has_topic t (q ∷ qs)) [
   | true ↦ refl
   | false ↦ ap (λ b. bytes_eq q.topic t || b) (has-put t p qs) ∙ sym (or_assoc (bytes_eq q.topic t) (bytes_eq p.topic t) (has_topic t qs))
-    ∙ ap (λ b. b || has_topic t qs) (or_comm (bytes_eq q.topic t) (bytes_eq p.topic t)) ∙ or_assoc (bytes_eq p.topic t) (bytes_eq q.topic t) (has_topic t qs)
+      ∙ ap (λ b. b || has_topic t qs) (or_comm (bytes_eq q.topic t) (bytes_eq p.topic t)) ∙ or_assoc (bytes_eq p.topic t) (bytes_eq q.topic t) (has_topic t qs)
 ]
 
 has-by_topic : (t : List ℕ) (ps : List Publication) → has_topic t (by_topic ps) ≡ has_topic t ps
