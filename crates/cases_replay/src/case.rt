@@ -1,5 +1,5 @@
 use crate::commands::{command, reports};
-use broker_server::{Config, Fault, read_grants, replay};
+use broker_server::{Config, Fault, Ids, read_grants, replay};
 use rawsocket::testing::{FailsAt, OneByOne};
 use rawsocket::{MemorySource, Sink, Source, WriteSink};
 use std::alloc::Global;
@@ -118,7 +118,12 @@ impl Case {
         };
         let realms = vec![in alloc; realm]?;
         match read_grants(alloc, self.grants.as_str()) {
-            Ok(grants) => Ok(Ok(Config { realms, grants })),
+            Ok(grants) => Ok(Ok(Config {
+                realms,
+                grants,
+                outbox: 256,
+                ids: Ids::Count,
+            })),
             Err(fault) => Ok(Err(fault)),
         }
     }

@@ -1,4 +1,4 @@
-use broker_server::{Command, Config, Fault, read_command, report};
+use broker_server::{Command, Config, Fault, Ids, read_command, report};
 use rawsocket::MemorySink;
 use std::alloc::{AllocError, Global};
 use std::io;
@@ -11,24 +11,41 @@ pub fn command(alloc: Global, text: &str) -> io::Result<String> {
     }
     match read_command(alloc, &words) {
         Ok(Command::Help(help)) => help_line(alloc, help.as_str()),
-        Ok(Command::Replay(config)) => replay_line(alloc, &config),
+        Ok(Command::Replay(config)) => {
+            let start = String::from_str(alloc, "replay")?;
+            config_line(start, &config)
+        }
+        Ok(Command::Serve { host, port, config }) => {
+            serve_line(alloc, host.as_str(), port, &config)
+        }
         Err(fault) => Ok(format!(in alloc; "fault {fault}\n")?),
     }
 }
 
 /// Whether the help names the commands.
 fn help_line(alloc: Global, help: &str) -> io::Result<String> {
-    let told = if help.contains("replay") {
-        "help that names replay\n"
+    let told = if help.contains("replay") && help.contains("serve") {
+        "help that names replay and serve\n"
     } else {
-        "help that names no replay\n"
+        "help that doesn't name them\n"
     };
     Ok(String::from_str(alloc, told)?)
 }
 
-/// The realms and the grants of a replay.
-fn replay_line(alloc: Global, config: &Config) -> io::Result<String> {
-    let mut line = String::from_str(alloc, "replay")?;
+/// What a broker is served with.
+fn serve_line(alloc: Global, host: &str, port: u16, config: &Config) -> io::Result<String> {
+    let ids = match config.ids {
+        Ids::Random => "random",
+        Ids::Count => "count",
+    };
+    let outbox = config.outbox;
+    let start = format!(in alloc; "serve {host} {port} outbox {outbox} ids {ids}")?;
+    config_line(start, config)
+}
+
+/// A line that goes on with the realms and the grants.
+fn config_line(start: String, config: &Config) -> io::Result<String> {
+    let mut line = start;
     for realm in &config.realms {
         line.push(' ')?;
         line.push_str(realm.text())?;
@@ -43,13 +60,14 @@ fn replay_line(alloc: Global, config: &Config) -> io::Result<String> {
     Ok(line)
 }
 
-const FAULTS: [Fault; 6] = [
+const FAULTS: [Fault; 7] = [
     Fault::NoMemory,
     Fault::ReadFault,
     Fault::WriteFault,
     Fault::Usage,
     Fault::BadLine(8),
     Fault::TooManyTurns,
+    Fault::ListenFault,
 ];
 
 /// What is reported of each fault, and the exit status.
