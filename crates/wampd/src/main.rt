@@ -3,11 +3,12 @@
 
 ghost use Rattle.std.specs.Prelude.{◌≡◌, ◌≢◌, ◌<◌, ◌≤◌, ◌+◌, ◌++◌, Err, IfErr, OnOk};
 ghost use Rattle.rawsocket.specs.Devices.{GrowsByBeginning};
-ghost use Rattle.broker_server.specs.Commands.{status_of};
+ghost use Rattle.broker_server.specs.Commands.{IsServable, status_of};
 
-use broker_server::{Command, Fault, read_command, replay, report};
+use broker_server::{Command, Config, Fault, TcpAcceptor, read_command, replay, report, serve_on};
 use rawsocket::{ReadSource, Sink, Turns, WriteSink, send};
 use std::env;
+use std::net::TcpListener;
 use std::process::ExitCode;
 
 fn main(rt: HostRuntime) -> ExitCode {
@@ -44,7 +45,31 @@ fn run(rt: &HostRuntime) -> Result<(), Fault> {
             let mut input = ReadSource::new(rt.stdin());
             replay(alloc, &mut input, &mut output, &config)
         }
+        Command::Serve { host, port, config } => {
+            serve(rt, &mut output, host.as_str(), port, &config)
+        }
     }
+}
+
+/// Listens, says so, and serves whoever connects.
+fn serve<S: Sink>(
+    rt: &HostRuntime,
+    output: &mut S,
+    host: &str,
+    port: u16,
+    config: &Config,
+) -> Result<(), Fault>
+    requires { IsServable config.now }
+{
+    let alloc = rt.alloc();
+    let Ok(listener) = TcpListener::bind(rt, (host, port)) else {
+        return Err(Fault::ListenFault);
+    };
+    let line = format!(in alloc; "listening on {host}:{port}\n")?;
+    print(output, line.as_bytes())?;
+    let mut acceptor = TcpAcceptor::new(listener, *rt);
+    serve_on(*rt, alloc, &mut acceptor, config)?;
+    Ok(())
 }
 
 /// Prints a text, given as its octets, whole.
