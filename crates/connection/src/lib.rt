@@ -2,16 +2,21 @@
 //! writes of the items that are owed, and the seats that connections sit at.
 //!
 //! [`read_posts`] and [`write_items`] run in a thread each, and end only where their stream or the other threads make them. Each
-//! says by its end what was posted, or written, of all that it read, or took.
+//! says by its end what was posted, or written, of all that it read, or took. By an [`EncodingPoster`] a reader posts what is encoded
+//! once for many receivers.
 #![tactic(auto)]
 
 mod decoding;
+mod encoding;
 mod fault;
+mod in_use;
 mod reading;
 mod seats;
 mod writing;
 
+pub use encoding::EncodingPoster;
 pub use fault::Fault;
+pub use in_use::{InUse, Using};
 pub use reading::{ReadEnd, read_posts};
 pub use seats::Seats;
 pub use writing::{WriteEnd, write_items};

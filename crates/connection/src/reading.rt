@@ -1,6 +1,7 @@
 //! The reader of a connection: it reads octets, and posts what they say.
 ghost use Rattle.std.specs.Prelude.{◌≡◌, ◌≢◌, ◌≤◌, ◌<◌, ◌+◌, ◌++◌, ◌∷◌, [], None, length, take, IfOk, IfErr, OnOk, OnErr, true, false};
 ghost use Rattle.rawsocket.specs.Frames.{content, contents, fault_of};
+ghost use Rattle.rawsocket.specs.declared.handshake.Serializer.{Serializer};
 ghost use Rattle.session.specs.Opened.{AreUsedUp, AreWithinTurns};
 ghost use Rattle.realm_inbox.specs.Joins.{is_join};
 ghost use Rattle.connection.specs.Posts.{Says, SaysNothing, is_farewell};
@@ -122,11 +123,10 @@ fn post_frame<R: Wait, S: Shut, P: Posting<S>>(
 // Posts that what stands behind the last frame is at fault, if it is.
 fn post_fault<R: Wait, S: Shut, P: Posting<S>>(
     rt: &R,
-    _serializer: Serializer,
     fault: Option<rawsocket::Fault>,
     poster: &mut P,
 ) -> Result<(), ReadEnd>
-    ensures { IsPosted _serializer fault [] (P.posted poster.old) (P.posted poster.new) result }
+    ensures { (s : Serializer) → IsPosted s fault [] (P.posted poster.old) (P.posted poster.new) result }
 {
     let Some(fault) = fault else {
         return Ok(());
@@ -154,7 +154,7 @@ fn post_frames<R: Wait, S: Shut, P: Posting<S>>(
             return Err(end);
         }
     }
-    post_fault(rt, serializer, fault, poster)
+    post_fault(rt, fault, poster)
 }
 
 // Takes the next octets of the stream, and posts the early frames and those that the octets complete.

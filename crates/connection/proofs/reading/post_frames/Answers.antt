@@ -26,4 +26,4 @@ returns-in-Err g c =
 pub returns : goal.returns
 returns g c =
     Halfway-last c.args.serializer c.post_fault.result c.args.fault (contents c.args.frames.items) (contents c.frames.left.items) (g.P.Posting.posted c.args.poster.now) (g.P.Posting.posted c.frames.poster) (g.P.Posting.posted c.post_fault.new.poster)
-    (none_left c.frames.left.items (omega (arith, c.in_default.ensures.cases.0, c.frames.left.ok.0))) c.frames.invariant c.post_fault.ensures
+    (none_left c.frames.left.items (omega (arith, c.in_default.ensures.cases.0, c.frames.left.ok.0))) c.frames.invariant (c.post_fault.ensures c.args.serializer)

@@ -1,0 +1,103 @@
+//! Events are encoded once for many receivers, before they are posted.
+ghost use Rattle.std.specs.Prelude.{◌≡◌, ◌++◌, ◌∷◌, [], MatchResult, false};
+ghost use Rattle.realm_inbox.specs.Joins.{is_join};
+
+use crate::in_use::InUse;
+use message_tree::{Options, Tree};
+use rawsocket::Serializer;
+use realm_inbox::{Act, Posting, Shut};
+use session::{Args, Said};
+use std::alloc::Global;
+use std::sync::Wait;
+
+/// Posts what a client does by way of `poster`. The arguments of a PUBLISH get the octets beside them that they are in an EVENT
+/// ([`Args::encoded`]), for each serialization that two live sessions or more use; so the writers of its receivers copy octets, and
+/// the work is done by the publisher's reader, beside the realm's actor.
+///
+/// What is posted is the same to every contract. Where memory is refused for the octets, the arguments are posted without them. A
+/// publication that is to be retained gets none, as the realm drops them.
+#[derive(Drop)]
+pub struct EncodingPoster<'a, P> {
+    /// Where the octets are kept.
+    pub alloc: Global,
+    /// What the live sessions of the realm use.
+    pub in_use: &'a InUse,
+    /// Posts it.
+    pub poster: P,
+}
+
+impl<S: Shut, P: Posting<S>> Posting<S> for EncodingPoster<'_, P> {
+    ghost posted = { λ e. P.posted e.poster };
+
+    fn post<R: Wait>(&mut self, rt: &R, act: Act<S>) -> Result<(), Act<S>>
+        requires { is_join act ≡ false }
+        ensures { MatchResult result (λ _. P.posted self.new.poster ≡ P.posted self.old.poster ++ act ∷ []) (λ back. (back ≡ act) × (P.posted self.new.poster ≡ P.posted self.old.poster)) }
+    {
+        let act = encoded(self.alloc, self.in_use, act);
+        self.poster.post(rt, act)
+    }
+}
+
+// The same act.
+fn encoded<S: Shut>(alloc: Global, in_use: &InUse, act: Act<S>) -> Act<S>
+    ensures { result ≡ act }
+{
+    match act {
+        Act::Said(said) => Act::Said(encoded_said(alloc, in_use, said)),
+        other => other,
+    }
+}
+
+// What was said, the same.
+fn encoded_said(alloc: Global, in_use: &InUse, said: Said) -> Said
+    ensures { result ≡ said }
+{
+    match said {
+        Said::Publish {
+            request,
+            options,
+            topic,
+            args,
+        } => {
+            let args = if is_retained(&options) {
+                args
+            } else {
+                encoded_args(alloc, in_use, args)
+            };
+            Said::Publish {
+                request,
+                options,
+                topic,
+                args,
+            }
+        }
+        other => other,
+    }
+}
+
+// Whether a PUBLISH with these options, where it is accepted, is retained.
+fn is_retained(options: &Options) -> bool {
+    matches!(options.get("retain"), Some(Tree::Flag(true)))
+}
+
+// The same arguments, encoded for each serialization that is shared, unless there are none.
+fn encoded_args(alloc: Global, in_use: &InUse, args: Args) -> Args
+    ensures { result ≡ args }
+{
+    if args.args().is_none() {
+        return args;
+    }
+    let args = encoded_for(alloc, in_use, Serializer::Json, args);
+    encoded_for(alloc, in_use, Serializer::MsgPack, args)
+}
+
+// The same arguments, encoded for a serialization where it is shared.
+fn encoded_for(alloc: Global, in_use: &InUse, serializer: Serializer, args: Args) -> Args
+    ensures { result ≡ args }
+{
+    if in_use.is_shared(serializer) {
+        args.encoded(alloc, serializer)
+    } else {
+        args
+    }
+}
