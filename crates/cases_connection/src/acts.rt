@@ -4,7 +4,7 @@ ghost use Rattle.realm_inbox.specs.Joins.{is_join};
 
 use case_text::spell;
 use realm_inbox::{Act, Posting, Shut};
-use session::Said;
+use session::{CarriedArgs, Said};
 use std::alloc::{AllocError, Global};
 use std::io;
 use std::sync::Wait;
@@ -55,6 +55,17 @@ impl Log {
     pub fn count(&self) -> usize {
         self.acts.len()
     }
+
+    /// The arguments of what was published, where every serialization writes them.
+    pub fn into_published(self, alloc: Global) -> Result<Vec<CarriedArgs>, AllocError> {
+        let mut published = Vec::new(alloc);
+        for act in self.acts {
+            if let Some(args) = published_by(act) {
+                published.push(args)?;
+            }
+        }
+        Ok(published)
+    }
 }
 
 impl Posting<Nowhere> for Log {
@@ -71,6 +82,13 @@ impl Posting<Nowhere> for Log {
             Ok(()) => Ok(()),
             Err(refused) => Err(refused.value),
         }
+    }
+}
+
+fn published_by(act: Act<Nowhere>) -> Option<CarriedArgs> {
+    match act {
+        Act::Said(Said::Publish { args, .. }) => CarriedArgs::of(args).ok(),
+        _ => None,
     }
 }
 

@@ -1,10 +1,11 @@
 //! The words of the table.
-use crate::client::{Client, Devices, Manner};
+use crate::client::{Client, Devices, Manner, serializer_of};
 use crate::reader::Stream;
+use crate::sessions::{Sessions, threads};
 use crate::writer::Debt;
 use case_text::{line_of, number_of, octets_of};
 use connection::Seats;
-use std::alloc::Global;
+use std::alloc::{AllocError, Global};
 use std::io;
 use std::sync::Wait;
 use wamp_ids::Conn;
@@ -16,18 +17,20 @@ pub struct Case {
     devices: Devices,
     debt: Debt,
     stream: Stream,
+    sessions: Sessions,
     seats: Seats,
 }
 
 impl Case {
-    pub fn new(alloc: Global) -> Case {
-        Case {
+    pub fn new(alloc: Global) -> Result<Case, AllocError> {
+        Ok(Case {
             client: Client::least(),
             devices: Devices::good(),
             debt: Debt::new(alloc),
             stream: Stream::new(alloc),
+            sessions: Sessions::none(alloc)?,
             seats: Seats::new(),
-        }
+        })
     }
 
     /// Takes a line, and gives what it is answered by.
@@ -39,7 +42,7 @@ impl Case {
     ) -> io::Result<String> {
         match line.split_once(' ') {
             Some(("#", _)) => {
-                *self = Case::new(alloc);
+                *self = Case::new(alloc)?;
                 line_of(alloc, line)
             }
             Some((word, text)) => self.set(alloc, line, word, text),
@@ -56,6 +59,7 @@ impl Case {
                 let octets = octets_of(alloc, text)?;
                 self.stream.octets.extend_from_slice(octets.as_slice())?
             }
+            "enter" => self.enter(text)?,
             "room" => self.stream.room = number_of(text) as usize,
             "fails" => self.devices.failing = number_of(text),
             "back" => self.give_back(text),
@@ -68,6 +72,13 @@ impl Case {
     fn owe(&mut self, alloc: Global, line: &str) -> io::Result<()> {
         self.debt.lines.push(String::from_str(alloc, line)?)?;
         Ok(())
+    }
+
+    fn enter(&mut self, text: &str) -> io::Result<()> {
+        match serializer_of(text) {
+            Some(serializer) => self.sessions.enter(serializer),
+            None => Ok(()),
+        }
     }
 
     fn give_back(&mut self, text: &str) {
@@ -84,6 +95,10 @@ impl Case {
             "fed" => self.devices.manner = Manner::Fed,
             "seats" => self.seats = Seats::new(),
             "goodbye" => self.owe(alloc, word)?,
+            "leave" => self.sessions.leave(),
+            "shared" => return self.sessions.shared(alloc),
+            "crossing" => return threads(alloc),
+            "forward" => self.forward(rt, alloc)?,
             "take" => return self.seat(alloc),
             "fill" => return self.fill(alloc),
             "write" => return self.debt.write(rt, alloc, self.client, self.devices),
@@ -92,15 +107,33 @@ impl Case {
                     .debt
                     .write_failing(rt, alloc, self.client, self.devices);
             }
-            "read" => return self.stream.read(rt, alloc, self.client, self.devices),
-            "reads" => {
+            "read" => {
+                let in_use = self.sessions.in_use();
                 return self
                     .stream
-                    .read_failing(rt, alloc, self.client, self.devices);
+                    .read(rt, alloc, in_use, self.client, self.devices);
+            }
+            "reads" => {
+                let in_use = self.sessions.in_use();
+                return self
+                    .stream
+                    .read_failing(rt, alloc, in_use, self.client, self.devices);
             }
             _ => return line_of(alloc, "no case has this word"),
         }
         Ok(String::new(alloc))
+    }
+
+    // Reads the octets, and owes what they publish.
+    fn forward<R: Wait + Copy>(&mut self, rt: &R, alloc: Global) -> io::Result<()> {
+        let in_use = self.sessions.in_use();
+        let published = self
+            .stream
+            .published(rt, alloc, in_use, self.client, self.devices)?;
+        for args in published {
+            self.debt.forward(alloc, args)?;
+        }
+        Ok(())
     }
 
     // Takes a seat, and gives its number.

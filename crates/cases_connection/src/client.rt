@@ -9,6 +9,15 @@ pub const NEVER: u64 = u64::MAX;
 /// The most octets that a frame holds.
 const MOST: u32 = 16777215;
 
+/// The serializer of this name.
+pub fn serializer_of(name: &str) -> Option<Serializer> {
+    match name {
+        "json" => Some(Serializer::Json),
+        "msgpack" => Some(Serializer::MsgPack),
+        _ => None,
+    }
+}
+
 /// How messages are serialized, and how many octets the client takes in one payload.
 #[derive(Clone, Copy, Drop)]
 pub struct Client {
@@ -29,11 +38,7 @@ impl Client {
     /// As in `msgpack 1024`.
     pub fn of(text: &str) -> Option<Client> {
         let (name, limit) = text.split_once(' ')?;
-        let serializer = match name {
-            "json" => Serializer::Json,
-            "msgpack" => Serializer::MsgPack,
-            _ => return None,
-        };
+        let serializer = serializer_of(name)?;
         let limit = limit.parse::<u32>().ok()?.min(MOST);
         Some(Client { serializer, limit })
     }

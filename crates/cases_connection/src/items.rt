@@ -20,8 +20,8 @@ fn args_of(alloc: Global, json: &str) -> Option<CarriedArgs> {
     }
 }
 
-fn publication(alloc: Global, id: Id, json: &str) -> Option<Publication> {
-    let args = args_of(alloc, json)?;
+/// A publication of these arguments; none where memory was refused.
+pub fn publication(alloc: Global, id: Id, args: CarriedArgs) -> Option<Shared<Publication>> {
     let topic = Topic::read(alloc, "a.b").ok()?;
     let publisher = Who {
         conn: Conn::new(2)?,
@@ -29,26 +29,33 @@ fn publication(alloc: Global, id: Id, json: &str) -> Option<Publication> {
         authid: Text::of(alloc, "anonymous").ok()?,
         authrole: Text::of(alloc, "anonymous").ok()?,
     };
-    Some(Publication {
+    let publication = Publication {
         id,
         topic,
         lists: Lists::everyone(),
         publisher,
         disclosed: false,
         args,
-    })
+    };
+    Shared::new(alloc, publication).ok()
+}
+
+/// An EVENT of a publication.
+pub fn event_of(subscription: Id, publication: Shared<Publication>) -> Item {
+    Item::Event {
+        subscription,
+        publication,
+        with_topic: false,
+        retained: false,
+    }
 }
 
 fn event(alloc: Global, text: &str) -> Option<Item> {
     let (subscription, rest) = text.split_once(' ')?;
     let (id, json) = rest.split_once(' ')?;
-    let publication = publication(alloc, id_of(id)?, json)?;
-    Some(Item::Event {
-        subscription: id_of(subscription)?,
-        publication: Shared::new(alloc, publication).ok()?,
-        with_topic: false,
-        retained: false,
-    })
+    let args = args_of(alloc, json)?;
+    let publication = publication(alloc, id_of(id)?, args)?;
+    Some(event_of(id_of(subscription)?, publication))
 }
 
 fn published(text: &str) -> Option<Item> {

@@ -8,6 +8,9 @@
 //! - `write` writes all that, and tells what the device got and how it ended.
 //! - `early TEXT`: octets that the opening of the session read behind HELLO; `octets TEXT`: those that come after. `\7f` is an octet.
 //! - `room N`: how many acts are received before they come back.
+//! - `enter SERIALIZER`: a session of the realm is live that uses it; `leave`: the last that entered ends. `shared` tells what two of
+//!   them use, or more. `crossing`: what may go to other threads.
+//! - `forward` reads the octets, and what they publish is owed, as EVENTs of subscription 1 and publication 3.
 //! - `read` reads the octets, and tells what was posted and how it ended.
 //! - `slowly`: devices give and take one octet at a time. `held`: the device written to holds octets back until it is told to pass them
 //!   on, and only those passed on are told. `fed`: the same, and each item is owed only once all before it was passed on.
@@ -22,6 +25,7 @@ mod fed;
 mod items;
 mod owed;
 mod reader;
+mod sessions;
 mod writer;
 
 use case::Case;
@@ -32,7 +36,7 @@ use std::sync::Wait;
 
 fn main(rt: HostRuntime) -> io::Result<()> {
     let alloc = rt.alloc();
-    let mut case = Case::new(alloc);
+    let mut case = Case::new(alloc)?;
     for line in rt.lines(alloc) {
         let told = answer(&rt, alloc, &mut case, line?.as_str())?;
         print!(rt; "{told}")?;

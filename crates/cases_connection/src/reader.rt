@@ -1,10 +1,10 @@
 //! The reader's end of a case.
 use crate::acts::{Log, Nowhere};
 use crate::client::{Client, Devices, Manner};
-use connection::{ReadEnd, read_posts};
+use connection::{EncodingPoster, InUse, ReadEnd, read_posts};
 use rawsocket::testing::{FailsAt, OneByOne};
 use rawsocket::{Deframer, MemorySource, Source};
-use session::Opened;
+use session::{CarriedArgs, Opened};
 use std::alloc::{AllocError, Global};
 use std::io;
 use std::sync::Wait;
@@ -60,18 +60,23 @@ impl Stream {
         &self,
         rt: &R,
         alloc: Global,
+        in_use: &InUse,
         client: Client,
         devices: Devices,
-        log: &mut Log,
-    ) -> io::Result<ReadEnd> {
+    ) -> io::Result<(Log, ReadEnd)> {
+        let poster = EncodingPoster {
+            alloc,
+            in_use,
+            poster: Log::new(alloc, self.room)?,
+        };
         let source = MemorySource::new(self.octets.as_slice().to_vec(alloc)?);
         let opened = opened(alloc, client, self.early.as_slice())?;
         if devices.manner == Manner::Slow {
             let mut source = FailsAt::new(OneByOne::new(source), devices.failing);
-            Ok(post_all(rt, alloc, &mut source, opened, log))
+            Ok(post_all(rt, alloc, &mut source, opened, poster))
         } else {
             let mut source = FailsAt::new(source, devices.failing);
-            Ok(post_all(rt, alloc, &mut source, opened, log))
+            Ok(post_all(rt, alloc, &mut source, opened, poster))
         }
     }
 
@@ -80,14 +85,29 @@ impl Stream {
         &self,
         rt: &R,
         alloc: Global,
+        in_use: &InUse,
         client: Client,
         devices: Devices,
     ) -> io::Result<String> {
-        let mut log = Log::new(alloc, self.room)?;
-        let end = self.run(rt, alloc, client, devices, &mut log)?;
+        let (log, end) = self.run(rt, alloc, in_use, client, devices)?;
         let posted = log.told(alloc)?;
         let end = in_words(alloc, end)?;
         Ok(format!(in alloc; "{posted}{end}")?)
+    }
+
+    /// The arguments of what the octets publish, as they are posted.
+    pub fn published<R: Wait>(
+        &self,
+        rt: &R,
+        alloc: Global,
+        in_use: &InUse,
+        client: Client,
+        devices: Devices,
+    ) -> io::Result<Vec<CarriedArgs>> {
+        match self.run(rt, alloc, in_use, client, devices)? {
+            (_, ReadEnd::NoMemory) => Err(AllocError)?,
+            (log, _) => Ok(log.into_published(alloc)?),
+        }
     }
 
     /// The same for each call that fails: how many acts are posted, and how it ends.
@@ -95,17 +115,17 @@ impl Stream {
         &self,
         rt: &R,
         alloc: Global,
+        in_use: &InUse,
         client: Client,
         devices: Devices,
     ) -> io::Result<String> {
         let mut told = String::new(alloc);
         for call in 0..u64::MAX {
-            let mut log = Log::new(alloc, self.room)?;
             let failing = Devices {
                 failing: call,
                 ..devices
             };
-            let end = self.run(rt, alloc, client, failing, &mut log)?;
+            let (log, end) = self.run(rt, alloc, in_use, client, failing)?;
             let count = log.count();
             write!(told, "{call}: {count} posted, ")?;
             told.push_str(in_words(alloc, end)?.as_str())?;
@@ -122,7 +142,15 @@ fn post_all<R: Wait, I: Source>(
     alloc: Global,
     source: &mut I,
     opened: Opened,
-    log: &mut Log,
-) -> ReadEnd {
-    read_posts::<R, Nowhere, I, Log>(rt, alloc, source, opened, log)
+    poster: EncodingPoster<'_, Log>,
+) -> (Log, ReadEnd) {
+    let mut poster = poster;
+    let end = read_posts::<R, Nowhere, I, EncodingPoster<'_, Log>>(
+        rt,
+        alloc,
+        source,
+        opened,
+        &mut poster,
+    );
+    (poster.poster, end)
 }

@@ -1,25 +1,31 @@
 //! The writer's end of a case.
 use crate::client::{Client, Devices, Manner};
 use crate::fed::Fed;
-use crate::items::item_of;
+use crate::items::{event_of, item_of, publication};
 use crate::owed::{Listed, Owing};
 use case_text::{line_of, spelled};
 use connection::{WriteEnd, write_items};
+use message_tree::Shared;
 use outbox_queue::Drain;
 use rawsocket::testing::{FailsAt, OneByOne};
 use rawsocket::{Sink, WriteSink};
-use session::Item;
+use session::{CarriedArgs, Item, Publication};
 use std::alloc::{AllocError, Global};
 use std::io::{self, BufWriter};
 use std::sync::Wait;
+use wamp_ids::Id;
 
 /// Room for all that a case writes, so that its device fails where a call is to fail, and nowhere else.
 const ROOM: usize = 8192;
 
-/// What a connection is owed, as lines.
+/// The subscription and the publication of each EVENT that was forwarded.
+const FORWARDED: (u64, u64) = (1, 3);
+
+/// What a connection is owed: first what lines say, then what was forwarded.
 #[derive(Drop)]
 pub struct Debt {
     pub lines: Vec<String>,
+    forwarded: Vec<Shared<Publication>>,
 }
 
 /// What a device got, and how it ended.
@@ -34,6 +40,18 @@ impl Debt {
     pub fn new(alloc: Global) -> Debt {
         Debt {
             lines: Vec::new(alloc),
+            forwarded: Vec::new(alloc),
+        }
+    }
+
+    /// An EVENT of these arguments is owed too.
+    pub fn forward(&mut self, alloc: Global, args: CarriedArgs) -> io::Result<()> {
+        let Ok(id) = Id::new(FORWARDED.1) else {
+            return Ok(());
+        };
+        match publication(alloc, id, args) {
+            Some(publication) => Ok(self.forwarded.push(publication)?),
+            None => Err(AllocError)?,
         }
     }
 
@@ -45,6 +63,12 @@ impl Debt {
                 Some(item) => items.push(item)?,
                 None => return Err(AllocError)?,
             }
+        }
+        for publication in &self.forwarded {
+            let Ok(subscription) = Id::new(FORWARDED.0) else {
+                break;
+            };
+            items.push(event_of(subscription, publication.twin()?))?;
         }
         Ok(items)
     }
