@@ -6,7 +6,6 @@
 //! once for many receivers.
 #![tactic(auto)]
 
-mod decoding;
 mod encoding;
 mod fault;
 mod in_use;

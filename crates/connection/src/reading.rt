@@ -7,11 +7,10 @@ ghost use Rattle.realm_inbox.specs.Joins.{is_join};
 ghost use Rattle.connection.specs.Posts.{Says, SaysNothing, is_farewell};
 ghost use Rattle.connection.specs.Reading.{IsPosted, IsAdvance, IsReadUpTo, IsReadBy, IsStreamEnd, ReadsSince, Departs};
 
-use crate::decoding::decode;
 use message_tree::Octets;
 use rawsocket::{Deframer, Frame, Kind, PIECE, Serializer, Source, Turns, read_turn};
 use realm_inbox::{Act, Posting, Shut};
-use session::{Fault, Opened, Said, read_said};
+use session::{Fault, Opened, Said, decode, read_said};
 use std::alloc::Global;
 use std::collections::VecDeque;
 use std::sync::Wait;

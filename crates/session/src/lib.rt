@@ -31,5 +31,6 @@ pub use opened::Opened;
 pub use opening::open_session;
 pub use reading::read_said;
 pub use said::Said;
+pub use serializing::decode;
 pub use telling::item_message;
 pub use writing::{write_item, write_payload};
