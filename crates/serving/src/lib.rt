@@ -1,0 +1,33 @@
+//! The running broker: the threads that serve a broker's realms over any acceptor of streams.
+//!
+//! [`serve_on`] starts an actor thread for each realm, and for each stream that its [`Acceptor`] gives a reader thread, which opens the
+//! session, starts the session's writer thread and waits for it. It stands on `realm_actor` (what the posts give each session),
+//! `connection` (what a reader posts, what a writer writes, the seats), `session` (the opening of a session) and the queues between them,
+//! `realm_inbox` and `outbox_queue`; what each of these calls does is proved there. [`TcpAcceptor`] accepts over TCP.
+//!
+//! Contracts say here that each call is made only where its own contract allows it: a connection's posts are made at its own seat, with its
+//! own outbox, which is open and new; each actor runs on a new inbox. Which thread starts, ends or is waited for, what crosses from one to
+//! another, and that `serve_on` stops as it is told to, is shown by runs alone. Nothing is promised of time: a peer that takes nothing holds
+//! up its own writer, and the end of `serve_on`, but no other session.
+#![tactic(auto)]
+
+mod acceptor;
+mod actor_work;
+mod config;
+mod fault;
+mod hall;
+mod marks;
+mod plan;
+mod reader;
+mod realm_ends;
+mod serve;
+mod tcp;
+mod words;
+mod work;
+mod writer;
+
+pub use acceptor::{Accepted, Acceptor, Parts};
+pub use config::{Config, Ids};
+pub use fault::Fault;
+pub use serve::serve_on;
+pub use tcp::{TcpAcceptor, TcpHandle};

@@ -1,0 +1,113 @@
+//! What the accepting thread has of a realm.
+ghost use Rattle.std.specs.Prelude.{◌≡◌};
+ghost use Rattle.wamp_ids.specs.Numbers.{seat_of};
+ghost use Rattle.realm_inbox.specs.Shown.{poster_conn, seat_number};
+
+use crate::actor_work::ActorWork;
+use crate::fault::Fault;
+use crate::work::start;
+use crossbeam_channel::Receiver;
+use realm_inbox::{Door, Poster, Seat, Shut};
+use std::alloc::{AllocError, Global};
+use std::sync::Wait;
+use std::thread::{JoinHandle, Threads};
+use wamp_ids::{Conn, seat};
+
+/// What the accepting thread has of a realm: the door and the free seats of its inbox, and its actor's thread.
+#[derive(Drop)]
+pub struct RealmEnds<S: Shut> {
+    door: Door<S>,
+    // By number, from 1: a seat that isn't here is at a connection.
+    seats: Vec<Option<Seat<S>>>,
+    actor: Option<JoinHandle<()>>,
+}
+
+impl<S: Shut + Send + 'static> RealmEnds<S> {
+    /// Starts the realm's actor, and waits until it has begun.
+    ///
+    /// # Errors
+    /// Where it had no memory for the realm, or no thread could be made.
+    pub fn start<R: Threads + Wait + Copy + Send + 'static>(
+        &mut self,
+        rt: R,
+        work: ActorWork<S>,
+        started: Receiver<bool>,
+    ) -> Result<(), Fault> {
+        let actor = start(rt, work)?;
+        self.actor = Some(actor);
+        match started.recv(&rt) {
+            Ok(true) => Ok(()),
+            _ => Err(Fault::NoMemory),
+        }
+    }
+}
+
+impl<S: Shut> RealmEnds<S> {
+    /// A realm whose actor isn't started, with all seats of its inbox.
+    pub fn new(alloc: Global, door: Door<S>, seats: Vec<Seat<S>>) -> Result<RealmEnds<S>, AllocError> {
+        let mut by_number = Vec::with_capacity(alloc, seats.len())?;
+        for seat in seats {
+            by_number.push(Some(seat))?;
+        }
+        Ok(RealmEnds {
+            door,
+            seats: by_number,
+            actor: None,
+        })
+    }
+
+    /// The poster of a connection at its seat, which is free no longer. None where it isn't free.
+    pub fn take_poster(&mut self, alloc: Global, conn: Conn) -> Option<Poster<S>> {
+        let at = self.take_seat(seat(conn))?;
+        match poster_at(&self.door, alloc, at, conn) {
+            Ok(poster) => Some(poster),
+            Err(at) => {
+                self.put_seat(at);
+                None
+            }
+        }
+    }
+
+    fn take_seat(&mut self, number: u64) -> Option<Seat<S>> {
+        let place = number.checked_sub(1)?;
+        self.seats.get_mut(place as usize)?.take()
+    }
+
+    /// Frees a seat.
+    pub fn put_seat(&mut self, at: Seat<S>) {
+        let number = at.number() as usize;
+        if let Some(place) = number.checked_sub(1) {
+            if let Some(free) = self.seats.get_mut(place) {
+                *free = Some(at);
+            }
+        }
+    }
+
+    /// Tells the actor to stop. False where it is gone.
+    pub fn stop<R: Wait>(&mut self, rt: &R) -> bool {
+        self.door.stop(rt)
+    }
+
+    /// Waits for the actor's thread.
+    pub fn join<R: Threads>(&mut self, rt: &R) {
+        if let Some(actor) = self.actor.take() {
+            actor.join(rt);
+        }
+    }
+}
+
+// The poster of the connection at the seat, or the seat, where it isn't that of the connection.
+fn poster_at<S: Shut>(
+    door: &Door<S>,
+    alloc: Global,
+    at: Seat<S>,
+    conn: Conn,
+) -> Result<Poster<S>, Seat<S>> {
+    if at.number() != seat(conn) {
+        return Err(at);
+    }
+    match door.poster(alloc, at, conn) {
+        Ok(poster) => Ok(poster),
+        Err((_, at)) => Err(at),
+    }
+}

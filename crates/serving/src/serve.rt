@@ -1,0 +1,179 @@
+//! The accepting thread.
+ghost use Rattle.std.specs.Prelude.{◌≤◌, ◌<◌, length};
+
+use crate::acceptor::{Accepted, Acceptor};
+use crate::actor_work::ActorWork;
+use crate::config::Config;
+use crate::fault::Fault;
+use crate::hall::Hall;
+use crate::plan::Plan;
+use crate::realm_ends::RealmEnds;
+use crate::words::Words;
+use crossbeam_channel::bounded;
+use realm::RealmConfig;
+use realm_inbox::Shut;
+use realm_inbox::opening::inbox;
+use std::alloc::{AllocError, Global};
+use std::random::RandomSource;
+use std::sync::{Arc, Wait};
+use std::thread::Threads;
+use wamp_ids::Topic;
+
+/// How many posts may wait in a realm's inbox.
+const MOST_POSTS: usize = 1024;
+
+/// After so many failures in a row nothing is accepted any more.
+const MOST_FAILURES: u32 = 100;
+
+/// Serves the realms to the clients of the streams that are accepted, until the acceptor says to stop. Then, and where accepting failed
+/// 100 times in a row, every live session gets its GOODBYE (WAMP, "Session Closing"), every other stream is ended, and all threads are
+/// waited for: as long as a peer takes nothing of what its session is still owed, this doesn't return.
+///
+/// A connection takes the lowest free seat of 256. One for which none is free gets the octets 7F 40 00 00, and is closed. Where memory or a
+/// thread is refused for a connection, that connection is closed, and the broker goes on.
+///
+/// # Errors
+/// [`Fault::NoMemory`] where memory, a thread or a seed was refused before anything was accepted; [`Fault::ListenFault`] after 100
+/// failures in a row.
+pub fn serve_on<R: Threads + Wait + RandomSource + Copy + Send + 'static, A: Acceptor>(
+    rt: R,
+    alloc: Global,
+    acceptor: &mut A,
+    config: &Config,
+) -> Result<(), Fault>
+    requires realms { 0 < length config.now.realms.items }
+    requires least { 0 < config.now.outbox }
+    requires most { config.now.outbox ≤ 65536 }
+{
+    let plan = plan_of(alloc, config)?;
+    let mut hall = Hall::new(alloc, plan)?;
+    let served = match open(rt, &mut hall, config) {
+        Ok(()) => accept_all(rt, acceptor, &mut hall),
+        Err(fault) => Err(fault),
+    };
+    close(&rt, &mut hall);
+    served
+}
+
+fn copies_of(alloc: Global, realms: &[Topic]) -> Result<Vec<Topic>, AllocError> {
+    let mut copies = Vec::with_capacity(alloc, realms.len())?;
+    for realm in realms {
+        copies.push(realm.try_copy(alloc)?)?;
+    }
+    Ok(copies)
+}
+
+fn plan_of(alloc: Global, config: &Config) -> Result<Plan, AllocError>
+    requires least { 0 < config.now.outbox }
+    requires most { config.now.outbox ≤ 65536 }
+{
+    let realms = copies_of(alloc, &config.realms)?;
+    Ok(Plan {
+        realms,
+        outbox: config.outbox,
+    })
+}
+
+// What a realm of this name is made from.
+fn realm_config(alloc: Global, name: &Topic, config: &Config) -> Result<RealmConfig, AllocError> {
+    let name = name.try_copy(alloc)?;
+    let mut grants = Vec::with_capacity(alloc, config.grants.len())?;
+    for (authid, role) in &config.grants {
+        let authid = String::from_str(alloc, authid.as_str())?;
+        let role = String::from_str(alloc, role.as_str())?;
+        grants.push((authid, role))?;
+    }
+    Ok(RealmConfig { name, grants })
+}
+
+// Starts the realms' actors.
+fn open<R: Threads + Wait + RandomSource + Copy + Send + 'static, S: Shut + Send + 'static>(
+    rt: R,
+    hall: &mut Hall<S>,
+    config: &Config,
+) -> Result<(), Fault> {
+    for name in &config.realms {
+        open_realm(rt, hall, config, name)?;
+    }
+    Ok(())
+}
+
+fn open_realm<R: Threads + Wait + RandomSource + Copy + Send + 'static, S: Shut + Send + 'static>(
+    rt: R,
+    hall: &mut Hall<S>,
+    config: &Config,
+    name: &Topic,
+) -> Result<(), Fault> {
+    let alloc = hall.alloc;
+    let (door, seats, inbox) = inbox::<S>(alloc, MOST_POSTS)?;
+    let (teller, started) = bounded(alloc, 1)?;
+    let Ok(words) = Words::new(&rt, config.ids) else {
+        return Err(Fault::NoMemory);
+    };
+    let work = ActorWork {
+        alloc,
+        config: realm_config(alloc, name, config)?,
+        words,
+        inbox,
+        started: teller,
+        marks: Arc::try_clone(&hall.marks)?,
+    };
+    hall.realms.push(RealmEnds::new(alloc, door, seats)?)?;
+    match hall.realms.last_mut() {
+        Some(ends) => ends.start(rt, work, started),
+        None => Err(Fault::NoMemory),
+    }
+}
+
+// Accepts streams until there is an end to it.
+fn accept_all<R: Threads + Wait + Copy + Send + 'static, A: Acceptor>(
+    rt: R,
+    acceptor: &mut A,
+    hall: &mut Hall<A::Shut>,
+) -> Result<(), Fault> {
+    let mut failures: u32 = 0;
+    for _ in rt.forever() {
+        match acceptor.accept() {
+            Accepted::Stream(stream) => {
+                failures = 0;
+                hall.reap(&rt);
+                if let Ok(parts) = acceptor.split(hall.alloc, stream) {
+                    hall.admit(rt, parts);
+                }
+            }
+            Accepted::Stop => return Ok(()),
+            Accepted::Failed => {
+                failures = failures.saturating_add(1);
+                if failures >= MOST_FAILURES {
+                    return Err(Fault::ListenFault);
+                }
+                hall.reap(&rt);
+                acceptor.pause();
+            }
+        }
+    }
+    unreachable!()
+}
+
+// Stops the actors, ends the streams that no session's writer will end, and waits for all threads.
+fn close<R: Threads + Wait, S: Shut>(rt: &R, hall: &mut Hall<S>) {
+    if !stop_all(rt, hall) {
+        hall.shut(true);
+    }
+    for realm in hall.realms.iter_mut() {
+        realm.join(rt);
+    }
+    hall.shut(false);
+    hall.join_all(rt);
+}
+
+// False where an actor was gone already.
+fn stop_all<R: Wait, S: Shut>(rt: &R, hall: &mut Hall<S>) -> bool {
+    let mut all_told = true;
+    for realm in hall.realms.iter_mut() {
+        if !realm.stop(rt) {
+            all_told = false;
+        }
+    }
+    all_told
+}
