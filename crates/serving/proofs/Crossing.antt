@@ -20,9 +20,6 @@ use Rattle.outbox_queue.specs.contracts.drain.Drain as Drain
 use Rattle.rawsocket.proofs.handshake.Serializer.TheSendSync as serializer
 use Rattle.rawsocket.specs.contracts.handshake.Serializer as Serializer
 use Rattle.realm_inbox.proofs.Crossing.{inbox_send, poster_send}
-use Rattle.realm.proofs.realm.RealmConfig.TheSendSync as config
-use Rattle.realm.specs.contracts.realm.RealmConfig as RealmConfig
-use Rattle.realm_inbox.specs.contracts.ends.Inbox as Inbox
 use Rattle.realm_inbox.specs.contracts.ends.Poster as Poster
 use Rattle.realm_inbox.specs.contracts.history.RealmHistory as RealmHistory
 use Rattle.realm_inbox.specs.contracts.history.RealmHistoryOwedItem.TheImpl as owed

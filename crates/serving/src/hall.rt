@@ -137,11 +137,7 @@ impl<S: Shut + Send + 'static> Hall<S> {
         R: Threads + Wait + Copy + Send + 'static,
         I: Source + Drop + Send + 'static,
         O: Sink + Drop + Send + 'static,
-    >(
-        &mut self,
-        rt: R,
-        parts: Parts<I, O, S>,
-    ) {
+    >(&mut self, rt: R, parts: Parts<I, O, S>) {
         let Ok(conn) = self.seats.take() else {
             refuse(parts);
             return;
@@ -156,13 +152,7 @@ impl<S: Shut + Send + 'static> Hall<S> {
         R: Threads + Wait + Copy + Send + 'static,
         I: Source + Drop + Send + 'static,
         O: Sink + Drop + Send + 'static,
-    >(
-        &mut self,
-        rt: R,
-        conn: Conn,
-        parts: Parts<I, O, S>,
-        desk: Arc<Desk<S>>,
-    ) {
+    >(&mut self, rt: R, conn: Conn, parts: Parts<I, O, S>, desk: Arc<Desk<S>>) {
         let Ok(posters) = self.take_posters(conn) else {
             self.seats.give_back(conn);
             return;
@@ -232,10 +222,7 @@ fn start_reader<
     I: Source + Drop + Send + 'static,
     O: Sink + Drop + Send + 'static,
     S: Shut + Send + 'static,
->(
-    rt: R,
-    reader: Reader<I, O, S>,
-) -> Result<JoinHandle<()>, AllocError> {
+>(rt: R, reader: Reader<I, O, S>) -> Result<JoinHandle<()>, AllocError> {
     let handle = thread::spawn(&rt, move || reader.run(rt))?;
     Ok(handle)
 }

@@ -58,7 +58,12 @@ impl<I: Source + Drop, O: Sink + Drop + Send + 'static, S: Shut + Send + 'static
 }
 
 // Opens a session and serves it. None where there is none, or memory was refused.
-fn serve<R: Threads + Wait + Copy + Send + 'static, I: Source + Drop, O: Sink + Drop + Send + 'static, S: Shut + Send + 'static>(
+fn serve<
+    R: Threads + Wait + Copy + Send + 'static,
+    I: Source + Drop,
+    O: Sink + Drop + Send + 'static,
+    S: Shut + Send + 'static,
+>(
     rt: R,
     alloc: Global,
     plan: &Plan,

@@ -44,7 +44,11 @@ impl<S: Shut + Send + 'static> RealmEnds<S> {
 
 impl<S: Shut> RealmEnds<S> {
     /// A realm whose actor isn't started, with all seats of its inbox.
-    pub fn new(alloc: Global, door: Door<S>, seats: Vec<Seat<S>>) -> Result<RealmEnds<S>, AllocError> {
+    pub fn new(
+        alloc: Global,
+        door: Door<S>,
+        seats: Vec<Seat<S>>,
+    ) -> Result<RealmEnds<S>, AllocError> {
         let mut by_number = Vec::with_capacity(alloc, seats.len())?;
         for seat in seats {
             by_number.push(Some(seat))?;

@@ -93,7 +93,10 @@ impl<R: Clock + Drop> Acceptor for TcpAcceptor<R> {
         &mut self,
         alloc: Global,
         stream: TcpStream,
-    ) -> Result<Parts<ReadSource<TcpHandle>, WriteSink<BufWriter<TcpHandle>>, TcpHandle>, AllocError> {
+    ) -> Result<
+        Parts<ReadSource<TcpHandle>, WriteSink<BufWriter<TcpHandle>>, TcpHandle>,
+        AllocError,
+    > {
         let _ = stream.set_nodelay(true);
         let shut = TcpHandle {
             stream: Arc::new(alloc, stream)?,
