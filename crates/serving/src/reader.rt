@@ -4,16 +4,16 @@ ghost use Rattle.std.specs.Prelude.{◌≡◌, IfSome};
 use crate::plan::Plan;
 use crate::work::start;
 use crate::writer::Writer;
-use connection::read_posts;
+use connection::{EncodingPoster, Using, read_posts};
 use message_tree::Text;
 use outbox_queue::{Drain, pair};
 use rawsocket::{Sink, Source};
 use realm_inbox::{Act, Joining, Poster, RealmHistory, Shut};
-use session::{Item, open_session};
+use session::{Item, Opened, open_session};
 use std::alloc::Global;
 use std::sync::atomic::{AtomicBool, Ordering};
 use std::sync::{Arc, Mutex, Wait};
-use std::thread::Threads;
+use std::thread::{JoinHandle, Threads};
 use wamp_ids::Conn;
 
 /// The most octets that a payload has.
@@ -70,11 +70,98 @@ fn serve<
     mut source: I,
     mut sink: O,
     transport: &S,
-    posters: &mut [Poster<S>],
+    posters: &mut Vec<Poster<S>>,
 ) -> Option<()> {
-    let mut opened = open_session(alloc, &mut source, &mut sink, &plan.realms).ok()?;
-    let poster = posters.get_mut(opened.realm)?;
-    let (joining, drain) = joining(alloc, plan, opened.authid.take(), poster.conn(), transport)?;
+    let opened = open_session(alloc, &mut source, &mut sink, &plan.realms).ok()?;
+    let place = opened.realm;
+    if place >= posters.len() {
+        return None;
+    }
+    let poster = posters.remove(place);
+    let poster = talk(
+        rt,
+        alloc,
+        plan,
+        &mut source,
+        sink,
+        transport,
+        opened,
+        poster,
+    );
+    posters.insert(place, poster).ok()
+}
+
+// Serves a session that was opened, until it is over. The poster comes back.
+fn talk<
+    R: Threads + Wait + Copy + Send + 'static,
+    I: Source,
+    O: Sink + Drop + Send + 'static,
+    S: Shut + Send + 'static,
+>(
+    rt: R,
+    alloc: Global,
+    plan: &Plan,
+    source: &mut I,
+    sink: O,
+    transport: &S,
+    mut opened: Opened,
+    mut poster: Poster<S>,
+) -> Poster<S> {
+    let conn = poster.conn();
+    let Some(begun) = begin(rt, alloc, plan, sink, transport, &mut opened, conn) else {
+        return poster;
+    };
+    let Begun {
+        joining,
+        writer,
+        using,
+    } = begun;
+    let poster = match poster.post(&rt, Act::Join(joining)) {
+        Ok(()) => {
+            let mut encoding = EncodingPoster {
+                alloc,
+                in_use: using.in_use(),
+                poster,
+            };
+            read_posts(&rt, alloc, source, opened, &mut encoding);
+            encoding.poster
+        }
+        Err(_) => poster,
+    };
+    writer.join(&rt);
+    poster
+}
+
+// What a session begins with: its Join, its writer's thread, and its place among those who use its serialization.
+#[derive(Drop)]
+struct Begun<S: Shut> {
+    joining: Joining<S>,
+    writer: JoinHandle<()>,
+    using: Using,
+}
+
+// Starts the writer of a session. None where memory or a thread was refused.
+fn begin<
+    R: Threads + Wait + Copy + Send + 'static,
+    O: Sink + Drop + Send + 'static,
+    S: Shut + Send + 'static,
+>(
+    rt: R,
+    alloc: Global,
+    plan: &Plan,
+    sink: O,
+    transport: &S,
+    opened: &mut Opened,
+    conn: Conn,
+) -> Option<Begun<S>>
+    ensures { IfSome result (λ b. b.joining.outbox.conn ≡ conn) }
+{
+    let using = plan
+        .in_use
+        .get(opened.realm)?
+        .enter(opened.serializer)
+        .ok()?;
+    let (joining, drain) = joining(alloc, plan, opened.authid.take(), conn, transport)?;
     let writer = Writer {
         alloc,
         drain,
@@ -84,11 +171,11 @@ fn serve<
         limit: opened.limit.min(MOST_OCTETS),
     };
     let writer = start(rt, writer).ok()?;
-    if poster.post(&rt, Act::Join(joining)).is_ok() {
-        read_posts(&rt, alloc, &mut source, opened, poster);
-    }
-    writer.join(&rt);
-    Some(())
+    Some(Begun {
+        joining,
+        writer,
+        using,
+    })
 }
 
 // What the connection brings to join, with an outbox of its own, and the other end of that.

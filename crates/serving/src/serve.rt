@@ -9,6 +9,7 @@ use crate::hall::Hall;
 use crate::plan::Plan;
 use crate::realm_ends::RealmEnds;
 use crate::words::Words;
+use connection::InUse;
 use crossbeam_channel::bounded;
 use realm::RealmConfig;
 use realm_inbox::Shut;
@@ -63,13 +64,24 @@ fn copies_of(alloc: Global, realms: &[Topic]) -> Result<Vec<Topic>, AllocError> 
     Ok(copies)
 }
 
+// For each of so many realms, that nobody uses any serialization.
+fn counts_of(alloc: Global, realms: usize) -> Result<Vec<InUse>, AllocError> {
+    let mut counts = Vec::with_capacity(alloc, realms)?;
+    for _ in 0..realms {
+        counts.push(InUse::new(alloc)?)?;
+    }
+    Ok(counts)
+}
+
 fn plan_of(alloc: Global, config: &Config) -> Result<Plan, AllocError>
     requires least { 0 < config.now.outbox }
     requires most { config.now.outbox ≤ 65536 }
 {
     let realms = copies_of(alloc, &config.realms)?;
+    let in_use = counts_of(alloc, realms.len())?;
     Ok(Plan {
         realms,
+        in_use,
         outbox: config.outbox,
     })
 }
