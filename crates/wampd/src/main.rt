@@ -7,12 +7,17 @@ ghost use Rattle.broker_server.specs.Commands.{IsServable, status_of};
 
 use broker_server::{Command, Config, Fault, TcpAcceptor, read_command, replay, report, serve_on};
 use rawsocket::{ReadSource, Sink, Turns, WriteSink, send};
+use std::alloc::Global;
 use std::env;
-use std::net::TcpListener;
+use std::net::{Net, TcpListener, TcpStream};
 use std::process::ExitCode;
+use std::random::RandomSource;
+use std::sync::Wait;
+use std::thread::Threads;
+use std::time::Clock;
 
 fn main(rt: HostRuntime) -> ExitCode {
-    let ran = run(&rt);
+    let ran = run(&rt, rt);
     let mut errors = WriteSink::new(rt.stderr());
     ExitCode::from(status_after(ran, &mut errors))
 }
@@ -29,46 +34,51 @@ fn status_after<S: Sink>(ran: Result<(), Fault>, errors: &mut S) -> u8
 }
 
 /// Runs what the words after the program's name ask for.
-fn run(rt: &HostRuntime) -> Result<(), Fault> {
-    let alloc = rt.alloc();
-    let Ok(words) = env::args(rt) else {
+fn run<R>(host: &HostRuntime, rt: R) -> Result<(), Fault>
+where
+    R: Threads + Wait + RandomSource + Clock + Net<Stream = TcpStream, Listener = TcpListener> + Copy + Send + 'static,
+{
+    let alloc = host.alloc();
+    let Ok(words) = env::args(host) else {
         return Err(Fault::NoMemory);
     };
     let Ok(words) = words.skip(1).collect(alloc) else {
         return Err(Fault::NoMemory);
     };
     let words: Vec<String> = words;
-    let mut output = WriteSink::new(rt.stdout());
+    let mut output = WriteSink::new(host.stdout());
     match read_command(alloc, &words)? {
         Command::Help(text) => print(&mut output, text.as_str().as_bytes()),
         Command::Replay(config) => {
-            let mut input = ReadSource::new(rt.stdin());
+            let mut input = ReadSource::new(host.stdin());
             replay(alloc, &mut input, &mut output, &config)
         }
         Command::Serve { host, port, config } => {
-            serve(rt, &mut output, host.as_str(), port, &config)
+            serve(rt, alloc, &mut output, host.as_str(), port, &config)
         }
     }
 }
 
 /// Listens, says so, and serves whoever connects.
-fn serve<S: Sink>(
-    rt: &HostRuntime,
+fn serve<R, S: Sink>(
+    rt: R,
+    alloc: Global,
     output: &mut S,
     host: &str,
     port: u16,
     config: &Config,
 ) -> Result<(), Fault>
+where
+    R: Threads + Wait + RandomSource + Clock + Net<Stream = TcpStream, Listener = TcpListener> + Copy + Send + 'static,
     requires { IsServable config.now }
 {
-    let alloc = rt.alloc();
-    let Ok(listener) = TcpListener::bind(rt, (host, port)) else {
+    let Ok(listener) = TcpListener::bind(&rt, (host, port)) else {
         return Err(Fault::ListenFault);
     };
     let line = format!(in alloc; "listening on {host}:{port}\n")?;
     print(output, line.as_bytes())?;
-    let mut acceptor = TcpAcceptor::new(listener, *rt);
-    serve_on(*rt, alloc, &mut acceptor, config)?;
+    let mut acceptor = TcpAcceptor::new(listener, rt);
+    serve_on(rt, alloc, &mut acceptor, config)?;
     Ok(())
 }
 
