@@ -1,13 +1,11 @@
 //! One case.
 use crate::script::{Script, Step};
-use crate::stream::Client;
 use case_text::{line_of, number_of, octets_of, spell};
 use serving::{Config, Ids, serve_on};
 use std::alloc::Global;
 use std::collections::VecDeque;
 use std::io::{self, Write};
 use std::net::Net;
-use std::os::unix::net::UnixStream;
 use std::random::RandomSource;
 use std::sync::Wait;
 use std::thread::Threads;
@@ -18,15 +16,8 @@ const OUTBOX: usize = 256;
 
 /// What one case has.
 #[derive(Drop)]
-pub struct Case {
-    script: Script,
-}
-
-fn new_script(alloc: Global) -> Script {
-    Script {
-        steps: VecDeque::new(alloc),
-        clients: Vec::new(alloc),
-    }
+pub struct Case<R: Net + Drop> {
+    script: Script<R>,
 }
 
 fn config_of(alloc: Global) -> io::Result<Config> {
@@ -44,30 +35,25 @@ fn config_of(alloc: Global) -> io::Result<Config> {
     })
 }
 
-impl Case {
-    pub fn new(alloc: Global) -> Case {
+impl<R: Threads + Wait + RandomSource + Net + Drop + Copy + Send + 'static> Case<R> {
+    pub fn new(rt: R, alloc: Global) -> Case<R> {
         Case {
-            script: new_script(alloc),
+            script: Script::new(rt, alloc),
         }
     }
 
     /// Answers a line.
-    pub fn take<R: Threads + Wait + RandomSource + Net + Copy + Send + 'static>(
-        &mut self,
-        rt: R,
-        alloc: Global,
-        line: &str,
-    ) -> io::Result<String> {
+    pub fn take(&mut self, rt: R, alloc: Global, line: &str) -> io::Result<String> {
         let (word, rest) = line.split_once(' ').unwrap_or((line, ""));
         match word {
             "#" => {
-                self.script = new_script(alloc);
+                self.script = Script::new(rt, alloc);
                 return line_of(alloc, line);
             }
-            "client" => self.add(&rt, alloc, rest)?,
+            "client" => self.script.add(alloc, &octets_of(alloc, rest)?)?,
             "clients" => {
                 for _ in 0..number_of(rest) {
-                    self.add(&rt, alloc, "")?;
+                    self.script.add(alloc, &[])?;
                 }
             }
             "fails" => {
@@ -83,17 +69,6 @@ impl Case {
         Ok(String::new(alloc))
     }
 
-    // A stream whose client sends these octets.
-    fn add<R: Net>(&mut self, rt: &R, alloc: Global, text: &str) -> io::Result<()> {
-        let octets = octets_of(alloc, text)?;
-        let (ours, theirs) = UnixStream::pair(rt)?;
-        let mut stream = &theirs;
-        stream.write_all(&octets)?;
-        self.script.steps.push_back(Step::Gives(ours))?;
-        self.script.clients.push(Client::new(alloc, theirs))?;
-        Ok(())
-    }
-
     fn hear(&mut self, text: &str) -> io::Result<()> {
         let (_, count) = text.split_once(' ').unwrap_or((text, ""));
         self.wait(number_of(text), number_of(count))
@@ -105,15 +80,12 @@ impl Case {
         Ok(())
     }
 
-    fn serve<R: Threads + Wait + RandomSource + Net + Copy + Send + 'static>(
-        &mut self,
-        rt: R,
-        alloc: Global,
-    ) -> io::Result<String> {
+    fn serve(&mut self, rt: R, alloc: Global) -> io::Result<String> {
         let config = config_of(alloc)?;
         let mut told = match run(rt, alloc, &mut self.script, &config) {
-            Ok(()) => line_of(alloc, "ended")?,
-            Err(fault) => format!(in alloc; "{fault}\n")?,
+            None => line_of(alloc, "nothing can be served")?,
+            Some(Ok(())) => line_of(alloc, "ended")?,
+            Some(Err(fault)) => format!(in alloc; "{fault}\n")?,
         };
         // A stream that wasn't accepted is closed.
         self.script.steps = VecDeque::new(alloc);
@@ -131,11 +103,21 @@ impl Case {
     }
 }
 
-fn run<R: Threads + Wait + RandomSource + Copy + Send + 'static>(
+// None where there is nothing that can be served.
+fn run<R: Threads + Wait + RandomSource + Net + Drop + Copy + Send + 'static>(
     rt: R,
     alloc: Global,
-    script: &mut Script,
+    script: &mut Script<R>,
     config: &Config,
-) -> Result<(), serving::Fault> {
-    serve_on(rt, alloc, script, config)
+) -> Option<Result<(), serving::Fault>> {
+    if config.realms.len() == 0 {
+        return None;
+    }
+    if config.outbox == 0 {
+        return None;
+    }
+    if config.outbox > 65_536 {
+        return None;
+    }
+    Some(serve_on(rt, alloc, script, config))
 }

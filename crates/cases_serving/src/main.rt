@@ -19,7 +19,7 @@ use std::io;
 
 fn main(rt: HostRuntime) -> io::Result<()> {
     let alloc = rt.alloc();
-    let mut case = Case::new(alloc);
+    let mut case = Case::new(rt, alloc);
     for line in rt.lines(alloc) {
         let told = case.take(rt, alloc, line?.as_str())?;
         print!(rt; "{told}")?;

@@ -4,6 +4,8 @@ use rawsocket::{ReadSource, WriteSink};
 use serving::{Accepted, Acceptor, Parts};
 use std::alloc::{AllocError, Global};
 use std::collections::VecDeque;
+use std::io::{self, Write};
+use std::net::Net;
 use std::os::unix::net::UnixStream;
 
 /// What accepting does next.
@@ -19,12 +21,32 @@ pub enum Step {
 
 /// What is still to be accepted, and the clients of all streams.
 #[derive(Drop)]
-pub struct Script {
+pub struct Script<R: Net + Drop> {
+    net: R,
     pub steps: VecDeque<Step>,
     pub clients: Vec<Client>,
 }
 
-impl Script {
+impl<R: Net + Drop> Script<R> {
+    /// Nothing is to be accepted.
+    pub fn new(net: R, alloc: Global) -> Script<R> {
+        Script {
+            net,
+            steps: VecDeque::new(alloc),
+            clients: Vec::new(alloc),
+        }
+    }
+
+    /// A stream whose client sends these octets.
+    pub fn add(&mut self, alloc: Global, octets: &[u8]) -> io::Result<()> {
+        let (ours, theirs) = UnixStream::pair(&self.net)?;
+        let mut stream = &theirs;
+        stream.write_all(octets)?;
+        self.steps.push_back(Step::Gives(ours))?;
+        self.clients.push(Client::new(alloc, theirs))?;
+        Ok(())
+    }
+
     fn hear(&mut self, place: usize, count: u64) {
         if let Some(client) = self.clients.get_mut(place) {
             let _ = client.hear(count);
@@ -32,7 +54,7 @@ impl Script {
     }
 }
 
-impl Acceptor for Script {
+impl<R: Net + Drop> Acceptor for Script<R> {
     type Stream = UnixStream;
 
     type Source = ReadSource<End>;
