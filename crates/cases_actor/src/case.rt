@@ -4,7 +4,8 @@ ghost use Rattle.std.specs.Prelude.{◌≤◌, IfSome};
 use crate::acts::act_of;
 use crate::replaying::Replaying;
 use crate::room::Room;
-use case_text::line_of;
+use crate::threads::publish_all;
+use case_text::{line_of, number_of};
 use message_tree::Text;
 use std::alloc::Global;
 use std::sync::Wait;
@@ -72,6 +73,7 @@ impl Case {
             "grant" => self.grant(alloc, text),
             "actor" => self.begin(alloc),
             "line" => self.line(&rt, alloc, text),
+            "threads" => publish_all(rt, alloc, number_of(text)),
             _ => match &mut self.room {
                 None => line_of(alloc, "no actor"),
                 Some(room) => step(&rt, alloc, room, word, text),

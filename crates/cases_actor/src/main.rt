@@ -11,6 +11,8 @@
 //! - `take CONN` takes the next item of the outbox that the connection's last applied Join brought.
 //! - `live CONN`, `holds CONN`: whether its session is live, whether its outbox is held; `sweep` forgets the sessions that aren't live.
 //! - `line CONN TEXT`: a line of a replay as a post. All that waits is taken then, and told as a replay prints it.
+//! - `threads COUNT`: four connections publish so many times each, in a thread each, and a thread for each takes what it is given, while
+//!   the actor runs. Told is how many items are others than a realm gives for the same entries in the actor's order.
 #![tactic(auto)]
 
 mod acts;
@@ -18,10 +20,14 @@ mod case;
 mod counted;
 mod desk;
 mod drains;
+mod expecting;
+mod publishing;
 mod replaying;
 mod room;
 mod seating;
+mod threads;
 mod wire;
+mod work;
 
 use case::Case;
 use std::io;
