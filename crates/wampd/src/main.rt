@@ -36,7 +36,14 @@ fn status_after<S: Sink>(ran: Result<(), Fault>, errors: &mut S) -> u8
 /// Runs what the words after the program's name ask for.
 fn run<R>(host: &HostRuntime, rt: R) -> Result<(), Fault>
 where
-    R: Threads + Wait + RandomSource + Clock + Net<Stream = TcpStream, Listener = TcpListener> + Copy + Send + 'static,
+    R: Threads
+        + Wait
+        + RandomSource
+        + Clock
+        + Net<Stream = TcpStream, Listener = TcpListener>
+        + Copy
+        + Send
+        + 'static,
 {
     let alloc = host.alloc();
     let Ok(words) = env::args(host) else {
@@ -69,7 +76,14 @@ fn serve<R, S: Sink>(
     config: &Config,
 ) -> Result<(), Fault>
 where
-    R: Threads + Wait + RandomSource + Clock + Net<Stream = TcpStream, Listener = TcpListener> + Copy + Send + 'static,
+    R: Threads
+        + Wait
+        + RandomSource
+        + Clock
+        + Net<Stream = TcpStream, Listener = TcpListener>
+        + Copy
+        + Send
+        + 'static,
     requires { IsServable config.now }
 {
     let Ok(listener) = TcpListener::bind(&rt, (host, port)) else {
