@@ -1,0 +1,50 @@
+//! Acts, as a line has them.
+ghost use Rattle.std.specs.Prelude.{◌≡◌, ◌≤◌, false, IfOk, IfSome};
+ghost use Rattle.realm_inbox.specs.Joins.{is_join};
+
+use crate::wire::Wire;
+use case_items::said_of;
+use outbox_queue::{Drain, pair};
+use realm_inbox::{Act, Joining, RealmHistory};
+use session::Item;
+use std::alloc::Global;
+use std::io;
+use wamp_ids::Conn;
+
+/// What a connection brings to join, and the other end of its outbox.
+#[derive(Drop)]
+pub struct Entrance {
+    pub joining: Joining<Wire>,
+    pub drain: Drain<Item, RealmHistory>,
+}
+
+/// What a connection brings to join with this transport, and with an outbox in which so many items may wait.
+pub fn entrance_of(alloc: Global, conn: Conn, cap: usize, transport: Wire) -> io::Result<Entrance>
+    requires least { 1 ≤ cap }
+    requires most { cap ≤ 65536 }
+    ensures own { IfOk result (λ e. e.joining.outbox.conn ≡ conn) }
+    ensures drain { IfOk result (λ e. e.drain.conn ≡ conn) }
+    ensures pair { IfOk result (λ e. e.joining.outbox.queue ≡ e.drain.queue) }
+{
+    let (outbox, drain) = pair::<Item, RealmHistory>(alloc, conn.value(), cap)?;
+    let joining = Joining {
+        authid: None,
+        outbox,
+        transport,
+    };
+    Ok(Entrance { joining, drain })
+}
+
+/// The act that a word and what is behind it name, unless it is a Join.
+pub fn act_of(alloc: Global, word: &str, text: &str) -> io::Result<Option<Act<Wire>>>
+    ensures { IfOk result (λ found. IfSome found (λ act. is_join act ≡ false)) }
+{
+    match word {
+        "said" => match said_of(alloc, text)? {
+            Some(said) => Ok(Some(Act::Said(said))),
+            None => Ok(None),
+        },
+        "gone" => Ok(Some(Act::Gone)),
+        _ => Ok(None),
+    }
+}
