@@ -1,14 +1,21 @@
-// Refuses the allocation whose place, from 1, the variable FAIL_AT names, and writes to the file COUNT_FILE how many
-// allocations a run makes. It is preloaded by refuse_allocations, and no part of the program.
+// Refuses allocations: the one whose place, from 1, the variable FAIL_AT names, and those up to FAIL_COUNT places on (1 where it isn't set).
+// It writes to the file COUNT_FILE how many allocations a run makes; to the file SHARED_FILE, which has to have 16 octets, it writes both as
+// they rise, so that they can be read while the program runs: how many were asked for, and how many were refused. Where FAIL_THREADS is set,
+// a thread counts as an allocation too. It is preloaded by refuse_allocations and refuse_serving, and no part of the program.
 #define _GNU_SOURCE
 #include <dlfcn.h>
 #include <errno.h>
+#include <fcntl.h>
+#include <pthread.h>
 #include <stdio.h>
 #include <stdlib.h>
+#include <sys/mman.h>
 #include <sys/syscall.h>
 #include <unistd.h>
 
-static unsigned long made, refused;
+static unsigned long own[2], first, last;
+static unsigned long *counts = own; // how many were asked for, and how many were refused
+static int threads_count;
 
 // The allocator behind this one. None before it is found: dlsym itself may allocate.
 static void *behind(const char *name) {
@@ -16,18 +23,34 @@ static void *behind(const char *name) {
 }
 
 static int is_refused(void) {
-    unsigned long place = __atomic_add_fetch(&made, 1, __ATOMIC_SEQ_CST);
-    return refused && place == refused;
+    unsigned long place = __atomic_add_fetch(&counts[0], 1, __ATOMIC_SEQ_CST);
+    if (place < first || place > last) return 0;
+    __atomic_add_fetch(&counts[1], 1, __ATOMIC_SEQ_CST);
+    return 1;
+}
+
+static unsigned long number_of(const char *name, unsigned long otherwise) {
+    const char *text = getenv(name);
+    return text ? strtoul(text, NULL, 10) : otherwise;
 }
 
 __attribute__((constructor)) static void begin(void) {
-    const char *at = getenv("FAIL_AT");
-    refused = at ? strtoul(at, NULL, 10) : 0;
-    made = 0;
+    const char *name = getenv("SHARED_FILE");
+    int file = name ? open(name, O_RDWR) : -1;
+    if (file >= 0) {
+        void *page = mmap(NULL, sizeof own, PROT_READ | PROT_WRITE, MAP_SHARED, file, 0);
+        if (page != MAP_FAILED) counts = page;
+        close(file);
+    }
+    threads_count = getenv("FAIL_THREADS") != NULL;
+    counts[0] = counts[1] = 0;
+    unsigned long place = number_of("FAIL_AT", 0);
+    last = place ? place + number_of("FAIL_COUNT", 1) - 1 : 0;
+    first = place ? place : 1;
 }
 
 __attribute__((destructor)) static void end(void) {
-    unsigned long count = made; // before fopen's own
+    unsigned long count = counts[0]; // before fopen's own
     const char *name = getenv("COUNT_FILE");
     FILE *file = name ? fopen(name, "w") : NULL;
     if (file) {
@@ -64,4 +87,10 @@ void *aligned_alloc(size_t alignment, size_t size) {
     static void *(*next)(size_t, size_t);
     if (!next) next = behind("aligned_alloc");
     return is_refused() ? NULL : next(alignment, size);
+}
+
+int pthread_create(pthread_t *thread, const pthread_attr_t *how, void *(*run)(void *), void *given) {
+    static int (*next)(pthread_t *, const pthread_attr_t *, void *(*)(void *), void *);
+    if (!next) next = behind("pthread_create");
+    return threads_count && is_refused() ? EAGAIN : next(thread, how, run, given);
 }
