@@ -70,6 +70,8 @@ impl Case {
                 Ok(String::new(alloc))
             }
             "open" => self.stream.told(alloc),
+            "reads" => self.stream.told_of_reads(alloc),
+            "writes" => self.stream.told_of_writes(alloc),
             "arguments" => arguments(alloc),
             "threads" => threads(alloc),
             "replies" => replies(alloc),

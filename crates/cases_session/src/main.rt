@@ -16,6 +16,8 @@
 //!   - `first N`: only so many of the octets;
 //!   - `slowly`, `read N fails`, `write N fails`, as devices do;
 //!   - `then TEXT`: octets for the frames of an opened session.
+//! - `reads`, `writes`: opens a session so for each read, or each write and flush, that fails, the first one first, until none does, and
+//!   says how many octets were written and what came of it: a line for those that come to the same.
 #![tactic(auto)]
 
 mod case;

@@ -1,5 +1,5 @@
 //! The opening of a session over devices.
-use case_text::spelled;
+use case_text::{is_refused, spelled};
 use rawsocket::testing::{FailsAt, OneByOne};
 use rawsocket::{Deframer, Frame, Kind, MemorySource, Serializer, Sink, Source, WriteSink};
 use session::{Fault, Opened, open_session};
@@ -10,6 +10,18 @@ use wamp_ids::Topic;
 /// Room for all that an opening writes, so that its sink fails where a call is to fail, and nowhere
 /// else.
 const ROOM: usize = 4096;
+
+/// What an opening comes to where a read fails, and where a write does.
+const READ_FAULT: &str = "fault E16 read fault\n";
+
+const WRITE_FAULT: &str = "fault E17 write fault\n";
+
+/// What an opening wrote, and what came of it.
+#[derive(Drop)]
+struct Outcome {
+    octets: Vec<u8>,
+    comes: String,
+}
 
 /// What a client sends, and over which devices.
 #[derive(Drop)]
@@ -48,18 +60,56 @@ impl Stream {
 
     /// Opens a session, and says what is written, and what comes of it.
     pub fn told(&self, alloc: Global) -> io::Result<String> {
+        let outcome = self.run(alloc, self.failing_read, self.failing_write)?;
+        let text = spelled(alloc, outcome.octets.as_slice())?;
+        let comes = outcome.comes.as_str();
+        Ok(format!(in alloc; "wrote {text}\n{comes}")?)
+    }
+
+    /// The same for each read that fails, the first one first, until none does.
+    pub fn told_of_reads(&self, alloc: Global) -> io::Result<String> {
+        let whole = self.run(alloc, u64::MAX, u64::MAX)?;
+        let mut told = first_of(alloc, &whole)?;
+        for call in 0..u64::MAX {
+            let outcome = self.run(alloc, call, u64::MAX)?;
+            tell(alloc, &mut told, &outcome, &whole)?;
+            if outcome.comes.as_str() != READ_FAULT {
+                break;
+            }
+        }
+        Ok(told)
+    }
+
+    /// The same for each write that fails, and each flush.
+    pub fn told_of_writes(&self, alloc: Global) -> io::Result<String> {
+        let whole = self.run(alloc, u64::MAX, u64::MAX)?;
+        let mut told = first_of(alloc, &whole)?;
+        for call in 0..u64::MAX {
+            let outcome = self.run(alloc, u64::MAX, call)?;
+            tell(alloc, &mut told, &outcome, &whole)?;
+            if outcome.comes.as_str() != WRITE_FAULT {
+                break;
+            }
+        }
+        Ok(told)
+    }
+
+    // Opens a session where these calls fail.
+    fn run(&self, alloc: Global, failing_read: u64, failing_write: u64) -> io::Result<Outcome> {
         let source = MemorySource::new(self.octets.as_slice().to_vec(alloc)?);
         let sink = WriteSink::new(Vec::with_capacity(alloc, ROOM)?);
         if self.is_slow {
-            let mut source = FailsAt::new(OneByOne::new(source), self.failing_read);
-            let mut sink = FailsAt::new(OneByOne::new(sink), self.failing_write);
+            let mut source = FailsAt::new(OneByOne::new(source), failing_read);
+            let mut sink = FailsAt::new(OneByOne::new(sink), failing_write);
             let comes = self.open(alloc, &mut source, &mut sink)?;
-            written(alloc, sink.device.device.writer(), comes)
+            let octets = sink.device.device.writer().as_slice().to_vec(alloc)?;
+            Ok(Outcome { octets, comes })
         } else {
-            let mut source = FailsAt::new(source, self.failing_read);
-            let mut sink = FailsAt::new(sink, self.failing_write);
+            let mut source = FailsAt::new(source, failing_read);
+            let mut sink = FailsAt::new(sink, failing_write);
             let comes = self.open(alloc, &mut source, &mut sink)?;
-            written(alloc, sink.device.writer(), comes)
+            let octets = sink.device.writer().as_slice().to_vec(alloc)?;
+            Ok(Outcome { octets, comes })
         }
     }
 
@@ -80,9 +130,33 @@ fn fault_line(alloc: Global, fault: Fault) -> io::Result<String> {
     Ok(format!(in alloc; "fault {fault}\n")?)
 }
 
-fn written(alloc: Global, octets: &[u8], comes: String) -> io::Result<String> {
-    let text = spelled(alloc, octets)?;
-    Ok(format!(in alloc; "wrote {text}\n{comes}")?)
+// What is told first: nothing, unless memory was refused already.
+fn first_of(alloc: Global, whole: &Outcome) -> io::Result<String> {
+    if is_refused(whole.comes.as_str()) {
+        return Ok(String::from_str(alloc, whole.comes.as_str())?);
+    }
+    Ok(String::new(alloc))
+}
+
+// Adds a line that says how many octets an opening wrote, whether they are others than those of the whole, where no call fails, and what
+// came of it; none, if it is the line before.
+fn tell(alloc: Global, out: &mut String, outcome: &Outcome, whole: &Outcome) -> io::Result<()> {
+    let count = outcome.octets.len();
+    let comes = outcome.comes.as_str();
+    let others = if whole
+        .octets
+        .as_slice()
+        .starts_with(outcome.octets.as_slice())
+    {
+        ""
+    } else {
+        "other "
+    };
+    let line = format!(in alloc; "{count} {others}octets, {comes}")?;
+    if !out.as_str().ends_with(line.as_str()) {
+        out.push_str(line.as_str())?;
+    }
+    Ok(())
 }
 
 fn name_of(serializer: Serializer) -> &'static str {
