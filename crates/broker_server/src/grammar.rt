@@ -5,6 +5,7 @@ use std::alloc::{AllocError, Global};
 /// What a command line looks like.
 pub fn grammar<'a>(alloc: Global) -> Result<Command<'a>, AllocError> {
     Command::new(alloc, "wampd")
+        .bin_name("wampd")?
         .about("A publish-subscribe broker for WAMP")
         .no_binary_name(true)
         .subcommand_required(true)

@@ -8,11 +8,11 @@ ghost use Rattle.broker_server.specs.Transcript.{PrintsEntry, PrintsMore, after,
 ghost use Rattle.broker_server.specs.LineReplays.{PrintsOpening};
 
 use crate::fault::Fault;
-use crate::grants::copy_grants;
 use crate::print::{print_all, print_end, print_item};
 use crate::speech::Speech;
 use message_tree::Text;
 use realm_core::{Entry, RealmConfig, World};
+use serving::copy_grants;
 use session::{First, Item, Said, abort_reason, first};
 use std::alloc::Global;
 use std::marker::Model;

@@ -1,4 +1,5 @@
-//! What the drivers of case tables share: how octets stand in a line, and the lines of answers.
+//! What the drivers of case tables share: how octets stand in a line, the lines of answers, and the way from a
+//! line to its answer.
 //!
 //! In a table an octet of printable ASCII stands for itself, `\\` for a backslash, and `\7f` for any
 //! octet, by two lowercase hexadecimal digits.
@@ -6,8 +7,10 @@
 
 mod bounds;
 mod octets;
+mod table;
 mod words;
 
 pub use bounds::{crossing, may_be_sent, may_be_shared};
 pub use octets::{octets_of, spell, spelled, text_of};
+pub use table::{Table, tell_all};
 pub use words::{is_refused, line_of, number_of, part_of};

@@ -10,14 +10,12 @@ use Rattle.realm_inbox.specs.contracts.history.RealmHistory as RealmHistory
 use Rattle.realm_inbox.specs.contracts.history.RealmHistoryOwedItem.TheImpl as owed
 use Rattle.session.proofs.Crossing.{item_send}
 use Rattle.session.specs.contracts.item.Item as Item
+use Rattle.case_actors.proofs.Crossing.{wire_send}
+use Rattle.case_actors.specs.contracts.wire.Wire as Wire
+use Rattle.case_actors.specs.contracts.wire.WireShut.TheImpl as shut
 use Rattle.cases_actor.specs.contracts.publishing.Publisher as Publisher
 use Rattle.cases_actor.specs.contracts.publishing.Taken as Taken
 use Rattle.cases_actor.specs.contracts.publishing.Writer as Writer
-use Rattle.cases_actor.specs.contracts.wire.Wire as Wire
-use Rattle.cases_actor.specs.contracts.wire.WireShut.TheImpl as shut
-
-wire_send : IsSend Wire.the_row
-wire_send = search (crosses, sendable) depth 60
 
 poster_send : IsSend (Poster.the_row Wire.the_row shut.ghosts)
 poster_send = ends.poster_send Wire.the_row shut.ghosts wire_send

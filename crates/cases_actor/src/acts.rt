@@ -2,7 +2,7 @@
 ghost use Rattle.std.specs.Prelude.{◌≡◌, ◌≤◌, false, IfOk, IfSome};
 ghost use Rattle.realm_inbox.specs.Joins.{is_join};
 
-use crate::wire::Wire;
+use case_actors::Wire;
 use case_items::said_of;
 use case_text::octets_of;
 use message_tree::{Octets, Text};

@@ -1,10 +1,9 @@
 //! The words of the table.
-ghost use Rattle.std.specs.Prelude.{◌≤◌, IfSome};
-
 use crate::acts::act_of;
 use crate::replaying::Replaying;
 use crate::room::Room;
 use crate::threads::publish_all;
+use case_actors::{capacity, conn_and_rest, part};
 use case_text::{line_of, number_of};
 use message_tree::Text;
 use std::alloc::Global;
@@ -19,32 +18,6 @@ pub struct Case {
     grants: Vec<(String, String)>,
     room: Option<Room>,
     replaying: Replaying,
-}
-
-// The first word, and what is behind it.
-fn part(text: &str) -> (&str, &str) {
-    match text.split_once(' ') {
-        Some(parts) => parts,
-        None => (text, ""),
-    }
-}
-
-// The connection that a text begins with, and what is behind it.
-fn conn_and_rest(text: &str) -> Option<(Conn, &str)> {
-    let (number, rest) = part(text);
-    let conn = Conn::new(number.parse::<u64>().ok()?)?;
-    Some((conn, rest))
-}
-
-// A capacity that an outbox may have.
-fn capacity(text: &str) -> Option<usize>
-    ensures least { IfSome result (λ cap. 1 ≤ cap) }
-    ensures most { IfSome result (λ cap. cap ≤ 65536) }
-{
-    match text.parse::<usize>() {
-        Ok(cap) if 1 <= cap && cap <= 65536 => Some(cap),
-        _ => None,
-    }
 }
 
 impl Case {
@@ -118,6 +91,10 @@ fn step<R: Wait>(
         }
         "sweep" => {
             room.desk.sweep();
+            Ok(String::new(alloc))
+        }
+        "persist" => {
+            room.persist();
             Ok(String::new(alloc))
         }
         _ => match conn_and_rest(text) {

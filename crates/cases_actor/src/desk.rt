@@ -3,8 +3,7 @@ ghost use Rattle.std.specs.Prelude.{◌≡◌};
 ghost use Rattle.realm_inbox.specs.Shown.{received};
 ghost use Rattle.realm_actor.specs.Running.{SameAtSeats};
 
-use crate::counted::Counted;
-use crate::wire::Wire;
+use case_actors::{Counted, Wire};
 use realm_actor::{Actor, Inbox, Outcome};
 use std::alloc::Global;
 use std::marker::Model;

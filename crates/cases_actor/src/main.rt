@@ -7,6 +7,7 @@
 //!   `spoilt CONN` and `gone CONN` post another act, `stop` a stop. Each is posted at the connection's seat, by the poster that it has
 //!   there, or by a new one; the actor handles it at once. What is told: what became of it, whom it cut, and whose transports were
 //!   shut since the last post.
+//! - `persist`: the case goes on after a post for which the actor had no memory, and tells of it as of any other.
 //! - `leave CONN`: the connection's poster gives its seat back.
 //! - `take CONN` takes the next item of the outbox that the connection's last applied Join brought.
 //! - `live CONN`, `holds CONN`: whether its session is live, whether its outbox is held; `sweep` forgets the sessions that aren't live.
@@ -17,7 +18,6 @@
 
 mod acts;
 mod case;
-mod counted;
 mod desk;
 mod drains;
 mod expecting;
@@ -26,7 +26,6 @@ mod replaying;
 mod room;
 mod seating;
 mod threads;
-mod wire;
 mod work;
 
 use case::Case;

@@ -3,11 +3,10 @@ ghost use Rattle.std.specs.Prelude.{◌≡◌, ◌≤◌, [], false};
 ghost use Rattle.realm_inbox.specs.Joins.{is_join};
 ghost use Rattle.realm_inbox.specs.Shown.{received};
 
-use crate::counted::Counted;
 use crate::desk::Desk;
 use crate::drains::Drains;
 use crate::seating::{Entered, Seating};
-use crate::wire::Wire;
+use case_actors::{Counted, Watching, Wire};
 use case_text::line_of;
 use message_tree::Text;
 use realm::RealmConfig;
@@ -21,21 +20,14 @@ use wamp_ids::{Conn, Topic};
 /// How many posts may wait: each is handled before the next one is posted.
 const ROOM: usize = 4;
 
-/// A handle to the transport that a Join brought, and whether it was told that the transport is shut.
-#[derive(Drop)]
-struct Watched {
-    conn: Conn,
-    wire: Wire,
-    is_told: bool,
-}
-
 /// A realm's actor at its inbox, who posts there, the drains of the outboxes, and the transports.
 #[derive(Drop)]
 pub struct Room {
     pub seating: Seating,
     pub drains: Drains,
     pub desk: Desk,
-    watched: Vec<Watched>,
+    watching: Watching,
+    persists: bool,
 }
 
 fn desk_of(alloc: Global, grants: Vec<(String, String)>, inbox: Inbox<Wire>) -> io::Result<Desk>
@@ -59,14 +51,21 @@ impl Room {
             seating: Seating::new(alloc, door, seats),
             drains: Drains::new(alloc),
             desk,
-            watched: Vec::new(alloc),
+            watching: Watching::new(alloc),
+            persists: false,
         })
+    }
+
+    /// From now on the case goes on after a post for which the actor had no memory.
+    pub fn persist(&mut self) {
+        self.persists = true;
     }
 
     // Handles the post that waits.
     fn handle<R: Wait>(&mut self, rt: &R, alloc: Global) -> io::Result<Outcome> {
         match self.desk.handle(rt, alloc) {
-            Some(Outcome::NoMemory) | None => Err(AllocError)?,
+            None => Err(AllocError)?,
+            Some(Outcome::NoMemory) if !self.persists => Err(AllocError)?,
             Some(outcome) => Ok(outcome),
         }
     }
@@ -99,11 +98,7 @@ impl Room {
         entered: Entered,
     ) -> io::Result<Outcome> {
         let Entered { drain, wire } = entered;
-        self.watched.push(Watched {
-            conn,
-            wire,
-            is_told: false,
-        })?;
+        self.watching.add(conn, wire)?;
         let outcome = self.handle(rt, alloc)?;
         if outcome == Outcome::Applied {
             self.drains.put(conn, drain)?;
@@ -142,11 +137,12 @@ impl Room {
             seating,
             drains,
             desk,
-            watched,
+            watching,
+            persists: _,
         } = self;
         drop(seating);
         drop(drains);
-        drop(watched);
+        drop(watching);
         desk.run(rt, alloc);
     }
 
@@ -158,40 +154,6 @@ impl Room {
             Some(Outcome::Dropped) => "dropped",
             Some(Outcome::NoMemory) => "no memory",
         };
-        let mut line = String::from_str(alloc, outcome)?;
-        line.push_str(", cut [")?;
-        self.tell_cut(&mut line)?;
-        line.push_str("], shut [")?;
-        self.tell_shut(&mut line)?;
-        line.push_str("]\n")?;
-        Ok(line)
+        self.watching.told(alloc, outcome, self.desk.last_cut())
     }
-
-    fn tell_cut(&self, out: &mut String) -> io::Result<()> {
-        for conn in self.desk.last_cut() {
-            tell_conn(out, *conn)?;
-        }
-        Ok(())
-    }
-
-    // The transports that were shut since this was last told.
-    fn tell_shut(&mut self, out: &mut String) -> io::Result<()> {
-        for watched in self.watched.iter_mut() {
-            if !watched.is_told && watched.wire.is_shut() {
-                watched.is_told = true;
-                tell_conn(out, watched.conn)?;
-            }
-        }
-        Ok(())
-    }
-}
-
-// Adds a connection's number, behind a space unless it is the first within the brackets.
-fn tell_conn(out: &mut String, conn: Conn) -> io::Result<()> {
-    if !out.as_str().ends_with('[') {
-        out.push(' ')?;
-    }
-    let number = conn.value();
-    write!(out, "{number}")?;
-    Ok(())
 }

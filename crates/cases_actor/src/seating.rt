@@ -3,7 +3,7 @@ ghost use Rattle.std.specs.Prelude.{◌≡◌, ◌≤◌, ◌<◌, false, length
 ghost use Rattle.realm_inbox.specs.Joins.{is_join};
 
 use crate::acts::{Entrance, entrance_of};
-use crate::wire::Wire;
+use case_actors::Wire;
 use message_tree::Text;
 use outbox_queue::Drain;
 use realm_inbox::{Act, Door, Poster, Posting, RealmHistory, Seat};

@@ -8,7 +8,7 @@ use crate::handshakes::{handshake, no_seat};
 use crate::holding::{deep, octets, shared, text};
 use crate::reading::{json, msgpack, nested};
 use crate::sending::{failing_flush, held_back, no_room, threads};
-use case_text::{line_of, octets_of};
+use case_text::{Table, line_of, octets_of};
 use std::alloc::Global;
 use std::io;
 
@@ -24,9 +24,10 @@ impl Case {
             stream: Stream::new(alloc),
         }
     }
+}
 
-    /// Takes a line, and gives what it is answered by.
-    pub fn take(&mut self, alloc: Global, line: &str) -> io::Result<String> {
+impl Table for Case {
+    fn take(&mut self, alloc: Global, line: &str) -> io::Result<String> {
         match line.split_once(' ') {
             Some(("#", _)) => {
                 *self = Case::new(alloc);
@@ -40,7 +41,9 @@ impl Case {
             None => self.told_alone(alloc, line),
         }
     }
+}
 
+impl Case {
     fn told_alone(&self, alloc: Global, word: &str) -> io::Result<String> {
         match word {
             "held" => self.stream.held(alloc),

@@ -1,7 +1,7 @@
 use crate::admitting::{beyond, everyone, lists, taken, threads, who_in_words, who_of};
 use crate::matching::{dot, matches, pattern, same};
 use crate::naming::{conn, faults, id, moved, topic, word};
-use case_text::line_of;
+use case_text::{Table, line_of};
 use eligibility::Who;
 use std::alloc::Global;
 use std::io;
@@ -20,9 +20,10 @@ impl Case {
             receiver: None,
         }
     }
+}
 
-    /// Takes a line, and gives what it is answered by.
-    pub fn take(&mut self, alloc: Global, line: &str) -> io::Result<String> {
+impl Table for Case {
+    fn take(&mut self, alloc: Global, line: &str) -> io::Result<String> {
         match line.split_once(' ') {
             Some(("#", _)) => {
                 *self = Case::new();
@@ -43,7 +44,9 @@ impl Case {
             None => self.told_alone(alloc, line),
         }
     }
+}
 
+impl Case {
     fn told_alone(&self, alloc: Global, word: &str) -> io::Result<String> {
         match word {
             "everyone" => everyone(alloc, &self.receiver, &self.publisher),

@@ -1,6 +1,6 @@
 use crate::index::{drop_all, hold, matching, pattern, release};
 use crate::store::{count, keep, kept, room};
-use case_text::{crossing, line_of, may_be_shared};
+use case_text::{Table, crossing, line_of, may_be_shared};
 use retained::Store;
 use std::alloc::Global;
 use std::io;
@@ -20,9 +20,10 @@ impl Case {
             store: Store::new(alloc),
         }
     }
+}
 
-    /// Takes a line, and gives what it is answered by.
-    pub fn take(&mut self, alloc: Global, line: &str) -> io::Result<String> {
+impl Table for Case {
+    fn take(&mut self, alloc: Global, line: &str) -> io::Result<String> {
         match line.split_once(' ') {
             Some(("#", _)) => {
                 *self = Case::new(alloc);

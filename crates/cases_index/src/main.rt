@@ -26,34 +26,10 @@ mod reading;
 mod store;
 
 use case::Case;
-use case_text::is_refused;
-use std::alloc::Global;
+use case_text::tell_all;
 use std::io;
 
 fn main(rt: HostRuntime) -> io::Result<()> {
     let alloc = rt.alloc();
-    let mut case = Case::new(alloc);
-    tell_all(rt, alloc, &mut case)
-}
-
-fn tell_all(rt: HostRuntime, alloc: Global, case: &mut Case) -> io::Result<()> {
-    for line in rt.lines(alloc) {
-        tell(rt, alloc, case, line?)?;
-    }
-    Ok(())
-}
-
-/// Prints what a line is answered by.
-fn tell(rt: HostRuntime, alloc: Global, case: &mut Case, line: String) -> io::Result<()> {
-    let told = answer(alloc, case, line.as_str())?;
-    print!(rt; "{told}")
-}
-
-/// What a line is answered by; one that memory was refused for is taken once more.
-fn answer(alloc: Global, case: &mut Case, line: &str) -> io::Result<String> {
-    let told = case.take(alloc, line)?;
-    if is_refused(told.as_str()) {
-        return case.take(alloc, line);
-    }
-    Ok(told)
+    tell_all(rt, alloc, &mut Case::new(alloc))
 }

@@ -1,123 +1,186 @@
 //! One case.
-use crate::script::{Script, Step};
-use case_text::{line_of, number_of, octets_of, spell};
-use serving::{Config, Ids, serve_on};
+use crate::client::Client;
+use crate::loopback::Loopback;
+use crate::script::Script;
+use crate::steps::{Cue, Deed, Step};
+use crate::told::{tell, tell_last};
+use case_text::{line_of, number_of, octets_of};
+use serving::{Acceptor, Config, Ids, serve_on};
 use std::alloc::Global;
 use std::collections::VecDeque;
-use std::io::{self, Write};
-use std::net::Net;
+use std::io::{self, Read, Write};
+use std::mem;
+use std::net::{Net, TcpListener, TcpStream};
 use std::random::RandomSource;
 use std::sync::Wait;
 use std::thread::Threads;
+use std::time::Clock;
 use wamp_ids::Topic;
 
-/// How many items may wait for a session's writer.
+/// How many items may wait for a session's writer, where a case doesn't say.
 const OUTBOX: usize = 256;
 
 /// What one case has.
 #[derive(Drop)]
-pub struct Case<R: Net + Drop> {
-    script: Script<R>,
+pub struct Case {
+    steps: VecDeque<Step>,
+    // How many clients have come in these steps.
+    came: usize,
+    outbox: usize,
+    // How many of the last octets of each client are told, where not all are.
+    last: Option<u64>,
 }
 
-fn config_of(alloc: Global) -> io::Result<Config> {
-    let mut realms = Vec::new(alloc);
-    for name in ["r.one", "r.two"] {
-        if let Ok(realm) = Topic::read(alloc, name) {
-            realms.push(realm)?;
-        }
-    }
-    Ok(Config {
-        realms,
-        grants: Vec::new(alloc),
-        outbox: OUTBOX,
-        ids: Ids::Count,
-    })
-}
-
-impl<R: Threads + Wait + RandomSource + Net + Drop + Copy + Send + 'static> Case<R> {
-    pub fn new(rt: R, alloc: Global) -> Case<R> {
+impl Case {
+    pub fn new(alloc: Global) -> Case {
         Case {
-            script: Script::new(rt, alloc),
+            steps: VecDeque::new(alloc),
+            came: 0,
+            outbox: OUTBOX,
+            last: None,
         }
     }
 
-    /// Answers a line.
-    pub fn take(&mut self, rt: R, alloc: Global, line: &str) -> io::Result<String> {
+    fn config(&self, alloc: Global) -> io::Result<Config> {
+        let mut realms = Vec::new(alloc);
+        for name in ["r.one", "r.two"] {
+            if let Ok(realm) = Topic::read(alloc, name) {
+                realms.push(realm)?;
+            }
+        }
+        Ok(Config {
+            realms,
+            grants: Vec::new(alloc),
+            outbox: self.outbox,
+            ids: Ids::Count,
+        })
+    }
+
+    /// Answers a line that serves nothing.
+    pub fn take(&mut self, alloc: Global, line: &str) -> io::Result<String> {
         let (word, rest) = line.split_once(' ').unwrap_or((line, ""));
+        let number = number_of(rest);
+        let (_, after) = rest.split_once(' ').unwrap_or((rest, ""));
         match word {
             "#" => {
-                self.script = Script::new(rt, alloc);
+                *self = Case::new(alloc);
                 return line_of(alloc, line);
             }
-            "client" => self.script.add(alloc, &octets_of(alloc, rest)?)?,
-            "clients" => {
-                for _ in 0..number_of(rest) {
-                    self.script.add(alloc, &[])?;
-                }
-            }
-            "fails" => {
-                for _ in 0..number_of(rest) {
-                    self.script.steps.push_back(Step::Fails)?;
-                }
-            }
-            "hears" => self.hear(rest)?,
-            "ends" => self.wait(number_of(rest), u64::MAX)?,
-            "serve" => return self.serve(rt, alloc),
+            "outbox" => self.outbox = number as usize,
+            "last" => self.last = Some(number),
+            "client" => self.come(alloc, rest, false)?,
+            "standing" => self.come(alloc, rest, true)?,
+            "clients" => self.come_often(alloc, number)?,
+            "guests" => self.pass_by(alloc, number, after)?,
+            "fails" => self.fail(number)?,
+            "hears" => self.act(number, Deed::Hears(number_of(after)))?,
+            "ends" => self.act(number, Deed::Hears(u64::MAX))?,
+            "says" => self.act(number, Deed::Says(octets_of(alloc, after)?))?,
+            "stands" => self.act(number, Deed::Stands)?,
+            "frees" => self.act(number, Deed::Frees)?,
             _ => return line_of(alloc, "no case has this word"),
         }
         Ok(String::new(alloc))
     }
 
-    fn hear(&mut self, text: &str) -> io::Result<()> {
-        let (_, count) = text.split_once(' ').unwrap_or((text, ""));
-        self.wait(number_of(text), number_of(count))
-    }
-
-    fn wait(&mut self, client: u64, count: u64) -> io::Result<()> {
-        let place = client.saturating_sub(1) as usize;
-        self.script.steps.push_back(Step::Hears(place, count))?;
+    fn come(&mut self, alloc: Global, text: &str, stands: bool) -> io::Result<()> {
+        let octets = octets_of(alloc, text)?;
+        self.came = self.came.wrapping_add(1);
+        self.steps
+            .push_back(Step::Accepts(Cue::Comes { octets, stands }))?;
         Ok(())
     }
 
-    fn serve(&mut self, rt: R, alloc: Global) -> io::Result<String> {
-        let config = config_of(alloc)?;
-        let mut told = match run(rt, alloc, &mut self.script, &config) {
-            None => line_of(alloc, "nothing can be served")?,
-            Some(Ok(())) => line_of(alloc, "ended")?,
-            Some(Err(fault)) => format!(in alloc; "{fault}\n")?,
-        };
-        // A stream that wasn't accepted is closed.
-        self.script.steps = VecDeque::new(alloc);
-        let mut number: u64 = 0;
-        for client in self.script.clients.iter_mut() {
-            number = number.wrapping_add(1);
-            client.hear(u64::MAX)?;
-            if !client.got().is_empty() {
-                write!(told, "{number} got ")?;
-                spell(&mut told, client.got())?;
-                told.push('\n')?;
-            }
+    fn come_often(&mut self, alloc: Global, count: u64) -> io::Result<()> {
+        for _ in 0..count {
+            self.come(alloc, "", false)?;
         }
+        Ok(())
+    }
+
+    // Clients, each of which comes once the one before it has left.
+    fn pass_by(&mut self, alloc: Global, count: u64, text: &str) -> io::Result<()> {
+        for _ in 0..count {
+            self.come(alloc, text, false)?;
+            self.act(self.came as u64, Deed::Hears(u64::MAX))?;
+        }
+        Ok(())
+    }
+
+    fn fail(&mut self, count: u64) -> io::Result<()> {
+        for _ in 0..count {
+            self.steps.push_back(Step::Accepts(Cue::Fails))?;
+        }
+        Ok(())
+    }
+
+    fn act(&mut self, client: u64, deed: Deed) -> io::Result<()> {
+        let place = client.saturating_sub(1) as usize;
+        self.steps.push_back(Step::Does(place, deed))?;
+        Ok(())
+    }
+
+    /// Serves the clients over pairs of connected sockets.
+    pub fn serve<R: Threads + Wait + RandomSource + Net + Drop + Copy + Send + 'static>(
+        &mut self,
+        rt: R,
+        alloc: Global,
+    ) -> io::Result<String> {
+        let config = self.config(alloc)?;
+        let mut script = Script::new(rt, alloc, self.take_steps(alloc));
+        let mut told = run(rt, alloc, &mut script, &config)?;
+        self.tell(alloc, &mut told, &mut script.pairs.play.clients)?;
         Ok(told)
+    }
+
+    /// Serves the clients over TCP.
+    pub fn serve_tcp<
+        R: Threads
+            + Wait
+            + RandomSource
+            + Net<Stream = TcpStream, Listener = TcpListener>
+            + Clock
+            + Drop
+            + Copy
+            + Send
+            + 'static,
+    >(&mut self, rt: R, alloc: Global) -> io::Result<String> {
+        let config = self.config(alloc)?;
+        let mut loopback = Loopback::new(rt, alloc, self.take_steps(alloc))?;
+        let mut told = run(rt, alloc, &mut loopback, &config)?;
+        self.tell(alloc, &mut told, &mut loopback.sockets.play.clients)?;
+        Ok(told)
+    }
+
+    fn take_steps(&mut self, alloc: Global) -> VecDeque<Step> {
+        mem::replace(&mut self.steps, VecDeque::new(alloc))
+    }
+
+    fn tell<T: Read + Write + Drop>(
+        &self,
+        alloc: Global,
+        told: &mut String,
+        clients: &mut [Client<T>],
+    ) -> io::Result<()> {
+        match self.last {
+            None => tell(told, clients),
+            Some(count) => tell_last(alloc, told, clients, count as usize),
+        }
     }
 }
 
-// None where there is nothing that can be served.
-fn run<R: Threads + Wait + RandomSource + Net + Drop + Copy + Send + 'static>(
+// How serving ended.
+fn run<R: Threads + Wait + RandomSource + Copy + Send + 'static, A: Acceptor>(
     rt: R,
     alloc: Global,
-    script: &mut Script<R>,
+    acceptor: &mut A,
     config: &Config,
-) -> Option<Result<(), serving::Fault>> {
-    if config.realms.len() == 0 {
-        return None;
+) -> io::Result<String> {
+    if config.realms.len() == 0 || config.outbox == 0 || config.outbox > 65_536 {
+        return line_of(alloc, "nothing can be served");
     }
-    if config.outbox == 0 {
-        return None;
+    match serve_on(rt, alloc, acceptor, config) {
+        Ok(()) => line_of(alloc, "ended"),
+        Err(fault) => Ok(format!(in alloc; "{fault}\n")?),
     }
-    if config.outbox > 65_536 {
-        return None;
-    }
-    Some(serve_on(rt, alloc, script, config))
 }

@@ -1,27 +1,40 @@
 //! Cases of `serving`, as lines of standard input; what each gives is printed.
 //!
-//! - `# TEXT` begins a case, and is printed as it stands. Its broker has the realms `r.one` and `r.two`, and counts ids.
-//! - What is accepted, in order: `client TEXT`, a stream whose client sends these octets and then nothing more, where `\7f` is an octet;
-//!   `clients N`, so many whose clients send nothing; `fails N`, so many failures in a row. After the last one the broker is told to stop.
-//! - `hears K N`: before it goes on, the acceptor waits until the client of this number, from 1, got so many octets; `ends K`: until its
-//!   stream has ended.
-//! - `serve` serves all that, and tells how it ended and what each client got, if it got anything.
-//!
-//! The streams are pairs of connected sockets.
+//! - `# TEXT` begins a case, and is printed as it stands. Its broker has the realms `r.one` and `r.two`, and counts ids. `outbox N`: so many
+//!   items may wait for a session's writer, in place of 256.
+//! - What is accepted, in order: `client TEXT`, a stream whose client sends these octets, where `\7f` is an octet; `standing TEXT`, one
+//!   whose sink stands still when it is first written an EVENT, until it is freed or the broker shuts the stream; `clients N`, so many that
+//!   send nothing; `guests N TEXT`, so many that send these octets, each of which comes once the stream of the one before it has ended;
+//!   `fails N`, so many failures in a row. After the last one the broker is told to stop.
+//! - What is done before accepting goes on, to the client of this number, from 1: `hears K N`, it waits until it got so many octets;
+//!   `ends K`, until its stream has ended; `says K TEXT`, it sends these octets; `stands K`, its sink is waited for to stand still;
+//!   `frees K`, its sink goes on.
+//! - `serve` serves all that over pairs of connected sockets, `serve tcp` over TCP, where no sink stands still. It tells how serving ended
+//!   and what each client got, if it got anything; after `last N` only how many got the same last N octets as the first one, and what each
+//!   other one got.
 #![tactic(auto)]
 
 mod case;
+mod client;
+mod loopback;
 mod script;
+mod steps;
 mod stream;
+mod told;
 
 use case::Case;
 use std::io;
 
 fn main(rt: HostRuntime) -> io::Result<()> {
     let alloc = rt.alloc();
-    let mut case = Case::new(rt, alloc);
+    let mut case = Case::new(alloc);
     for line in rt.lines(alloc) {
-        let told = case.take(rt, alloc, line?.as_str())?;
+        let line = line?;
+        let told = match line.as_str() {
+            "serve" => case.serve(rt, alloc)?,
+            "serve tcp" => case.serve_tcp(rt, alloc)?,
+            line => case.take(alloc, line)?,
+        };
         print!(rt; "{told}")?;
     }
     Ok(())

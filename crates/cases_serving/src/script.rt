@@ -1,61 +1,81 @@
-//! An acceptor that follows a script.
-use crate::stream::{Client, End};
+//! An acceptor that follows a script, over pairs of connected sockets.
+ghost use Rattle.std.specs.Prelude.{◌≡◌, ◌++◌, ◌∷◌, []};
+
+use crate::client::Client;
+use crate::steps::{Cue, Play, Step};
+use crate::stream::End;
 use rawsocket::{ReadSource, WriteSink};
-use serving::{Accepted, Acceptor, Parts};
+use realm_inbox::Past;
+use serving::{Accepted, Acceptor, Answer, Parts};
 use std::alloc::{AllocError, Global};
 use std::collections::VecDeque;
-use std::io::{self, Write};
+use std::io;
 use std::net::Net;
 use std::os::unix::net::UnixStream;
-
-/// What accepting does next.
-#[derive(Drop)]
-pub enum Step {
-    /// It gives this stream.
-    Gives(UnixStream),
-    /// It fails.
-    Fails,
-    /// It waits until the client of this place, from 0, got so many octets.
-    Hears(usize, u64),
-}
+use std::snapshot::Snapshot;
 
 /// What is still to be accepted, and the clients of all streams.
 #[derive(Drop)]
-pub struct Script<R: Net + Drop> {
+pub struct Pairs<R: Net + Drop> {
     net: R,
-    pub steps: VecDeque<Step>,
-    pub clients: Vec<Client>,
+    alloc: Global,
+    pub play: Play<UnixStream>,
+}
+
+/// An acceptor that follows a script.
+#[derive(Drop)]
+pub struct Script<R: Net + Drop> {
+    pub pairs: Pairs<R>,
+    // It takes no bytes.
+    answers: Past<Answer>,
 }
 
 impl<R: Net + Drop> Script<R> {
-    /// Nothing is to be accepted.
-    pub fn new(net: R, alloc: Global) -> Script<R> {
-        Script {
-            net,
-            steps: VecDeque::new(alloc),
+    /// Nobody has come yet.
+    pub fn new(net: R, alloc: Global, steps: VecDeque<Step>) -> Script<R> {
+        let play = Play {
+            steps,
             clients: Vec::new(alloc),
+        };
+        Script {
+            pairs: Pairs { net, alloc, play },
+            answers: Past::new(),
+        }
+    }
+}
+
+impl<R: Net + Drop> Pairs<R> {
+    fn accept(&mut self) -> Accepted<End> {
+        match self.play.next() {
+            Cue::Stops => Accepted::Stop,
+            Cue::Fails => Accepted::Failed,
+            Cue::Comes { octets, stands } => match self.connect(&octets, stands) {
+                Ok(end) => Accepted::Stream(end),
+                Err(_) => Accepted::Failed,
+            },
         }
     }
 
-    /// A stream whose client sends these octets.
-    pub fn add(&mut self, alloc: Global, octets: &[u8]) -> io::Result<()> {
+    // The broker's end of a new stream, whose client sends these octets.
+    fn connect(&mut self, octets: &[u8], stands: bool) -> io::Result<End> {
         let (ours, theirs) = UnixStream::pair(&self.net)?;
-        let mut stream = &theirs;
-        stream.write_all(octets)?;
-        self.steps.push_back(Step::Gives(ours))?;
-        self.clients.push(Client::new(alloc, theirs))?;
-        Ok(())
-    }
-
-    fn hear(&mut self, place: usize, count: u64) {
-        if let Some(client) = self.clients.get_mut(place) {
-            let _ = client.hear(count);
-        }
+        let (at_sink, at_client) = if stands {
+            let (at_sink, at_client) = UnixStream::pair(&self.net)?;
+            (Some(at_sink), Some(at_client))
+        } else {
+            (None, None)
+        };
+        let mut client = Client::new(self.alloc, theirs, at_client);
+        client.say(octets)?;
+        self.play.clients.push(client)?;
+        Ok(End::new(self.alloc, ours, at_sink)?)
     }
 }
 
 impl<R: Net + Drop> Acceptor for Script<R> {
-    type Stream = UnixStream;
+    ghost use Rattle.realm_inbox.specs.Past.{items_of};
+
+    type Stream = End;
 
     type Source = ReadSource<End>;
 
@@ -63,28 +83,23 @@ impl<R: Net + Drop> Acceptor for Script<R> {
 
     type Shut = End;
 
-    fn accept(&mut self) -> Accepted<UnixStream> {
-        for _ in 0..u64::MAX {
-            match self.steps.pop_front() {
-                None => return Accepted::Stop,
-                Some(Step::Gives(stream)) => return Accepted::Stream(stream),
-                Some(Step::Fails) => return Accepted::Failed,
-                Some(Step::Hears(place, count)) => self.hear(place, count),
-            }
-        }
-        Accepted::Stop
+    ghost answers = { λ s. items_of s.answers };
+
+    fn accept(&mut self) -> Accepted<End> {
+        let accepted = self.pairs.accept();
+        self.answers.add(Snapshot::of(&accepted.answer()));
+        accepted
     }
 
     fn split(
         &mut self,
-        alloc: Global,
-        stream: UnixStream,
+        _alloc: Global,
+        stream: End,
     ) -> Result<Parts<ReadSource<End>, WriteSink<End>, End>, AllocError> {
-        let shut = End::new(alloc, stream)?;
         Ok(Parts {
-            source: ReadSource::new(shut.another()?),
-            sink: WriteSink::new(shut.another()?),
-            shut,
+            source: ReadSource::new(stream.another()?),
+            sink: WriteSink::new(stream.another()?),
+            shut: stream,
         })
     }
 

@@ -3,7 +3,7 @@ use crate::publishing::{arguments, carried, event, threads};
 use crate::saying::said;
 use crate::telling::{faults, reasons, replies};
 use crate::writing::{frame, frames};
-use case_text::{line_of, number_of, octets_of};
+use case_text::{Table, line_of, number_of, octets_of};
 use std::alloc::Global;
 use std::io;
 
@@ -19,9 +19,10 @@ impl Case {
             stream: Stream::new(alloc),
         }
     }
+}
 
-    /// Takes a line, and gives what it is answered by.
-    pub fn take(&mut self, alloc: Global, line: &str) -> io::Result<String> {
+impl Table for Case {
+    fn take(&mut self, alloc: Global, line: &str) -> io::Result<String> {
         match line.split_once(' ') {
             Some(("#", _)) => {
                 self.stream = Stream::new(alloc);
@@ -37,7 +38,9 @@ impl Case {
             None => self.run(alloc, line),
         }
     }
+}
 
+impl Case {
     fn set(&mut self, alloc: Global, word: &str, text: &str) -> io::Result<String> {
         match word {
             "octets" => self

@@ -11,7 +11,7 @@ use Rattle.realm_actor.specs.Naming.{outbox_of}
 use Rattle.realm_actor.specs.Running.{stands_at}
 use Rattle.realm_actor.specs.Settling.{IsOther}
 use Rattle.cases_settle.specs.declared.side.Side.{Side}
-use Rattle.cases_settle.specs.declared.wire.Wire.{Wire}
+use Rattle.case_actors.specs.declared.wire.Wire.{Wire}
 
 -- the drain is of c, and the other end of the outbox of c, which is held
 abbrev pub Pairs : ℕ → Option Box → Option (Taking Item History) → Type 0

@@ -1,8 +1,7 @@
 //! The words of the table.
-ghost use Rattle.std.specs.Prelude.{◌≤◌, IfSome};
-
 use crate::acts::act_of;
 use crate::room::Room;
+use case_actors::{capacity, conn_and_rest, part};
 use case_items::item_text;
 use case_text::line_of;
 use session::Item;
@@ -40,32 +39,6 @@ impl Case {
                 Some(room) => step(rt, alloc, room, (word, text)),
             },
         }
-    }
-}
-
-// The first word, and what is behind it.
-fn part(text: &str) -> (&str, &str) {
-    match text.split_once(' ') {
-        Some(parts) => parts,
-        None => (text, ""),
-    }
-}
-
-// The connection that a text begins with, and what is behind it.
-fn conn_and_rest(text: &str) -> Option<(Conn, &str)> {
-    let (number, rest) = part(text);
-    let conn = Conn::new(number.parse::<u64>().ok()?)?;
-    Some((conn, rest))
-}
-
-// A capacity that an outbox may have.
-fn capacity(text: &str) -> Option<usize>
-    ensures least { IfSome result (λ cap. 1 ≤ cap) }
-    ensures most { IfSome result (λ cap. cap ≤ 65536) }
-{
-    match text.parse::<usize>() {
-        Ok(cap) if 1 <= cap && cap <= 65536 => Some(cap),
-        _ => None,
     }
 }
 

@@ -3,11 +3,11 @@ ghost use Rattle.std.specs.Prelude.{◌≡◌, [], false};
 ghost use Rattle.realm_inbox.specs.Joins.{is_join};
 ghost use Rattle.realm_actor.specs.Acting.{Acting as AnActing};
 ghost use Rattle.cases_settle.specs.Sides.{IsSide};
-ghost use Rattle.cases_settle.specs.declared.wire.Wire.{Wire as AWire};
+ghost use Rattle.case_actors.specs.declared.wire.Wire.{Wire as AWire};
 
 use crate::acts::Entrance;
 use crate::side::{Acting, Side, enter, post, settle, stop};
-use crate::wire::Wire;
+use case_actors::Wire;
 use realm_actor::Outcome;
 use realm_inbox::Act;
 use session::Item;

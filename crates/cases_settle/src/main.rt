@@ -13,11 +13,9 @@
 
 mod acts;
 mod case;
-mod counted;
 mod hands;
 mod room;
 mod side;
-mod wire;
 
 use case::Case;
 use std::io;

@@ -3,10 +3,9 @@ ghost use Rattle.std.specs.Prelude.{◌≡◌, ◌≤◌, [], false, IfOk};
 ghost use Rattle.realm_inbox.specs.Joins.{is_join};
 
 use crate::acts::entrance_of;
-use crate::counted::Counted;
 use crate::hands::Hands;
 use crate::side::Acting;
-use crate::wire::Wire;
+use case_actors::{Counted, Watching, Wire};
 use case_text::line_of;
 use realm::RealmConfig;
 use realm_actor::{Actor, Outcome};
@@ -16,19 +15,11 @@ use std::io;
 use std::sync::Wait;
 use wamp_ids::{Conn, Topic};
 
-/// A handle to the transport that a Join brought, and whether it was told that the transport is shut.
-#[derive(Drop)]
-struct Watched {
-    conn: Conn,
-    wire: Wire,
-    is_told: bool,
-}
-
 /// An actor that handles posts made by hand, and the transports of its sessions.
 #[derive(Drop)]
 pub struct Room {
     pub hands: Hands,
-    watched: Vec<Watched>,
+    watching: Watching,
 }
 
 fn actor_of(alloc: Global) -> io::Result<Acting>
@@ -50,7 +41,7 @@ impl Room {
     pub fn new(alloc: Global) -> io::Result<Room> {
         Ok(Room {
             hands: Hands::new(actor_of(alloc)?),
-            watched: Vec::new(alloc),
+            watching: Watching::new(alloc),
         })
     }
 
@@ -74,11 +65,7 @@ impl Room {
     fn watch(&mut self, alloc: Global, conn: Conn) -> io::Result<Wire> {
         let transport = Wire::new(alloc)?;
         let wire = transport.again()?;
-        self.watched.push(Watched {
-            conn,
-            wire,
-            is_told: false,
-        })?;
+        self.watching.add(conn, wire)?;
         Ok(transport)
     }
 
@@ -90,40 +77,6 @@ impl Room {
             Some(Outcome::Applied) => "applied",
             Some(Outcome::Dropped) => "dropped",
         };
-        let mut line = String::from_str(alloc, outcome)?;
-        line.push_str(", cut [")?;
-        self.tell_cut(&mut line)?;
-        line.push_str("], shut [")?;
-        self.tell_shut(&mut line)?;
-        line.push_str("]\n")?;
-        Ok(line)
+        self.watching.told(alloc, outcome, self.hands.last_cut())
     }
-
-    fn tell_cut(&self, out: &mut String) -> io::Result<()> {
-        for conn in self.hands.last_cut() {
-            tell_conn(out, *conn)?;
-        }
-        Ok(())
-    }
-
-    // The transports that were shut since this was last told.
-    fn tell_shut(&mut self, out: &mut String) -> io::Result<()> {
-        for watched in self.watched.iter_mut() {
-            if !watched.is_told && watched.wire.is_shut() {
-                watched.is_told = true;
-                tell_conn(out, watched.conn)?;
-            }
-        }
-        Ok(())
-    }
-}
-
-// Adds a connection's number, behind a space unless it is the first within the brackets.
-fn tell_conn(out: &mut String, conn: Conn) -> io::Result<()> {
-    if !out.as_str().ends_with('[') {
-        out.push(' ')?;
-    }
-    let number = conn.value();
-    write!(out, "{number}")?;
-    Ok(())
 }

@@ -10,11 +10,10 @@ ghost use Rattle.realm_actor.specs.Naming.{outbox_of};
 ghost use Rattle.realm_actor.specs.Running.{stands_at};
 ghost use Rattle.realm_actor.specs.declared.outcome.Outcome.TheVariants.{Applied as IsApplied};
 ghost use Rattle.cases_settle.specs.Sides.{IsSide, Pairs, Stays, StaysHeld};
-ghost use Rattle.cases_settle.specs.declared.wire.Wire.{Wire as AWire};
+ghost use Rattle.case_actors.specs.declared.wire.Wire.{Wire as AWire};
 
 use crate::acts::Entrance;
-use crate::counted::Counted;
-use crate::wire::Wire;
+use case_actors::{Counted, Wire};
 use outbox_queue::{Drain, Next};
 use realm_actor::{Actor, Outcome};
 use realm_inbox::{Act, Letter, Past, Post, RealmHistory};

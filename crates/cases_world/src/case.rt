@@ -5,7 +5,7 @@ use crate::entries::{entry_of, step_of};
 use crate::telling::{given_text, outcome_text, run_text};
 use crate::words::{conn, number, part};
 use case_items::unless_refused;
-use case_text::line_of;
+use case_text::{Table, line_of};
 use realm_core::{Entry, RealmConfig, Step, World};
 use std::alloc::{AllocError, Global};
 use std::{io, mem};
@@ -27,9 +27,10 @@ impl Case {
             steps: Vec::new(alloc),
         }
     }
+}
 
-    /// Takes a line, and gives what it is answered by.
-    pub fn take(&mut self, alloc: Global, line: &str) -> io::Result<String> {
+impl Table for Case {
+    fn take(&mut self, alloc: Global, line: &str) -> io::Result<String> {
         let (word, rest) = part(line);
         match word {
             "#" => {
@@ -48,7 +49,9 @@ impl Case {
             },
         }
     }
+}
 
+impl Case {
     fn grant(&mut self, alloc: Global, text: &str) -> io::Result<String> {
         let (authid, role) = part(text);
         let authid = String::from_str(alloc, authid)?;

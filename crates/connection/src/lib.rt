@@ -4,6 +4,9 @@
 //! [`read_posts`] and [`write_items`] run in a thread each, and end only where their stream or the other threads make them. Each
 //! says by its end what was posted, or written, of all that it read, or took. By an [`EncodingPoster`] a reader posts what is encoded
 //! once for many receivers.
+//!
+//! It stands on `session`, `rawsocket`, `outbox_queue` and `realm_inbox`. Contracts compare what was posted with what the octets spell,
+//! and what was written with the frames of the items.
 #![tactic(auto)]
 
 mod encoding;

@@ -5,6 +5,9 @@
 //!
 //! What no tree carries (a float, a value of an extension type, a str that isn't UTF-8, a map with
 //! a key that isn't a str) is read past into `Uncarried`.
+//!
+//! It stands on `message_tree`. Contracts say which octets spell a message, that reading accepts each spelling of it and
+//! nothing else, and that what is written is the shortest.
 mod appender;
 mod fault;
 mod form;

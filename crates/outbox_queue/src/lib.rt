@@ -8,6 +8,8 @@
 //! two ends together again.
 //!
 //! Nothing is promised of time: neither that a call returns while the other end is inside its step, nor that a writer wakes.
+//!
+//! It stands on no other crate of this repository.
 #![tactic(auto)]
 
 mod count;

@@ -1,6 +1,10 @@
 //! A realm: what each entry of its history gives each session.
 //!
 //! The model stands in `specs/` and looks back over the history; [`Realm`] is a body that meets it.
+//!
+//! It stands on `session`, `eligibility`, `subscription_index` and `retained`. Contracts say that what [`Realm::apply`] gives is, session
+//! by session and in order, what the history says; [`laws`] says what follows of every history. Of the posts that entered, and in
+//! which order, `specs/PostedOrder` speaks: the crates above show it of their own schedules.
 #![tactic(auto)]
 
 mod announcing;

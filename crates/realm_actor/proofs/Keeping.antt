@@ -10,8 +10,8 @@ use Rattle.realm.specs.declared.entry.Entry.TheVariants as entry
 use Rattle.realm.specs.Granting.{Grants}
 use Rattle.realm.specs.History.{History, begun, ◌▷◌}
 use Rattle.realm.specs.Sessions.{conn_of, who, live, may_come, may_join}
-use Rattle.realm_core.specs.PostedOrder.{posts_of, said_by, AreSome, joins_first_alone}
-use Rattle.realm_core.proofs.Ordered.{Ordered, order-begun, order-accepted, order-dropped, order-lost, order-lost-cut, order-cut, some-more, joins-before}
+use Rattle.realm.specs.PostedOrder.{posts_of, said_by, AreSome, joins_first_alone}
+use Rattle.realm.proofs.Entering.{Ordered, order-begun, order-accepted, order-dropped, order-lost, order-lost-cut, order-cut, some-more, joins-before}
 use Rattle.realm_inbox.specs.declared.act.Act as the
 use Rattle.realm_inbox.specs.declared.act.Act.TheVariants.{Join, Said, Ping, Spoilt, Gone}
 use Rattle.realm_inbox.specs.declared.letter.Letter.{Letter}

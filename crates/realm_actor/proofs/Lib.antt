@@ -12,6 +12,7 @@ pub mod Doing
 pub mod Leaving
 pub mod Knowing
 pub mod Stopping
+pub mod Receiving
 pub mod Turning
 pub mod Making
 pub mod Holding

@@ -7,8 +7,8 @@ use Rattle.realm.specs.declared.entry.Entry.TheVariants as entry
 use Rattle.realm.specs.Granting.{Grants}
 use Rattle.realm.specs.History.{History, begun, ◌▷◌}
 use Rattle.realm.specs.Sessions.{live}
-use Rattle.realm_core.specs.PostedOrder.{posts_of, said_by, joins_first_alone}
-use Rattle.realm_core.proofs.Ordered.{Ordered}
+use Rattle.realm.specs.PostedOrder.{posts_of, said_by, joins_first_alone}
+use Rattle.realm.proofs.Entering.{Ordered}
 use Rattle.realm_inbox.specs.declared.letter.Post.{Post}
 use Rattle.realm_inbox.specs.declared.letter.Post.TheVariants.{Stop}
 use Rattle.realm_actor.specs.Acting.{Acting}

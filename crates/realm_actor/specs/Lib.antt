@@ -9,5 +9,6 @@ pub mod Standing
 pub mod Acting
 pub mod Settling
 pub mod Making
+pub mod Ahead
 pub mod Running
 pub mod Order

@@ -8,7 +8,7 @@ use Rattle.realm.specs.Granting.{Grants}
 use Rattle.realm.specs.History.{History, begun}
 use Rattle.realm.specs.Sessions.{live}
 use Rattle.realm.specs.Laws.{BeginsList}
-use Rattle.realm_core.specs.PostedOrder.{said_by, AreSome, joins_first_alone}
+use Rattle.realm.specs.PostedOrder.{said_by, AreSome, joins_first_alone}
 use Rattle.realm_inbox.specs.declared.act.Act.{Act}
 use Rattle.realm_inbox.specs.declared.letter.Post.{Post}
 use Rattle.realm_inbox.specs.declared.letter.Post.TheVariants as post

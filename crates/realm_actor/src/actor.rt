@@ -105,7 +105,7 @@ impl<S: Shut, W: IdSource> Actor<S, W> {
         outcome
     }
 
-    // The same, but nobody is woken whose outbox isn't half full.
+    // The same, but a writer is woken only where its outbox has got a quarter of what it can hold.
     pub(crate) fn take<R: Wait>(&mut self, rt: &R, alloc: Global, post: Post<S>) -> Outcome
         ensures handles { Handles result post self.old self.new }
     {

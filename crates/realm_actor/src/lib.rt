@@ -10,6 +10,8 @@
 //! unless a step found the outbox full ([`Actor::shows`]).
 //!
 //! Nothing is promised of time, nor that a writer is woken or a transport is shut.
+//!
+//! It stands on `realm`, `realm_inbox` and `outbox_queue`.
 #![tactic(auto)]
 
 mod actor;

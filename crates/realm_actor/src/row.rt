@@ -152,11 +152,10 @@ impl<S: Shut> Row<S> {
         }
     }
 
-    /// The same, if these items are half of its outbox's capacity: then its waking may not wait.
+    /// The same, if these items are a quarter of its outbox's capacity: then its waking may not wait.
     pub fn wake_in_need(&self) {
         if let Some(held) = &self.held {
-            let capacity = held.outbox.capacity();
-            held.wake_from(capacity - capacity / 2);
+            held.wake_from(held.outbox.capacity().div_ceil(4));
         }
     }
 }

@@ -3,7 +3,6 @@ pub mod Owing
 pub mod Marking
 pub mod Boxes
 pub mod Queued
-pub mod Ordered
 pub mod Causes
 pub mod Reached
 pub mod Fronts

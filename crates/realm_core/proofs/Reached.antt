@@ -17,12 +17,13 @@ use Rattle.realm.specs.Yield.{owed}
 use Rattle.realm.specs.Given.{items_for}
 use Rattle.realm.specs.Laws.{BeginsList, EventsFollowSubscribed, EventsAreAdmitted, EventsWhileSubscribed}
 use Rattle.realm_core.specs.Worlds.{Course, new_world, is_in, marked, unless_any, EntersIfLive, Posts, Accepts, Loses, Pushes, Takes, Leaves, Moves, Reaches, IsReached}
-use Rattle.realm_core.specs.PostedOrder.{said_by, posts_of, joins_first_alone, AreSome, KeepsPostedOrder}
+use Rattle.realm.specs.PostedOrder.{said_by, posts_of, joins_first_alone, AreSome}
+use Rattle.realm_core.specs.PostedOrder.{KeepsPostedOrder}
 use Rattle.realm_core.specs.Delivery.{CutsHaveCauses, TakenBeginsOwed, TakesSubscribedFirst, AllIsThere, Delivers}
 use Rattle.realm_core.specs.Marks.{NoneJoinsAgain}
 use Rattle.realm_core.proofs.Owing.{Owing, owing-enters, owing-pushed, owing-found, owing-marked}
 use Rattle.realm_core.proofs.Queued.{Queued, queued-begun, queued-pushed, queued-taken}
-use Rattle.realm_core.proofs.Ordered.{Ordered, some-more, joins-before, order-begun, order-accepted, order-dropped, order-lost, order-cut, order-lost-cut}
+use Rattle.realm.proofs.Entering.{Ordered, some-more, joins-before, order-begun, order-accepted, order-dropped, order-lost, order-cut, order-lost-cut}
 use Rattle.realm_core.proofs.Due.{takes-what-is-due}
 use Rattle.realm_core.proofs.Marking.{HaveJoined, joined-enters, joined-rest, joined-more}
 use Rattle.realm_core.proofs.Causes.{HaveCauses, causes-accepted, causes-handled, causes-lost, causes-lost-cut, causes-left, causes-marked, causes-posted}

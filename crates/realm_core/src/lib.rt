@@ -3,6 +3,9 @@
 //!
 //! What each step does is a relation of `specs/`, one case for each kind of step; [`World`] is a body
 //! that meets it. [`laws`] has what holds of every history and of every world.
+//!
+//! It stands on `realm`. Contracts say of each step what it changes, and that the queues are those of the model; what was taken of a
+//! session's queue is then, by the laws, a beginning of what the history owes it.
 #![tactic(auto)]
 
 mod copying;

@@ -7,6 +7,8 @@
 //! [`laws`] says so of every moment.
 //!
 //! Nothing is promised of time: neither that a call returns while the inbox is full or empty, nor which seat comes first.
+//!
+//! It stands on `realm` (what is posted) and `outbox_queue` (what a Join brings).
 #![tactic(auto)]
 
 mod act;

@@ -59,10 +59,10 @@ option_send R s = search (sendable, crosses) depth 40
 
 module _ (S : RattleType) (shut : Ghosts S.Denot) where
   abbrev posters : RattleType
-  posters = Option.the_row (Vec.the_row (Poster.the_row S shut) Global.the_row global.ghosts)
+  posters = Option.the_row (Vec.the_row (Option.the_row (Poster.the_row S shut)) Global.the_row global.ghosts)
 
   posters_send : IsSend S → IsSend posters
-  posters_send s = option_send _ (heap.Vec-send _ (poster_send S shut s))
+  posters_send s = option_send _ (heap.Vec-send _ (option_send _ (poster_send S shut s)))
 
   desk_send : IsSend S → IsSend (Mutex.the_row posters)
   desk_send s = let p = posters_send s in search (p, crosses, sendable) depth 40

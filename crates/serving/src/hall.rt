@@ -2,11 +2,11 @@
 use crate::acceptor::Parts;
 use crate::marks::{Marks, SEATS};
 use crate::plan::Plan;
-use crate::reader::{Desk, Reader};
+use crate::reader::{Desk, Posters, Reader};
 use crate::realm_ends::RealmEnds;
 use connection::Seats;
 use rawsocket::{Sink, Source, Turns, no_seat_reply, send};
-use realm_inbox::{Poster, Shut};
+use realm_inbox::Shut;
 use std::alloc::{AllocError, Global};
 use std::sync::atomic::{AtomicBool, Ordering};
 use std::sync::{Arc, Mutex, Wait};
@@ -91,18 +91,20 @@ impl<S: Shut> Hall<S> {
         }
     }
 
-    fn put_posters(&mut self, posters: Vec<Poster<S>>) {
+    fn put_posters(&mut self, posters: Posters<S>) {
         for (realm, poster) in self.realms.iter_mut().zip(posters) {
-            realm.put_seat(poster.into_seat());
+            if let Some(poster) = poster {
+                realm.put_seat(poster.into_seat());
+            }
         }
     }
 
     // A poster of the connection in each realm, up to the first in which its seat isn't free.
-    fn take_posters(&mut self, conn: Conn) -> Result<Vec<Poster<S>>, AllocError> {
+    fn take_posters(&mut self, conn: Conn) -> Result<Posters<S>, AllocError> {
         let mut posters = Vec::with_capacity(self.alloc, self.realms.len())?;
         for realm in self.realms.iter_mut() {
             match realm.take_poster(self.alloc, conn) {
-                Some(poster) => posters.push(poster)?,
+                Some(poster) => posters.push(Some(poster))?,
                 None => break,
             }
         }

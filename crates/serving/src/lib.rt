@@ -13,8 +13,10 @@
 
 mod acceptor;
 mod actor_work;
+mod answer;
 mod config;
 mod fault;
+mod grants;
 mod hall;
 mod marks;
 mod plan;
@@ -27,7 +29,9 @@ mod work;
 mod writer;
 
 pub use acceptor::{Accepted, Acceptor, Parts};
+pub use answer::Answer;
 pub use config::{Config, Ids};
 pub use fault::Fault;
+pub use grants::copy_grants;
 pub use serve::serve_on;
 pub use tcp::{TcpAcceptor, TcpHandle};

@@ -19,8 +19,11 @@ use wamp_ids::Conn;
 /// The most octets that a payload has.
 const MOST_OCTETS: u32 = 16_777_215;
 
-/// Where the posters of a connection lie while its reader doesn't have them: one of each realm, in the order of the realms.
-pub type Desk<S> = Mutex<Option<Vec<Poster<S>>>>;
+/// The posters of a connection, one of each realm, in the order of the realms. One that is in use isn't here.
+pub type Posters<S> = Vec<Option<Poster<S>>>;
+
+/// Where the posters of a connection lie while its reader doesn't have them.
+pub type Desk<S> = Mutex<Option<Posters<S>>>;
 
 /// What a reader's thread has.
 #[derive(Drop)]
@@ -70,48 +73,45 @@ fn serve<
     mut source: I,
     mut sink: O,
     transport: &S,
-    posters: &mut Vec<Poster<S>>,
+    posters: &mut Posters<S>,
 ) -> Option<()> {
     let opened = open_session(alloc, &mut source, &mut sink, &plan.realms).ok()?;
-    let place = opened.realm;
-    if place >= posters.len() {
-        return None;
-    }
-    let poster = posters.remove(place);
-    let poster = talk(
-        rt,
+    let place = posters.get_mut(opened.realm)?;
+    let poster = place.take()?;
+    let session = Session {
         alloc,
         plan,
-        &mut source,
-        sink,
         transport,
+        sink,
         opened,
-        poster,
-    );
-    posters.insert(place, poster).ok()
+    };
+    *place = Some(talk(rt, session, &mut source, poster));
+    Some(())
 }
 
-// Serves a session that was opened, until it is over. The poster comes back.
+// A session that was opened, and what it is served with.
+#[derive(Drop)]
+struct Session<'a, O, S> {
+    alloc: Global,
+    plan: &'a Plan,
+    transport: &'a S,
+    sink: O,
+    opened: Opened,
+}
+
+// Serves a session until it is over. The poster comes back.
 fn talk<
     R: Threads + Wait + Copy + Send + 'static,
     I: Source,
     O: Sink + Drop + Send + 'static,
     S: Shut + Send + 'static,
->(
-    rt: R,
-    alloc: Global,
-    plan: &Plan,
-    source: &mut I,
-    sink: O,
-    transport: &S,
-    mut opened: Opened,
-    mut poster: Poster<S>,
-) -> Poster<S> {
-    let conn = poster.conn();
-    let Some(begun) = begin(rt, alloc, plan, sink, transport, &mut opened, conn) else {
+>(rt: R, session: Session<O, S>, source: &mut I, mut poster: Poster<S>) -> Poster<S> {
+    let alloc = session.alloc;
+    let Some(begun) = begin(rt, session, poster.conn()) else {
         return poster;
     };
     let Begun {
+        opened,
         joining,
         writer,
         using,
@@ -132,11 +132,13 @@ fn talk<
     poster
 }
 
-// What a session begins with: its Join, its writer's thread, and its place among those who use its serialization.
+// A session whose writer runs.
 #[derive(Drop)]
 struct Begun<S: Shut> {
+    opened: Opened,
     joining: Joining<S>,
     writer: JoinHandle<()>,
+    // Its place among those who use its serialization.
     using: Using,
 }
 
@@ -145,22 +147,18 @@ fn begin<
     R: Threads + Wait + Copy + Send + 'static,
     O: Sink + Drop + Send + 'static,
     S: Shut + Send + 'static,
->(
-    rt: R,
-    alloc: Global,
-    plan: &Plan,
-    sink: O,
-    transport: &S,
-    opened: &mut Opened,
-    conn: Conn,
-) -> Option<Begun<S>>
+>(rt: R, session: Session<O, S>, conn: Conn) -> Option<Begun<S>>
     ensures { IfSome result (λ b. b.joining.outbox.conn ≡ conn) }
 {
-    let using = plan
-        .in_use
-        .get(opened.realm)?
-        .enter(opened.serializer)
-        .ok()?;
+    let Session {
+        alloc,
+        plan,
+        transport,
+        sink,
+        mut opened,
+    } = session;
+    let in_use = plan.in_use.get(opened.realm)?;
+    let using = in_use.enter(opened.serializer).ok()?;
     let (joining, drain) = joining(alloc, plan, opened.authid.take(), conn, transport)?;
     let writer = Writer {
         alloc,
@@ -172,6 +170,7 @@ fn begin<
     };
     let writer = start(rt, writer).ok()?;
     Some(Begun {
+        opened,
         joining,
         writer,
         using,

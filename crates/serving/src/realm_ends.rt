@@ -4,7 +4,6 @@ ghost use Rattle.wamp_ids.specs.Numbers.{seat_of};
 ghost use Rattle.realm_inbox.specs.Shown.{poster_conn, seat_number};
 
 use crate::actor_work::ActorWork;
-use crate::fault::Fault;
 use crate::work::start;
 use crossbeam_channel::Receiver;
 use realm_inbox::{Door, Poster, Seat, Shut};
@@ -32,12 +31,12 @@ impl<S: Shut + Send + 'static> RealmEnds<S> {
         rt: R,
         work: ActorWork<S>,
         started: Receiver<bool>,
-    ) -> Result<(), Fault> {
+    ) -> Result<(), AllocError> {
         let actor = start(rt, work)?;
         self.actor = Some(actor);
         match started.recv(&rt) {
             Ok(true) => Ok(()),
-            _ => Err(Fault::NoMemory),
+            _ => Err(AllocError),
         }
     }
 }

@@ -1,10 +1,13 @@
 //! The accepting thread.
-ghost use Rattle.std.specs.Prelude.{◌≤◌, ◌<◌, length};
+ghost use Rattle.std.specs.Prelude.{◌≡◌, ◌≤◌, ◌<◌, length, IfOk};
+ghost use Rattle.realm.specs.Granting.{pairs_of};
+ghost use Rattle.serving.specs.Answers.{Serves};
 
 use crate::acceptor::{Accepted, Acceptor};
 use crate::actor_work::ActorWork;
 use crate::config::Config;
 use crate::fault::Fault;
+use crate::grants::copy_grants;
 use crate::hall::Hall;
 use crate::plan::Plan;
 use crate::realm_ends::RealmEnds;
@@ -45,15 +48,28 @@ pub fn serve_on<R: Threads + Wait + RandomSource + Copy + Send + 'static, A: Acc
     requires realms { 0 < length config.now.realms.items }
     requires least { 0 < config.now.outbox }
     requires most { config.now.outbox ≤ 65536 }
+    ensures { Serves (A.answers acceptor.old) (A.answers acceptor.new) result }
 {
     let plan = plan_of(alloc, config)?;
     let mut hall = Hall::new(alloc, plan)?;
-    let served = match open(rt, &mut hall, config) {
-        Ok(()) => accept_all(rt, acceptor, &mut hall),
-        Err(fault) => Err(fault),
-    };
+    let served = open_and_accept(rt, acceptor, &mut hall, config);
     close(&rt, &mut hall);
     served
+}
+
+// Starts the realms' actors, and accepts streams until there is an end to it.
+fn open_and_accept<R: Threads + Wait + RandomSource + Copy + Send + 'static, A: Acceptor>(
+    rt: R,
+    acceptor: &mut A,
+    hall: &mut Hall<A::Shut>,
+    config: &Config,
+) -> Result<(), Fault>
+    ensures { Serves (A.answers acceptor.old) (A.answers acceptor.new) result }
+{
+    if let Err(_) = open(rt, hall, config) {
+        return Err(Fault::NoMemory);
+    }
+    accept_all(rt, acceptor, hall)
 }
 
 fn copies_of(alloc: Global, realms: &[Topic]) -> Result<Vec<Topic>, AllocError> {
@@ -87,15 +103,13 @@ fn plan_of(alloc: Global, config: &Config) -> Result<Plan, AllocError>
 }
 
 // What a realm of this name is made from.
-fn realm_config(alloc: Global, name: &Topic, config: &Config) -> Result<RealmConfig, AllocError> {
-    let name = name.try_copy(alloc)?;
-    let mut grants = Vec::with_capacity(alloc, config.grants.len())?;
-    for (authid, role) in &config.grants {
-        let authid = String::from_str(alloc, authid.as_str())?;
-        let role = String::from_str(alloc, role.as_str())?;
-        grants.push((authid, role))?;
-    }
-    Ok(RealmConfig { name, grants })
+fn realm_config(alloc: Global, name: &Topic, config: &Config) -> Result<RealmConfig, AllocError>
+    ensures { IfOk result (λ made. (made.name ≡ name.now) × (pairs_of made.grants.items ≡ pairs_of config.now.grants.items)) }
+{
+    Ok(RealmConfig {
+        name: name.try_copy(alloc)?,
+        grants: copy_grants(alloc, &config.grants)?,
+    })
 }
 
 // Starts the realms' actors.
@@ -103,7 +117,7 @@ fn open<R: Threads + Wait + RandomSource + Copy + Send + 'static, S: Shut + Send
     rt: R,
     hall: &mut Hall<S>,
     config: &Config,
-) -> Result<(), Fault> {
+) -> Result<(), AllocError> {
     for name in &config.realms {
         open_realm(rt, hall, config, name)?;
     }
@@ -115,12 +129,12 @@ fn open_realm<R: Threads + Wait + RandomSource + Copy + Send + 'static, S: Shut 
     hall: &mut Hall<S>,
     config: &Config,
     name: &Topic,
-) -> Result<(), Fault> {
+) -> Result<(), AllocError> {
     let alloc = hall.alloc;
     let (door, seats, inbox) = inbox::<S>(alloc, MOST_POSTS)?;
     let (teller, started) = bounded(alloc, 1)?;
     let Ok(words) = Words::new(&rt, config.ids) else {
-        return Err(Fault::NoMemory);
+        return Err(AllocError);
     };
     let work = ActorWork {
         alloc,
@@ -133,7 +147,7 @@ fn open_realm<R: Threads + Wait + RandomSource + Copy + Send + 'static, S: Shut 
     hall.realms.push(RealmEnds::new(alloc, door, seats)?)?;
     match hall.realms.last_mut() {
         Some(ends) => ends.start(rt, work, started),
-        None => Err(Fault::NoMemory),
+        None => Err(AllocError),
     }
 }
 
@@ -142,9 +156,11 @@ fn accept_all<R: Threads + Wait + Copy + Send + 'static, A: Acceptor>(
     rt: R,
     acceptor: &mut A,
     hall: &mut Hall<A::Shut>,
-) -> Result<(), Fault> {
+) -> Result<(), Fault>
+    ensures { Serves (A.answers acceptor.old) (A.answers acceptor.new) result }
+{
     let mut failures: u32 = 0;
-    for _ in rt.forever() {
+    'accepting: for _ in rt.forever() {
         match acceptor.accept() {
             Accepted::Stream(stream) => {
                 failures = 0;
@@ -155,7 +171,7 @@ fn accept_all<R: Threads + Wait + Copy + Send + 'static, A: Acceptor>(
             }
             Accepted::Stop => return Ok(()),
             Accepted::Failed => {
-                failures = failures.saturating_add(1);
+                failures += 1;
                 if failures >= MOST_FAILURES {
                     return Err(Fault::ListenFault);
                 }

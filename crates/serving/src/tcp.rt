@@ -1,10 +1,14 @@
 //! Streams over TCP.
+ghost use Rattle.std.specs.Prelude.{◌≡◌, ◌++◌, ◌∷◌, []};
+
 use crate::acceptor::{Accepted, Acceptor, Parts};
+use crate::answer::Answer;
 use rawsocket::{ReadSource, WriteSink};
-use realm_inbox::Shut;
+use realm_inbox::{Past, Shut};
 use std::alloc::{AllocError, Global};
 use std::io::{self, BufWriter, Read, Write};
 use std::net::{Shutdown, TcpListener, TcpStream};
+use std::snapshot::Snapshot;
 use std::sync::Arc;
 use std::thread;
 use std::time::{Clock, Duration};
@@ -63,16 +67,26 @@ impl Write for TcpHandle {
 pub struct TcpAcceptor<R: Clock + Drop> {
     listener: TcpListener,
     clock: R,
+    // It takes no bytes.
+    answers: Past<Answer>,
 }
 
 impl<R: Clock + Drop> TcpAcceptor<R> {
     /// Accepts on a listener that is bound.
     pub fn new(listener: TcpListener, clock: R) -> TcpAcceptor<R> {
-        TcpAcceptor { listener, clock }
+        TcpAcceptor {
+            listener,
+            clock,
+            answers: Past::new(),
+        }
     }
 }
 
 impl<R: Clock + Drop> Acceptor for TcpAcceptor<R> {
+    ghost use Rattle.realm_inbox.specs.Past.{items_of};
+
+    ghost answers = { λ a. items_of a.answers };
+
     type Stream = TcpStream;
 
     type Source = ReadSource<TcpHandle>;
@@ -82,10 +96,12 @@ impl<R: Clock + Drop> Acceptor for TcpAcceptor<R> {
     type Shut = TcpHandle;
 
     fn accept(&mut self) -> Accepted<TcpStream> {
-        match self.listener.accept() {
+        let accepted = match self.listener.accept() {
             Ok((stream, _)) => Accepted::Stream(stream),
             Err(_) => Accepted::Failed,
-        }
+        };
+        self.answers.add(Snapshot::of(&accepted.answer()));
+        accepted
     }
 
     // Small writes go out at once: what waits for more octets is held back before the stream.

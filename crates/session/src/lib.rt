@@ -1,5 +1,8 @@
 //! The messages of WAMP sessions: what clients say and what the broker answers, between trees and
 //! types.
+//!
+//! It stands on the codecs, `rawsocket`, `wamp_ids` and `eligibility`. Contracts say what each message of a client means,
+//! which message answers it, which octets that message is, and how an opening goes, octet by octet.
 #![tactic(auto)]
 
 mod appender;

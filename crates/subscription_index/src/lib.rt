@@ -1,4 +1,7 @@
 //! Who holds which patterns, under which subscription numbers, and which of them match a topic.
+//!
+//! It stands on `wamp_ids`. Contracts compare it with a list of holdings: what is added, found and removed is what a look
+//! through the whole list would give, in the same order.
 #![tactic(auto)]
 
 mod fault;

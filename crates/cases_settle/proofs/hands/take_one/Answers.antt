@@ -4,7 +4,7 @@ use Rattle.realm_actor.specs.Acting.{Acting}
 use Rattle.realm_actor.specs.Following.{Box}
 use Rattle.realm_actor.specs.Naming.{outbox_of}
 use Rattle.cases_settle.specs.declared.side.Side.{Side}
-use Rattle.cases_settle.specs.declared.wire.Wire.{Wire}
+use Rattle.case_actors.specs.declared.wire.Wire.{Wire}
 use Rattle.cases_settle.specs.Sides.{Pairs, IsSide}
 use Rattle.cases_settle.proofs.hands.take_one.Goals as goal
 

@@ -10,7 +10,7 @@ use Rattle.realm_actor.specs.Naming.{outbox_of}
 use Rattle.realm_actor.specs.Running.{stands_at}
 use Rattle.realm_actor.specs.Settling.{IsOther}
 use Rattle.cases_settle.specs.declared.side.Side.{Side}
-use Rattle.cases_settle.specs.declared.wire.Wire.{Wire}
+use Rattle.case_actors.specs.declared.wire.Wire.{Wire}
 use Rattle.cases_settle.specs.Sides.{Pairs, IsSide}
 use Rattle.cases_settle.proofs.side.enter.Goals as goal
 

@@ -1,12 +1,12 @@
-use Rattle.std.proofs.Common.{subst, ◌≡◌, ◌++◌, ◌∷◌, []}
-use Rattle.std.specs.Prelude.{MatchOption, IfSome}
-use Rattle.realm_inbox.specs.Seats.{IsNext}
 use Rattle.realm_inbox.specs.Shown.{received}
+use Rattle.realm_actor.proofs.Receiving.{next_there, next_given}
 use Rattle.realm_actor.proofs.actor.Actor.next_post.Goals as goal
 
-pub returns-clause-given : goal.returns-clause-given
-returns-clause-given g c =
-    subst (λ l. MatchOption c.receive.result (received c.receive.new.self ≡ l) (λ p. received c.receive.new.self ≡ l ++ p ∷ [])) c.in_default.ensures.given c.receive.ensures.given
+pub returns-in-Some : goal.returns-in-Some
+returns-in-Some g c =
+    next_there c.ready_post-ready.result (received c.args.inbox.now) (received c.ready_post-ready.new.inbox) c.args.ahead.now.items c.ready_post-ready.new.ahead.items c.in-Some.post c.ready_post-ready.ensures c.in-Some.is
 
-pub returns-clause-in_turn : goal.returns-clause-in_turn
-returns-clause-in_turn g c = subst (λ l. IfSome c.receive.result (λ p. IsNext l p)) c.in_default.ensures.given c.receive.ensures.in_turn
+pub returns : goal.returns
+returns g c =
+    next_given c.ready_post-ready.result c.receive.result (received c.args.inbox.now) (received c.ready_post-ready.new.inbox) (received c.receive.new.self) c.args.ahead.now.items c.ready_post-ready.new.ahead.items
+    c.ready_post-ready.ensures c.in_default.is c.receive.ensures.given c.receive.ensures.in_turn

@@ -6,20 +6,21 @@ use Rattle.realm_actor.proofs.Holding.{ran_holds}
 use Rattle.realm_actor.proofs.actor.Actor.run.Goals as goal
 
 pub loop-init : goal.loop-init
-loop-init g c = progress_none c.args.self (received c.args.inbox.now) c.requires.in_turn
+loop-init g c = progress_none c.args.self (received c.args.inbox.now) c.new-ahead.result.items c.requires.in_turn c.new-ahead.ensures.items
 
 pub returns-in_default : goal.returns-in_default
-returns-in_default g c = let e = ends_left c.args.self c.loop.self c.sweep.new.self (received c.args.inbox.now) (received c.loop.inbox) (received c.next_post.new.inbox) c.loop.invariant c.sweep.ensures c.in_default.ensures.given in record { ran = e; begins = ran_begins e.3; held = ran_holds e.3 }
+returns-in_default g c =
+    let none = c.in_default.ensures in
+    let e = ends_left c.args.self c.loop.self c.sweep.new.self (received c.args.inbox.now) (received c.loop.inbox) (received c.next_post.new.inbox) c.loop.ahead.items c.loop.invariant c.sweep.ensures none.0 none.1 in
+    record { ran = e; begins = ran_begins e.3; held = ran_holds e.3 }
 
 pub loop-preserved : goal.loop-preserved
 loop-preserved g c =
-    let given = c.in-Some-next_post.ensures.given in
-    progress_on c.args.self c.loop.self c.sweep.new.self c.take.new.self (received c.args.inbox.now) (received c.loop.inbox) (received c.next_post.new.inbox) c.take.result c.in-Some-next_post.post
-    (sym c.is_stop-ends.ensures ∙ c.if-ends.false) c.loop.invariant c.sweep.ensures c.in-Some-next_post.ensures.in_turn given c.take.ensures.handles
+    progress_on c.args.self c.loop.self c.sweep.new.self c.take.new.self (received c.args.inbox.now) (received c.loop.inbox) (received c.next_post.new.inbox) c.loop.ahead.items c.next_post.new.ahead.items c.take.result c.in-Some-next_post.post
+    (sym c.is_stop-ends.ensures ∙ c.if-ends.false) c.loop.invariant c.sweep.ensures c.in-Some-next_post.ensures c.take.ensures.handles
 
 pub returns-then-ends : goal.returns-then-ends
 returns-then-ends g c =
-    let given = c.in-Some-next_post.ensures.given in
-    let e = ends_stopped c.args.self c.loop.self c.sweep.new.self c.take.new.self (received c.args.inbox.now) (received c.loop.inbox) (received c.next_post.new.inbox) c.take.result c.in-Some-next_post.post
-    (sym c.is_stop-ends.ensures ∙ c.if-ends.true) c.loop.invariant c.sweep.ensures given c.take.ensures.handles in
+    let e = ends_stopped c.args.self c.loop.self c.sweep.new.self c.take.new.self (received c.args.inbox.now) (received c.loop.inbox) (received c.next_post.new.inbox) c.loop.ahead.items c.next_post.new.ahead.items c.take.result c.in-Some-next_post.post
+    (sym c.is_stop-ends.ensures ∙ c.if-ends.true) c.loop.invariant c.sweep.ensures c.in-Some-next_post.ensures c.take.ensures.handles in
     record { ran = e; begins = ran_begins e.3; held = ran_holds e.3 }

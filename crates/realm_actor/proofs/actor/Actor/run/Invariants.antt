@@ -3,4 +3,4 @@ use Rattle.realm_actor.proofs.Turning.{Progress}
 use Rattle.realm_actor.proofs.actor.Actor.run.Given as goal
 
 abbrev pub invariant-loop : goal.invariant-loop
-invariant-loop g l = Progress l.fn.self l.self (received l.initial.inbox) (received l.inbox)
+invariant-loop g l = Progress l.fn.self l.self (received l.initial.inbox) (received l.inbox) l.ahead.items

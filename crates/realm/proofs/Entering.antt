@@ -12,7 +12,7 @@ use Rattle.realm.specs.Granting.{Grants}
 use Rattle.realm.specs.History.{History, begun, ◌▷◌}
 use Rattle.realm.specs.Sessions.{conn_of, who, live, ends, may_come}
 use Rattle.realm.specs.Laws.{BeginsList}
-use Rattle.realm_core.specs.PostedOrder.{is_join, is_cut_or_closed, posts_of, said_by, AreSome, none, left_out, taken_in, joins_first_alone}
+use Rattle.realm.specs.PostedOrder.{is_join, is_cut_or_closed, posts_of, said_by, AreSome, none, left_out, taken_in, joins_first_alone}
 
 -- an entry of c
 abbrev own : ℕ → Entry → List Entry

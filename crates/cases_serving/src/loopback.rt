@@ -1,0 +1,111 @@
+//! An acceptor that follows a script, over TCP.
+ghost use Rattle.std.specs.Prelude.{◌≡◌, ◌++◌, ◌∷◌, []};
+
+use crate::client::Client;
+use crate::steps::{Cue, Play, Step};
+use rawsocket::{ReadSource, WriteSink};
+use realm_inbox::Past;
+use serving::{Accepted, Acceptor, Answer, Parts, TcpAcceptor, TcpHandle};
+use std::alloc::{AllocError, Global};
+use std::collections::VecDeque;
+use std::io::{self, BufWriter};
+use std::net::{Net, SocketAddr, TcpListener, TcpStream};
+use std::snapshot::Snapshot;
+use std::time::Clock;
+
+/// What is still to be accepted, and the clients of all streams, which connect to the acceptor inside.
+#[derive(Drop)]
+pub struct Sockets<R: Clock + Drop> {
+    net: R,
+    alloc: Global,
+    address: SocketAddr,
+    tcp: TcpAcceptor<R>,
+    pub play: Play<TcpStream>,
+}
+
+/// An acceptor that follows a script.
+#[derive(Drop)]
+pub struct Loopback<R: Clock + Drop> {
+    pub sockets: Sockets<R>,
+    // It takes no bytes.
+    answers: Past<Answer>,
+}
+
+impl<R: Net<Stream = TcpStream, Listener = TcpListener> + Clock + Copy + Drop> Loopback<R> {
+    /// Nobody has come yet.
+    pub fn new(net: R, alloc: Global, steps: VecDeque<Step>) -> io::Result<Loopback<R>> {
+        let listener = TcpListener::bind(&net, "127.0.0.1:0")?;
+        let sockets = Sockets {
+            net,
+            alloc,
+            address: listener.local_addr()?,
+            tcp: TcpAcceptor::new(listener, net),
+            play: Play {
+                steps,
+                clients: Vec::new(alloc),
+            },
+        };
+        Ok(Loopback {
+            sockets,
+            answers: Past::new(),
+        })
+    }
+}
+
+impl<R: Net<Stream = TcpStream, Listener = TcpListener> + Clock + Copy + Drop> Sockets<R> {
+    fn accept(&mut self) -> Accepted<TcpStream> {
+        match self.play.next() {
+            Cue::Stops => Accepted::Stop,
+            Cue::Fails => Accepted::Failed,
+            Cue::Comes { octets, stands: _ } => match self.connect(&octets) {
+                Ok(()) => self.tcp.accept(),
+                Err(_) => Accepted::Failed,
+            },
+        }
+    }
+
+    // A new client that sends these octets.
+    fn connect(&mut self, octets: &[u8]) -> io::Result<()> {
+        let stream = TcpStream::connect(&self.net, self.address)?;
+        let mut client = Client::new(self.alloc, stream, None);
+        client.say(octets)?;
+        self.play.clients.push(client)?;
+        Ok(())
+    }
+}
+
+impl<R: Net<Stream = TcpStream, Listener = TcpListener> + Clock + Copy + Drop> Acceptor
+    for Loopback<R> {
+    ghost use Rattle.realm_inbox.specs.Past.{items_of};
+
+    type Stream = TcpStream;
+
+    type Source = ReadSource<TcpHandle>;
+
+    type Sink = WriteSink<BufWriter<TcpHandle>>;
+
+    type Shut = TcpHandle;
+
+    ghost answers = { λ l. items_of l.answers };
+
+    fn accept(&mut self) -> Accepted<TcpStream> {
+        let accepted = self.sockets.accept();
+        self.answers.add(Snapshot::of(&accepted.answer()));
+        accepted
+    }
+
+    fn split(
+        &mut self,
+        alloc: Global,
+        stream: TcpStream,
+    ) -> Result<
+        Parts<ReadSource<TcpHandle>, WriteSink<BufWriter<TcpHandle>>, TcpHandle>,
+        AllocError,
+    > {
+        self.sockets.tcp.split(alloc, stream)
+    }
+
+    fn pause(&mut self) {
+        self.sockets.tcp.pause();
+    }
+}

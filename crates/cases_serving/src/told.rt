@@ -1,0 +1,62 @@
+//! What a case tells of its clients.
+use crate::client::Client;
+use case_text::spell;
+use std::alloc::Global;
+use std::io::{self, Read, Write};
+
+/// What each client got, by its number, if it got anything. Each is heard to its end first.
+pub fn tell<T: Read + Write + Drop>(
+    told: &mut String,
+    clients: &mut [Client<T>],
+) -> io::Result<()> {
+    let mut number: u64 = 0;
+    for client in clients.iter_mut() {
+        number = number.wrapping_add(1);
+        client.hear(u64::MAX)?;
+        tell_one(told, number, client.got())?;
+    }
+    Ok(())
+}
+
+fn tell_one(told: &mut String, number: u64, got: &[u8]) -> io::Result<()> {
+    if !got.is_empty() {
+        write!(told, "{number} got ")?;
+        spell(told, got)?;
+        told.push('\n')?;
+    }
+    Ok(())
+}
+
+/// The last octets that the first client got, so many of them, and how many clients got these last; and of each other one what it got.
+pub fn tell_last<T: Read + Write + Drop>(
+    alloc: Global,
+    told: &mut String,
+    clients: &mut [Client<T>],
+    count: usize,
+) -> io::Result<()> {
+    let mut number: u64 = 0;
+    let mut alike: u64 = 0;
+    let mut first = Vec::new(alloc);
+    for client in clients.iter_mut() {
+        number = number.wrapping_add(1);
+        client.hear(u64::MAX)?;
+        let last = last_of(client.got(), count);
+        if number == 1 {
+            first.extend_from_slice(last)?;
+        }
+        if last == first.as_slice() {
+            alike = alike.wrapping_add(1);
+        } else {
+            tell_one(told, number, client.got())?;
+        }
+    }
+    write!(told, "{alike} got at last ")?;
+    spell(told, &first)?;
+    told.push('\n')?;
+    Ok(())
+}
+
+fn last_of(octets: &[u8], count: usize) -> &[u8] {
+    let (_, last) = octets.split_at(octets.len().saturating_sub(count));
+    last
+}

@@ -1,0 +1,20 @@
+-- Posts that an actor has received ahead, and which of them is its next.
+use Rattle.std.specs.Prelude.{◌≡◌, List, [], ◌∷◌, ◌++◌}
+use Rattle.realm_inbox.specs.declared.letter.Post.{Post}
+use Rattle.realm_inbox.specs.declared.letter.Post.TheVariants as post
+use Rattle.realm_inbox.specs.Seats.{InOrder}
+
+module _ {S : Type 0} where
+  -- a stop is none of these posts but the last
+  abbrev pub NoneBehindStop : List (Post S) → Type 0
+  NoneBehindStop [] = Unit {0}
+  NoneBehindStop (post.Act l ∷ ps) = NoneBehindStop ps
+  NoneBehindStop (post.Stop ∷ ps) = ps ≡ []
+
+  -- of what was ahead, and then of what the inbox gave besides, p is the first and `later` the rest
+  pub record TakesNext (got got' ahead later : List (Post S)) (p : Post S) : Type 0 where
+    pub more : List (Post S)
+    pub given : got' ≡ got ++ more
+    pub in_turn : InOrder got more
+    pub waited : ahead ++ more ≡ p ∷ later
+    pub last : NoneBehindStop ahead → NoneBehindStop (p ∷ later)
