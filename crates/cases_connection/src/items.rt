@@ -26,8 +26,8 @@ pub fn publication(alloc: Global, id: Id, args: CarriedArgs) -> Option<Shared<Pu
     let publisher = Who {
         conn: Conn::new(2)?,
         id: Id::new(2).ok()?,
-        authid: Text::of(alloc, "anonymous").ok()?,
-        authrole: Text::of(alloc, "anonymous").ok()?,
+        authid: Shared::new(alloc, Text::of(alloc, "anonymous").ok()?).ok()?,
+        authrole: Shared::new(alloc, Text::of(alloc, "anonymous").ok()?).ok()?,
     };
     let publication = Publication {
         id,

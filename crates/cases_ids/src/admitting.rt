@@ -1,7 +1,7 @@
 //! Who is eligible.
 use case_text::{crossing, line_of, may_be_shared, number_of};
 use eligibility::{Lists, Who};
-use message_tree::{Dict, Fault, Text, Tree};
+use message_tree::{Dict, Fault, Shared, Text, Tree};
 use std::alloc::Global;
 use std::io;
 use wamp_ids::{Conn, Id};
@@ -15,8 +15,8 @@ pub fn who_of(alloc: Global, words: &str) -> io::Result<Option<Who>> {
     let Ok(id) = Id::new(number_of(words.next().unwrap_or(""))) else {
         return Ok(None);
     };
-    let authid = Text::of(alloc, words.next().unwrap_or(""))?;
-    let authrole = Text::of(alloc, words.next().unwrap_or(""))?;
+    let authid = Shared::new(alloc, Text::of(alloc, words.next().unwrap_or(""))?)?;
+    let authrole = Shared::new(alloc, Text::of(alloc, words.next().unwrap_or(""))?)?;
     Ok(Some(Who {
         conn,
         id,
@@ -25,16 +25,16 @@ pub fn who_of(alloc: Global, words: &str) -> io::Result<Option<Who>> {
     }))
 }
 
-/// Who they are, by a copy.
+/// Who they are, by a twin.
 pub fn who_in_words(alloc: Global, who: &Option<Who>) -> io::Result<String> {
     match who {
         None => line_of(alloc, "nobody"),
         Some(who) => {
-            let copy = who.try_copy(alloc)?;
-            let conn = copy.conn.value();
-            let id = copy.id.value();
-            let authid = copy.authid.as_str();
-            let authrole = copy.authrole.as_str();
+            let twin = who.twin()?;
+            let conn = twin.conn.value();
+            let id = twin.id.value();
+            let authid = twin.authid.value().as_str();
+            let authrole = twin.authrole.value().as_str();
             Ok(format!(in alloc; "{conn} {id} {authid} {authrole}\n")?)
         }
     }

@@ -12,8 +12,8 @@ fn publisher(alloc: Global) -> Option<Who> {
     Some(Who {
         conn: Conn::new(1)?,
         id: Id::new(1).ok()?,
-        authid: Text::of(alloc, "anonymous").ok()?,
-        authrole: Text::of(alloc, "anonymous").ok()?,
+        authid: Shared::new(alloc, Text::of(alloc, "anonymous").ok()?).ok()?,
+        authrole: Shared::new(alloc, Text::of(alloc, "anonymous").ok()?).ok()?,
     })
 }
 

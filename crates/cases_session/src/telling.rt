@@ -1,6 +1,6 @@
 //! The replies, reasons and faults that clients are told, in JSON.
 use crate::saying::message_json;
-use message_tree::{Octets, Text};
+use message_tree::{Octets, Shared, Text};
 use session::{Fault, Item, Reason, Request, Who, abort_uri, item_message};
 use std::alloc::Global;
 use std::io;
@@ -23,8 +23,8 @@ pub fn anonymous(alloc: Global, id: u64) -> Option<Who> {
     Some(Who {
         conn: Conn::new(5)?,
         id: Id::new(id).ok()?,
-        authid: Text::of(alloc, "anonymous").ok()?,
-        authrole: Text::of(alloc, "anonymous").ok()?,
+        authid: Shared::new(alloc, Text::of(alloc, "anonymous").ok()?).ok()?,
+        authrole: Shared::new(alloc, Text::of(alloc, "anonymous").ok()?).ok()?,
     })
 }
 

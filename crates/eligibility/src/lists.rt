@@ -122,11 +122,11 @@ impl Lists {
         ensures { result ≡ admits self.now who.now publisher.now }
     {
         is_free_of_number(&self.exclude, who.id)
-            && is_free_of_text(&self.exclude_authid, &who.authid)
-            && is_free_of_text(&self.exclude_authrole, &who.authrole)
+            && is_free_of_text(&self.exclude_authid, who.authid.value())
+            && is_free_of_text(&self.exclude_authrole, who.authrole.value())
             && allows_number(&self.eligible, who.id)
-            && allows_text(&self.eligible_authid, &who.authid)
-            && allows_text(&self.eligible_authrole, &who.authrole)
+            && allows_text(&self.eligible_authid, who.authid.value())
+            && allows_text(&self.eligible_authrole, who.authrole.value())
             && !(who.conn == publisher.conn && self.exclude_me)
     }
 }

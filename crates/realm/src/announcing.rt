@@ -70,8 +70,18 @@ fn joined_args(alloc: Global, who: &Who) -> Result<CarriedArgs, Fault>
 {
     let mut details = Dict::new(alloc);
     set(alloc, &mut details, "session", number(who.id))?;
-    set(alloc, &mut details, "authrole", text(alloc, &who.authrole)?)?;
-    set(alloc, &mut details, "authid", text(alloc, &who.authid)?)?;
+    set(
+        alloc,
+        &mut details,
+        "authrole",
+        text(alloc, who.authrole.value())?,
+    )?;
+    set(
+        alloc,
+        &mut details,
+        "authid",
+        text(alloc, who.authid.value())?,
+    )?;
     Ok(listed(vec![in alloc; Tree::Dict(details)]?))
 }
 
@@ -79,8 +89,8 @@ fn joined_args(alloc: Global, who: &Who) -> Result<CarriedArgs, Fault>
 fn left_args(alloc: Global, who: &Who) -> Result<CarriedArgs, Fault>
     ensures { IfOk result (λ args. args ≡ listed (left_items who.now)) }
 {
-    let authid = text(alloc, &who.authid)?;
-    let authrole = text(alloc, &who.authrole)?;
+    let authid = text(alloc, who.authid.value())?;
+    let authrole = text(alloc, who.authrole.value())?;
     Ok(listed(vec![in alloc; number(who.id), authid, authrole]?))
 }
 
@@ -98,7 +108,7 @@ fn announcement(
         id: Id::of_word(word),
         topic,
         lists: Lists::everyone(),
-        publisher: who.try_copy(alloc)?,
+        publisher: who.twin()?,
         disclosed: false,
         args,
     };

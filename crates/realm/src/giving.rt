@@ -157,6 +157,7 @@ pub fn events_at(
     ensures { IfOk result (λ given. given.items ≡ events_at sessions.now index.now.rows made.now keys.now) }
 {
     let mut given = Vec::new(alloc);
+    given.reserve_exact(keys.len())?;
     let mut last = None;
     for (conn, number) in keys {
         let admitted = is_admitted_after(last, sessions, made.value(), *conn);

@@ -9,7 +9,7 @@ use crate::fault::Fault;
 use crate::giving::{Given, one, put_before};
 use crate::grants::Grants;
 use crate::state::State;
-use message_tree::Text;
+use message_tree::{Shared, Text};
 use session::{Item, Reason, Who};
 use std::alloc::Global;
 use wamp_ids::{Conn, Id};
@@ -57,8 +57,8 @@ fn admission(
     if state.sessions.has_id(id) {
         return Ok(Err(Reason::SessionIdTaken));
     }
-    let authrole = Text::of(alloc, role)?;
-    let authid = Text::of(alloc, name_for(authid))?;
+    let authrole = Shared::new(alloc, Text::of(alloc, role)?)?;
+    let authid = Shared::new(alloc, Text::of(alloc, name_for(authid))?)?;
     Ok(Ok(Who {
         conn,
         id,
@@ -87,7 +87,7 @@ pub fn join(
         }
         Ok(who) => {
             let mut given = arrival_events(alloc, state, word, &who)?;
-            put_before(&mut given, conn, Item::Welcome(who.try_copy(alloc)?))?;
+            put_before(&mut given, conn, Item::Welcome(who.twin()?))?;
             state.sessions.add(who)?;
             state.seats.note(conn);
             Ok(given)

@@ -127,7 +127,7 @@ fn publication(
 ) -> Result<Publication, Fault>
     ensures { IfOk result (λ p. p ≡ (made_by word publisher.now accepted.topic accepted.args accepted.wishes).publication) }
 {
-    let publisher = publisher.try_copy(alloc)?;
+    let publisher = publisher.twin()?;
     let AcceptedPublication {
         topic,
         wishes,

@@ -12,6 +12,9 @@ use rawsocket::Serializer;
 use std::alloc::Global;
 use std::marker::Model;
 
+/// The octets that are reserved at once for encoded arguments: enough for a small message.
+const ENCODED_ROOM: usize = 64;
+
 /// The arguments of a PUBLISH, as they came: Arguments and ArgumentsKw, each where it was given.
 /// Arguments is a list, ArgumentsKw a dictionary, or either is uncarried as a whole. Each nests at
 /// most 99 levels, and there is no ArgumentsKw without Arguments.
@@ -119,7 +122,11 @@ impl Args {
         if !self.is_carried() || self.tail(serializer).is_some() {
             return self;
         }
-        let mut out = Appender::new(Vec::new(alloc));
+        let mut octets = Vec::new(alloc);
+        if octets.reserve_exact(ENCODED_ROOM).is_err() {
+            return self;
+        }
+        let mut out = Appender::new(octets);
         match put_args(&mut out, alloc, serializer, &self) {
             Err(_) => self,
             Ok(()) => {

@@ -34,9 +34,9 @@ fn put_publisher(
     out.put_key(alloc, serializer, false, "publisher")?;
     out.put_number(alloc, serializer, publisher.id.value())?;
     out.put_key(alloc, serializer, true, "publisher_authid")?;
-    out.put_text(alloc, serializer, publisher.authid.as_str())?;
+    out.put_text(alloc, serializer, publisher.authid.value().as_str())?;
     out.put_key(alloc, serializer, true, "publisher_authrole")?;
-    out.put_text(alloc, serializer, publisher.authrole.as_str())?;
+    out.put_text(alloc, serializer, publisher.authrole.value().as_str())?;
     Ok(())
 }
 
