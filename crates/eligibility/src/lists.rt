@@ -1,22 +1,22 @@
-ghost use Rattle.std.specs.Prelude.{◌≡◌, IfOk, None, Some};
+ghost use Rattle.std.specs.Prelude.{◌≡◌, ◌==◌, ◌&&◌, true, not, IfOk, None, Some};
+ghost use Rattle.std.specs.Option.{option_and_then};
 ghost use Rattle.message_tree.specs.Data.{no_entries};
 ghost use Rattle.message_tree.specs.View.{dict_view};
 ghost use Rattle.eligibility.specs.Audience.{audience_of, everyone, admits, has_number, has_text, is_free_of, allows};
+ghost use Rattle.eligibility.specs.declared.who.Who.{Who};
 
 use crate::asked::{flag_at, numbers_at, text_lists, texts_at, texts_of};
 use crate::fault::Fault;
 use crate::lookup::{Numbers, Texts};
 use crate::who::Who;
 use message_tree::{Dict, Text};
-use std::alloc::Global;
+use std::alloc::{AllocError, Global};
 use std::marker::Model;
 use wamp_ids::Id;
 
-/// Who is to receive a publication: the options of a PUBLISH that speak of it (WAMP, "Subscriber
-/// Black- and Whitelisting", "Publisher Exclusion").
+/// The six lists, of which at least one is given.
 #[derive(Drop)]
-pub struct Lists {
-    exclude_me: bool,
+struct Named {
     exclude: Option<Numbers>,
     exclude_authid: Option<Texts>,
     exclude_authrole: Option<Texts>,
@@ -25,20 +25,63 @@ pub struct Lists {
     eligible_authrole: Option<Texts>,
 }
 
+/// Who is to receive a publication: the options of a PUBLISH that speak of it (WAMP, "Subscriber
+/// Black- and Whitelisting", "Publisher Exclusion"). Most publications give none of the lists, and
+/// each carries one of these: so the lists stand apart.
+#[derive(Drop)]
+pub struct Lists {
+    exclude_me: bool,
+    named: Option<Box<Named>>,
+}
+
 impl Model for Lists {
+    ghost use Rattle.std.specs.Option.{option_and_then};
     ghost use Rattle.eligibility.specs.Audience.{Audience};
 
     ghost Value = { Audience };
 
     ghost view = { λ l. record {
       exclude_me = l.exclude_me;
-      exclude = l.exclude;
-      exclude_authid = l.exclude_authid;
-      exclude_authrole = l.exclude_authrole;
-      eligible = l.eligible;
-      eligible_authid = l.eligible_authid;
-      eligible_authrole = l.eligible_authrole;
+      exclude = option_and_then (λ n. n.value.exclude) l.named;
+      exclude_authid = option_and_then (λ n. n.value.exclude_authid) l.named;
+      exclude_authrole = option_and_then (λ n. n.value.exclude_authrole) l.named;
+      eligible = option_and_then (λ n. n.value.eligible) l.named;
+      eligible_authid = option_and_then (λ n. n.value.eligible_authid) l.named;
+      eligible_authrole = option_and_then (λ n. n.value.eligible_authrole) l.named;
     } };
+}
+
+impl Named {
+    /// These lists in a place of their own, or nothing where none of them is given.
+    fn apart(self, alloc: Global) -> Result<Option<Box<Named>>, AllocError>
+        ensures exclude { IfOk result (λ apart. option_and_then (λ n. n.value.exclude) apart ≡ self.exclude) }
+        ensures exclude_authid { IfOk result (λ apart. option_and_then (λ n. n.value.exclude_authid) apart ≡ self.exclude_authid) }
+        ensures exclude_authrole { IfOk result (λ apart. option_and_then (λ n. n.value.exclude_authrole) apart ≡ self.exclude_authrole) }
+        ensures eligible { IfOk result (λ apart. option_and_then (λ n. n.value.eligible) apart ≡ self.eligible) }
+        ensures eligible_authid { IfOk result (λ apart. option_and_then (λ n. n.value.eligible_authid) apart ≡ self.eligible_authid) }
+        ensures eligible_authrole { IfOk result (λ apart. option_and_then (λ n. n.value.eligible_authrole) apart ≡ self.eligible_authrole) }
+    {
+        if self.is_empty() {
+            return Ok(None);
+        }
+        Ok(Some(Box::new(alloc, self)?))
+    }
+
+    fn is_empty(&self) -> bool
+        ensures exclude { result ≡ true → self.now.exclude ≡ None }
+        ensures exclude_authid { result ≡ true → self.now.exclude_authid ≡ None }
+        ensures exclude_authrole { result ≡ true → self.now.exclude_authrole ≡ None }
+        ensures eligible { result ≡ true → self.now.eligible ≡ None }
+        ensures eligible_authid { result ≡ true → self.now.eligible_authid ≡ None }
+        ensures eligible_authrole { result ≡ true → self.now.eligible_authrole ≡ None }
+    {
+        self.exclude.is_none()
+            && self.exclude_authid.is_none()
+            && self.exclude_authrole.is_none()
+            && self.eligible.is_none()
+            && self.eligible_authid.is_none()
+            && self.eligible_authrole.is_none()
+    }
 }
 
 impl Lists {
@@ -50,12 +93,7 @@ impl Lists {
     {
         Lists {
             exclude_me: true,
-            exclude: None,
-            exclude_authid: None,
-            exclude_authrole: None,
-            eligible: None,
-            eligible_authid: None,
-            eligible_authrole: None,
+            named: None,
         }
     }
 
@@ -77,14 +115,17 @@ impl Lists {
         let eligible = numbers_at(alloc, options, "eligible")?;
         let eligible_authid = texts_at(alloc, options, "eligible_authid")?;
         let eligible_authrole = texts_at(alloc, options, "eligible_authrole")?;
-        Ok(Lists {
-            exclude_me,
+        let named = Named {
             exclude,
             exclude_authid,
             exclude_authrole,
             eligible,
             eligible_authid,
             eligible_authrole,
+        };
+        Ok(Lists {
+            exclude_me,
+            named: named.apart(alloc)?,
         })
     }
 
@@ -105,14 +146,17 @@ impl Lists {
         let exclude_authrole = texts_of(alloc, lists.exclude_authrole)?;
         let eligible_authid = texts_of(alloc, lists.eligible_authid)?;
         let eligible_authrole = texts_of(alloc, lists.eligible_authrole)?;
-        Ok(Lists {
-            exclude_me,
+        let named = Named {
             exclude,
             exclude_authid,
             exclude_authrole,
             eligible,
             eligible_authid,
             eligible_authrole,
+        };
+        Ok(Lists {
+            exclude_me,
+            named: named.apart(alloc)?,
         })
     }
 
@@ -121,13 +165,22 @@ impl Lists {
     pub fn admits(&self, who: &Who, publisher: &Who) -> bool
         ensures { result ≡ admits self.now who.now publisher.now }
     {
-        is_free_of_number(&self.exclude, who.id)
-            && is_free_of_text(&self.exclude_authid, who.authid.value())
-            && is_free_of_text(&self.exclude_authrole, who.authrole.value())
-            && allows_number(&self.eligible, who.id)
-            && allows_text(&self.eligible_authid, who.authid.value())
-            && allows_text(&self.eligible_authrole, who.authrole.value())
-            && !(who.conn == publisher.conn && self.exclude_me)
+        self.lists_admit(who) && !(who.conn == publisher.conn && self.exclude_me)
+    }
+
+    /// Whether none of the six lists leaves this receiver out.
+    fn lists_admit(&self, who: &Who) -> bool
+        ensures { (publisher : Who) → admits self.now who.now publisher ≡ (result && not (who.now.conn == publisher.conn && self.now.exclude_me)) }
+    {
+        let Some(named) = &self.named else {
+            return true;
+        };
+        is_free_of_number(&named.exclude, who.id)
+            && is_free_of_text(&named.exclude_authid, who.authid.value())
+            && is_free_of_text(&named.exclude_authrole, who.authrole.value())
+            && allows_number(&named.eligible, who.id)
+            && allows_text(&named.eligible_authid, who.authid.value())
+            && allows_text(&named.eligible_authrole, who.authrole.value())
     }
 }
 
