@@ -86,7 +86,8 @@ impl<S: Shut, W: IdSource> Actor<S, W> {
     }
 }
 
-// A post that is there: the first of those that were received ahead; where none is left, more are received.
+// A post that is there: the first of those that were received ahead; where none is left, more are received, and posters that wait
+// for room are woken once for all of it.
 fn ready_post<S: Shut, R: Wait>(
     rt: &R,
     inbox: &mut Inbox<S>,
@@ -98,6 +99,7 @@ fn ready_post<S: Shut, R: Wait>(
         return Some(post);
     }
     receive_ahead(rt, inbox, ahead);
+    inbox.wake();
     ahead.pop_front()
 }
 

@@ -8,6 +8,7 @@ use Rattle.std.proofs.Crossing as heap
 use Rattle.std.specs.contracts.alloc.Global as Global
 use Rattle.std.specs.contracts.impls.GlobalAllocator.TheImpl as global
 use Rattle.std.specs.contracts.option.Option as Option
+use Rattle.std.specs.contracts.sync.Arc as Arc
 use Rattle.atomic_table.proofs.badge.Badge.TheSendSync as badge
 use Rattle.atomic_table.proofs.shared.Seat.TheSendSync as ticket
 use Rattle.atomic_table.specs.contracts.badge.Badge as Badge
@@ -25,6 +26,8 @@ use Rattle.crossbeam_channel.specs.contracts.flavors.array.Whole as Whole
 use Rattle.crossbeam_channel.specs.contracts.flavors.array.WholeSight.TheImpl as whole
 use Rattle.crossbeam_channel.specs.contracts.flavors.array.ruled.Receiving as Receiving
 use Rattle.crossbeam_channel.specs.contracts.flavors.array.ruled.Sending as Sending
+use Rattle.crossbeam_utils.proofs.sync.parker.RuledParker.TheSendSync as parker
+use Rattle.crossbeam_utils.proofs.sync.parker.RuledUnparker.TheSendSync as unparker
 use Rattle.message_tree.proofs.Crossing.{octets_send, text_send}
 use Rattle.message_tree.specs.contracts.owned.Octets as Octets
 use Rattle.outbox_queue.proofs.Crossing.{outbox_send}
@@ -42,9 +45,11 @@ use Rattle.realm_inbox.specs.contracts.joining.Joining as Joining
 use Rattle.realm_inbox.specs.contracts.letter.Letter as Letter
 use Rattle.realm_inbox.specs.contracts.letter.Post as Post
 use Rattle.realm_inbox.specs.contracts.past.Past as Past
+use Rattle.realm_inbox.specs.contracts.room_bell.RoomBell as RoomBell
 use Rattle.realm_inbox.specs.contracts.rule.InTurn as InTurn
 use Rattle.realm_inbox.specs.contracts.rule.InTurnProtocolPostView.TheImpl as in_turn
 use Rattle.realm_inbox.specs.contracts.rule.View as View
+use Rattle.realm_inbox.specs.contracts.sending.Bells as Bells
 use Rattle.realm_inbox.specs.declared.words.Shut.{Ghosts}
 
 option_send : (R : RattleType) → IsSend R → IsSend (Option.the_row R)
@@ -52,6 +57,18 @@ option_send R s = search (sendable, crosses) depth 40
 
 past_send : (R : RattleType) → IsSend (Past.the_row R)
 past_send R = search (crosses, sendable) depth 60 fits 20000
+
+bell_send : IsSend RoomBell.the_row
+bell_send = search (crosses, sendable) depth 60
+
+bell_sync : IsSync RoomBell.the_row
+bell_sync = search (crosses, sendable) depth 60
+
+room_send : IsSend (Arc.the_row RoomBell.the_row Global.the_row global.ghosts)
+room_send = heap.Arc-send _ bell_send bell_sync
+
+bells_send : IsSend Bells.the_row
+bells_send = declared_send Bells.the_type (as_row_send (Arc.the_field RoomBell.the_row Global.the_row global.ghosts) room_send, (search (unparker.the_field_send, unparker.the_send, crosses, heap.send, heap.sync, heap.frees, sendable) depth 60, tt))
 
 items_send : IsSend (Outbox.the_row Item.the_row RealmHistory.the_row owed.ghosts)
 items_send = outbox_send Item.the_row RealmHistory.the_row owed.ghosts item_send
@@ -98,13 +115,13 @@ module _ (S : RattleType) (shut : Ghosts S.Denot) where
   sending_send s = sending.the_send _ _ global.ghosts (channel_send s) heap.send (channel_sync s) heap.sync heap.frees
 
   pub inbox_send : IsSend S → IsSend (Inbox.the_row S shut)
-  inbox_send s = declared_send (Inbox.the_type S shut) (search sendable, (receiving_send s, (ticket.the_send _ _ key_send, tt)))
+  inbox_send s = declared_send (Inbox.the_type S shut) (search sendable, (receiving_send s, (as_row_send (Arc.the_field RoomBell.the_row Global.the_row global.ghosts) room_send, (search (parker.the_field_send, parker.the_send, crosses, heap.send, heap.sync, heap.frees, sendable) depth 60, (ticket.the_send _ _ key_send, tt)))))
 
   pub seat_send : IsSend S → IsSend (Seat.the_row S shut)
-  seat_send s = declared_send (Seat.the_type S shut) (search sendable, (search (crosses, sendable) depth 60, (sending_send s, (ticket.the_send _ _ key_send, tt))))
+  seat_send s = declared_send (Seat.the_type S shut) (search sendable, (search (crosses, sendable) depth 60, (sending_send s, (search (bells_send, crosses, sendable) depth 60, (ticket.the_send _ _ key_send, tt)))))
 
   pub poster_send : IsSend S → IsSend (Poster.the_row S shut)
   poster_send s = declared_send (Poster.the_type S shut) (search (crosses, sendable) depth 60, (seat_send s, tt))
 
   pub door_send : IsSend S → IsSend (Door.the_row S shut)
-  door_send s = declared_send (Door.the_type S shut) (sending_send s, (ticket.the_send _ _ key_send, tt))
+  door_send s = declared_send (Door.the_type S shut) (sending_send s, (search (bells_send, crosses, sendable) depth 60, (ticket.the_send _ _ key_send, tt)))

@@ -1,5 +1,5 @@
 -- What a step tells of a view that is known to be the reader's, a seat's or the door's.
-use Rattle.std.proofs.Common.{◌≡◌, ℕ, ◌+◌, true, false, true≢false, eqb-true, eq-eqb, [], ◌∷◌, ◌++◌, sym, refl, ap, ◌∙◌, subst, Ok, Err, MatchResult, MatchOption}
+use Rattle.std.proofs.Common.{◌≡◌, ℕ, ◌+◌, true, false, true≢false, eqb-true, eq-eqb, List, [], ◌∷◌, ◌++◌, sym, refl, ap, ◌∙◌, subst, Ok, Err, MatchResult, MatchOption}
 use Rattle.std.specs.declared.option.Option.{Option}
 use Rattle.std.specs.declared.result.Result.{Result}
 use Rattle.std.specs.Result.{result_ok}
@@ -76,14 +76,19 @@ module _ {S : Type 0} where
   receipt_told n (Seat k posted) w x e t = is_not e
   receipt_told n (Door m) w x e t = is_not e
 
-  given : {E : Type 0} (n : ℕ) (v w : View S) (r : Result (Post S) E) → is_reader n v ≡ true → MatchResult r (λ x. Receipt v x w) (λ e. (w ≡ v) × Held {T = Post S} 0 (λ items. Unit {0}))
-      → MatchOption (result_ok r) (received_in w ≡ received_in v) (λ p. received_in w ≡ received_in v ++ p ∷ [])
-  given n v w (Ok x) reads t = (receipt_told n v w x reads t).1
-  given n v w (Err e) reads t = ap (λ (u : View S). received_in u) t.0
+  -- of a look, whether a post was found or not
+  pub looked : {E : Type 0} (n : ℕ) (v w : View S) (r : Result (Post S) E) → is_reader n v ≡ true → MatchResult r (λ x. Receipt v x w) (λ e. (w ≡ v) × Held {T = Post S} 0 (λ items. Unit {0}))
+      → MatchResult r (λ x. received_in w ≡ received_in v ++ x ∷ []) (λ e. received_in w ≡ received_in v)
+  looked n v w (Ok x) reads t = (receipt_told n v w x reads t).1
+  looked n v w (Err e) reads t = ap (λ (u : View S). received_in u) t.0
 
-  pub given_by : {E : Type 0} (n : ℕ) (v w : View S) (r : Result (Post S) E) (o : Option (Post S)) → is_reader n v ≡ true → MatchResult r (λ x. Receipt v x w) (λ e. (w ≡ v) × Held {T = Post S} 0 (λ items. Unit {0}))
-      → o ≡ result_ok r → MatchOption o (received_in w ≡ received_in v) (λ p. received_in w ≡ received_in v ++ p ∷ [])
-  given_by n v w r o reads t is = subst (λ k. MatchOption k (received_in w ≡ received_in v) (λ p. received_in w ≡ received_in v ++ p ∷ [])) (sym is) (given n v w r reads t)
+  given : {E : Type 0} (was now : List (Post S)) (r : Result (Post S) E) → MatchResult r (λ x. now ≡ was ++ x ∷ []) (λ e. now ≡ was) → MatchOption (result_ok r) (now ≡ was) (λ p. now ≡ was ++ p ∷ [])
+  given was now (Ok x) t = t
+  given was now (Err e) t = t
+
+  -- the same, where it isn't told why none was found
+  pub given_by : {E : Type 0} (was now : List (Post S)) (r : Result (Post S) E) (o : Option (Post S)) → MatchResult r (λ x. now ≡ was ++ x ∷ []) (λ e. now ≡ was) → o ≡ result_ok r → MatchOption o (now ≡ was) (λ p. now ≡ was ++ p ∷ [])
+  given_by was now r o t is = subst (λ k. MatchOption k (now ≡ was) (λ p. now ≡ was ++ p ∷ [])) (sym is) (given was now r t)
 
 pub begins_posted : (S : Type 0) → ReceivedBeginsPosted S
 begins_posted S items views reader seat n k got posted h at_reader at_seat' =

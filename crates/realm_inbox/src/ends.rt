@@ -1,5 +1,5 @@
 //! The ends of an inbox.
-ghost use Rattle.std.specs.Prelude.{◌≡◌, ◌≤◌, ◌+◌, [], ◌∷◌, ◌++◌, true, if◌then◌else◌, IfSome, MatchOption, MatchResult};
+ghost use Rattle.std.specs.Prelude.{◌≡◌, ◌≤◌, ◌+◌, [], ◌∷◌, ◌++◌, true, if◌then◌else◌, IfSome, IfOk, MatchOption, MatchResult};
 ghost use Rattle.crossbeam_channel.specs.Claims.{view, IsSeatAt};
 ghost use Rattle.crossbeam_channel.specs.Ends.{sends_on, receives_on};
 ghost use Rattle.wamp_ids.specs.Numbers.{seat_of};
@@ -10,12 +10,15 @@ ghost use Rattle.realm_inbox.specs.Ends.{posted_in, is_seat, is_reader, is_door}
 use crate::act::Act;
 use crate::letter::{Letter, Post};
 use crate::past::Past;
+use crate::room_bell::RoomBell;
 use crate::rule::{InTurn, Posts, Receives, Stops, View};
+use crate::sending::{Bells, send};
 use crate::words::Shut;
-use crossbeam_channel::{Pass, RuledReceiver, RuledSender};
+use crossbeam_channel::{Pass, RuledReceiver, RuledSender, TryRecvError};
+use crossbeam_utils::sync::Parker;
 use std::alloc::{AllocError, Global};
 use std::snapshot::Snapshot;
-use std::sync::Wait;
+use std::sync::{Arc, Wait};
 use wamp_ids::Conn;
 
 pub(crate) type Sending<S> = RuledSender<Post<S>, View<S>, InTurn>;
@@ -27,9 +30,9 @@ pub(crate) type Ticket<S> = Pass<Post<S>, View<S>>;
 /// Makes posters, and posts stops. While it lives the inbox has a sender.
 ///
 /// Contracts see how many stops it has posted, and which inbox it is of.
-#[derive(Drop)]
 pub struct Door<S: Shut> {
     pub(crate) sender: Sending<S>,
+    pub(crate) bells: Bells,
     pub(crate) pass: Ticket<S>,
     ghost at: { IsSeatAt (sends_on sender) pass },
     ghost sits: { is_door (view pass) ≡ true },
@@ -38,11 +41,11 @@ pub struct Door<S: Shut> {
 /// The right to post at one seat, for one poster at a time. While it lives the inbox has a sender, also where no poster uses it.
 ///
 /// Contracts see its number, what was posted there, each act with its connection, and which inbox it is of.
-#[derive(Drop)]
 pub struct Seat<S: Shut> {
     pub(crate) number: u64,
     pub(crate) past: Past<(Conn, Act<S>)>,
     pub(crate) sender: Sending<S>,
+    pub(crate) bells: Bells,
     pub(crate) pass: Ticket<S>,
     ghost in_range: { number ≤ 256 },
     ghost at: { IsSeatAt (sends_on sender) pass },
@@ -63,10 +66,11 @@ pub struct Poster<S: Shut> {
 /// The receiving end. Once it is gone, posts come back.
 ///
 /// Contracts see what was received, the oldest first, how many posts may wait, and which inbox it is.
-#[derive(Drop)]
 pub struct Inbox<S: Shut> {
     pub(crate) next: u64,
     pub(crate) receiver: Receiving<S>,
+    pub(crate) room: Arc<RoomBell>,
+    pub(crate) parker: Parker,
     pub(crate) pass: Ticket<S>,
     ghost at: { IsSeatAt (receives_on receiver) pass },
     ghost reads: { is_reader next (view pass) ≡ true },
@@ -76,27 +80,66 @@ impl<S: Shut> Inbox<S> {
     ghost use Rattle.realm_inbox.specs.Shown.{received, capacity, inbox_of};
 
     /// Waits for a post. It is the next of its seat: what had been posted there before it is exactly what was received of the seat.
-    /// `None` once each sender is gone: the door, each poster and each seat.
+    /// `None` once each sender is gone: the door, each poster and each seat. Before it waits, it wakes who waits for room.
+    ///
+    /// No post is missed, nor that the last sender is gone: each turn looks first, and then sleeps; a sender posts, or goes, and then
+    /// wakes it; and a wake that comes before the sleep ends it at once.
     pub fn receive<R: Wait>(&mut self, rt: &R) -> Option<Post<S>>
         ensures given { MatchOption result (received self.new ≡ received self.old) (λ p. received self.new ≡ received self.old ++ p ∷ []) }
         ensures in_turn { IfSome result (λ p. IsNext (received self.old) p) }
         ensures same { (inbox_of self.new ≡ inbox_of self.old) × (capacity self.new ≡ capacity self.old) }
     {
-        self.receiver
-            .recv_as::<Receives, R>(rt, &mut self.pass)
-            .ok()
+        for _ in rt.forever() {
+            match self.look(rt) {
+                Ok(post) => return Some(post),
+                Err(TryRecvError::Disconnected) => return None,
+                Err(TryRecvError::Empty) => {}
+            }
+            self.wake();
+            self.parker.park(rt);
+        }
+        unreachable!()
     }
 
     /// A post, if one is found at once, as [`Inbox::receive`] gives it. `None` says only that nothing was received: the inbox was
-    /// empty at one moment of the call, a post may wait all the same, and each sender may be gone.
+    /// empty at one moment of the call, a post may wait all the same, and each sender may be gone. It wakes nobody who waits for
+    /// room: see [`Inbox::wake`].
     pub fn try_receive<R: Wait>(&mut self, rt: &R) -> Option<Post<S>>
         ensures given { MatchOption result (received self.new ≡ received self.old) (λ p. received self.new ≡ received self.old ++ p ∷ []) }
         ensures in_turn { IfSome result (λ p. IsNext (received self.old) p) }
         ensures same { (inbox_of self.new ≡ inbox_of self.old) × (capacity self.new ≡ capacity self.old) }
     {
-        self.receiver
-            .try_recv_as::<Receives, R>(rt, &mut self.pass)
-            .ok()
+        self.look(rt).ok()
+    }
+
+    // A post, or why none was found.
+    fn look<R: Wait>(&mut self, rt: &R) -> Result<Post<S>, TryRecvError>
+        ensures given { MatchResult result (λ p. received self.new ≡ received self.old ++ p ∷ []) (λ _. received self.new ≡ received self.old) }
+        ensures in_turn { IfOk result (λ p. IsNext (received self.old) p) }
+        ensures same { (inbox_of self.new ≡ inbox_of self.old) × (capacity self.new ≡ capacity self.old) }
+    {
+        self.receiver.try_recv_as::<Receives, R>(rt, &mut self.pass)
+    }
+
+    /// Wakes the posters that wait for room. Who receives several posts by [`Inbox::try_receive`] wakes once, after the last; until
+    /// then they may sleep on. Where nobody waits it is no system call.
+    pub fn wake(&self) {
+        self.room.ring();
+    }
+}
+
+impl<S: Shut> Drop for Inbox<S> {
+    // Posters that wait find that it is gone.
+    fn drop(self) {
+        let Self {
+            next: _,
+            receiver,
+            room,
+            parker: _,
+            pass: _,
+        } = self;
+        drop(receiver);
+        room.ring();
     }
 }
 
@@ -123,19 +166,30 @@ impl<S: Shut> Seat<S> {
         let last = Snapshot::of(&said);
         let (conn, act) = said;
         let letter = Letter { conn, act, before };
-        match self
-            .sender
-            .send_as::<Posts, R>(rt, &mut self.pass, Post::Act(letter))
-        {
+        let post = Post::Act(letter);
+        match send::<_, _, _, Posts, R>(rt, &self.sender, &self.bells, &mut self.pass, post) {
             Ok(()) => {
                 self.past.add(last);
                 Ok(())
             }
-            Err(e) => match e.into_inner() {
-                Post::Act(letter) => Err(letter.act),
-                Post::Stop => unreachable!(),
-            },
+            Err(Post::Act(letter)) => Err(letter.act),
+            Err(Post::Stop) => unreachable!(),
         }
+    }
+}
+
+impl<S: Shut> Drop for Seat<S> {
+    // Who receives looks again whether each sender is gone.
+    fn drop(self) {
+        let Self {
+            number: _,
+            past: _,
+            sender,
+            bells,
+            pass: _,
+        } = self;
+        drop(sender);
+        bells.receiver.unpark();
     }
 }
 
@@ -198,12 +252,22 @@ impl<S: Shut> Door<S> {
         ensures posted { stops self.new ≡ (if result then stops self.old + 1 else stops self.old) }
         ensures same { inbox_of_door self.new ≡ inbox_of_door self.old }
     {
-        match self
-            .sender
-            .send_as::<Stops, R>(rt, &mut self.pass, Post::Stop)
-        {
+        match send::<_, _, _, Stops, R>(rt, &self.sender, &self.bells, &mut self.pass, Post::Stop) {
             Ok(()) => true,
             Err(_) => false,
         }
+    }
+}
+
+impl<S: Shut> Drop for Door<S> {
+    // Who receives looks again whether each sender is gone.
+    fn drop(self) {
+        let Self {
+            sender,
+            bells,
+            pass: _,
+        } = self;
+        drop(sender);
+        bells.receiver.unpark();
     }
 }

@@ -20,7 +20,9 @@ mod letter;
 pub mod opening;
 mod past;
 mod posting;
+mod room_bell;
 mod rule;
+mod sending;
 mod words;
 
 pub use act::Act;

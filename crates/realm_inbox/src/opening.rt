@@ -8,10 +8,14 @@ ghost use Rattle.realm_inbox.specs.Shown.{received, capacity, stops, inbox_of, i
 use crate::ends::{Door, Inbox, Seat, Sending, Ticket};
 use crate::letter::Post;
 use crate::past::Past;
+use crate::room_bell::RoomBell;
 use crate::rule::{CutDoor, CutSeat, InTurn, View};
+use crate::sending::Bells;
 use crate::words::Shut;
 use crossbeam_channel::bounded_with;
+use crossbeam_utils::sync::Parker;
 use std::alloc::{AllocError, Global};
+use std::sync::Arc;
 
 /// How many seats an inbox has.
 pub const SEATS: u64 = 256;
@@ -28,6 +32,7 @@ fn cut_door<S: Shut>(sender: &Sending<S>, pass: &mut Ticket<S>) -> Ticket<S>
 // The next seat.
 fn cut_seat<S: Shut>(
     sender: &Sending<S>,
+    bells: &Bells,
     pass: &mut Ticket<S>,
     number: u64,
 ) -> Result<Seat<S>, AllocError>
@@ -37,11 +42,13 @@ fn cut_seat<S: Shut>(
     ensures seat { IfOk result (λ s. IsNewSeat (place_of pass.old) number s) }
 {
     let own = sender.try_clone()?;
+    let bells = bells.twin()?;
     let cut = sender.another::<CutSeat>(pass);
     Ok(Seat {
         number,
         past: Past::new(),
         sender: own,
+        bells,
         pass: cut,
     })
 }
@@ -50,6 +57,7 @@ fn cut_seat<S: Shut>(
 fn cut_seats<S: Shut>(
     alloc: Global,
     sender: &Sending<S>,
+    bells: &Bells,
     pass: &mut Ticket<S>,
     count: u64,
 ) -> Result<Vec<Seat<S>>, AllocError>
@@ -60,7 +68,7 @@ fn cut_seats<S: Shut>(
 {
     let mut seats = Vec::new(alloc);
     for i in 0..count {
-        let seat = cut_seat(sender, pass, i + 1)?;
+        let seat = cut_seat(sender, bells, pass, i + 1)?;
         seats.push(seat)?;
     }
     Ok(seats)
@@ -85,14 +93,25 @@ pub fn inbox<S: Shut>(
         alloc, cap,
     )?;
     let door = cut_door(&sender, &mut pass);
-    let seats = cut_seats(alloc, &sender, &mut pass, SEATS)?;
-    let door = Door { sender, pass: door };
+    let parker = Parker::new(alloc)?;
+    let room = Arc::new(alloc, RoomBell::new())?;
+    let bells = Bells {
+        room: Arc::try_clone(&room)?,
+        receiver: parker.unparker().clone()?,
+    };
+    let seats = cut_seats(alloc, &sender, &bells, &mut pass, SEATS)?;
     Ok((
-        door,
+        Door {
+            sender,
+            bells,
+            pass: door,
+        },
         seats,
         Inbox {
             next: SEATS + 1,
             receiver,
+            room,
+            parker,
             pass,
         },
     ))

@@ -1,5 +1,5 @@
 use Rattle.realm_inbox.proofs.Told.{stops_by}
 use Rattle.realm_inbox.proofs.ends.Door.stop.Goals as goal
 
-pub send_as-requires-clause-rule : goal.send_as-requires-clause-rule
-send_as-requires-clause-rule g c = stops_by _ _ _ c.args.self.now.sits
+pub send-requires-clause-rule : goal.send-requires-clause-rule
+send-requires-clause-rule g c = stops_by _ _ _ c.args.self.now.sits

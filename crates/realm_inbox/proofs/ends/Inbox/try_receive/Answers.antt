@@ -1,9 +1,5 @@
-use Rattle.realm_inbox.proofs.Told.{receives_by}
 use Rattle.realm_inbox.proofs.Told.{given_by}
 use Rattle.realm_inbox.proofs.ends.Inbox.try_receive.Goals as goal
 
-pub try_recv_as-requires-clause-rule : goal.try_recv_as-requires-clause-rule
-try_recv_as-requires-clause-rule g c = receives_by _ _ _ c.args.self.now.reads
-
 pub returns-clause-given : goal.returns-clause-given
-returns-clause-given g c = given_by _ _ _ _ _ c.args.self.now.reads c.try_recv_as.ensures.rule c.ok.ensures.value
+returns-clause-given g c = given_by _ _ _ _ c.look.ensures.given c.ok.ensures.value

@@ -3,8 +3,8 @@ use Rattle.realm_inbox.specs.Past.{items_of}
 use Rattle.realm_inbox.proofs.Told.{posts_by, post_told}
 use Rattle.realm_inbox.proofs.ends.Seat.post.Goals as goal
 
-pub send_as-requires-clause-rule : goal.send_as-requires-clause-rule
-send_as-requires-clause-rule g c = let p = c.args.self.now in posts_by _ _ p.number _ _ p.sits c.requires.seat (ap items_of c.of-before.ensures ∙ p.told)
+pub send-requires-clause-rule : goal.send-requires-clause-rule
+send-requires-clause-rule g c = let p = c.args.self.now in posts_by _ _ p.number _ _ p.sits c.requires.seat (ap items_of c.of-before.ensures ∙ p.told)
 
 pub invariant_of-self : goal.invariant_of-self
 invariant_of-self g c =
@@ -12,7 +12,7 @@ invariant_of-self g c =
     let t = post_told _ _ _ _ p.sits c.requires.seat c.in-Ok.ensures.rule in
     record {
       in_range = p.in_range;
-      at = c.send_as.ensures.channel.0;
+      at = c.send.ensures.channel.0;
       sits = t.0;
       told = c.add.ensures ∙ ap (λ x. items_of p.past ++ x ∷ []) c.of-last.ensures ∙ ap (λ l. l ++ (c.args.conn, c.args.act) ∷ []) p.told ∙ sym t.1;
     }

@@ -1,0 +1,52 @@
+//! How posters wait for room.
+use std::sync::Wait;
+use std::sync::atomic::{AtomicBool, AtomicU64, Ordering};
+
+/// Posters that find the inbox full wait at it, and the receiving end rings it once it has made room. A ring that nobody waits for is
+/// no system call; one that many wait for is one.
+///
+/// Nothing is promised of it, as another thread may ring at any time. But no ring is missed: a poster listens, then looks once more
+/// whether the inbox is full, and only then waits. So where it was full at that look, room is made after it, and the ring that
+/// follows is heard. A ring that comes earlier ends the wait at once.
+#[derive(Drop)]
+pub(crate) struct RoomBell {
+    // How often it was rung.
+    rings: AtomicU64,
+    // Whether somebody has listened since it was last rung.
+    is_awaited: AtomicBool,
+}
+
+impl RoomBell {
+    pub(crate) fn new() -> RoomBell {
+        RoomBell {
+            rings: AtomicU64::new(0),
+            is_awaited: AtomicBool::new(false),
+        }
+    }
+
+    /// Announces a wait, and gives what it is to begin with. The count is read first: so a ring that comes before the announcement
+    /// is in the count that the wait looks at.
+    pub(crate) fn listen(&self) -> u64 {
+        let heard = self.rings.load(Ordering::SeqCst);
+        self.is_awaited.store(true, Ordering::SeqCst);
+        heard
+    }
+
+    /// Waits until it was rung after that count. A sleep compares its low 32 bits alone.
+    pub(crate) fn wait<R: Wait>(&self, rt: &R, heard: u64) {
+        for _ in rt.forever() {
+            if self.rings.load(Ordering::SeqCst) != heard {
+                return;
+            }
+            self.rings.park(rt, (heard & 0xffff_ffff) as u32);
+        }
+    }
+
+    /// Ends the waits of all who have listened.
+    pub(crate) fn ring(&self) {
+        if self.is_awaited.load(Ordering::SeqCst) && self.is_awaited.swap(false, Ordering::SeqCst) {
+            self.rings.fetch_add(1, Ordering::SeqCst);
+            self.rings.wake_all();
+        }
+    }
+}
