@@ -3,6 +3,7 @@ ghost use Rattle.std.specs.Prelude.{◌≤◌};
 
 use crate::acts::{act_of, answered, joining_of, told};
 use crate::room::{Room, post};
+use crate::tally::Received;
 use crate::threads::pass_all;
 use crate::wire::Wire;
 use case_text::{crossing, line_of, may_be_sent};
@@ -52,6 +53,7 @@ impl Case {
             }
             "inbox" => self.begin(alloc, text),
             "threads" => pass_some(rt, alloc, text),
+            "forsake" => forsake(rt, alloc, text),
             "crossing" => ends_cross(alloc),
             _ => match &mut self.room {
                 None => line_of(alloc, "no inbox"),
@@ -80,11 +82,13 @@ fn ends_cross(alloc: Global) -> io::Result<String> {
     crossing(alloc)
 }
 
-fn pass_some<R: Threads + Wait + Copy + Send + 'static>(
+// What is received of two threads that post, up to so many posts; the text names a capacity, two connections and how many each posts.
+fn pass_up_to<R: Threads + Wait + Copy + Send + 'static>(
     rt: R,
     alloc: Global,
     text: &str,
-) -> io::Result<String> {
+    most: u64,
+) -> io::Result<Option<Received>> {
     let (cap, rest) = part(text);
     let (first, rest) = part(rest);
     let (second, count) = part(rest);
@@ -95,9 +99,36 @@ fn pass_some<R: Threads + Wait + Copy + Send + 'static>(
         count.parse::<u64>(),
     ) {
         (Ok(cap), Some(first), Some(second), Ok(count)) if cap >= 1 => {
-            pass_all(rt, alloc, cap, (first, second), count)
+            Ok(pass_all(rt, alloc, cap, (first, second), count, most)?)
         }
-        _ => line_of(alloc, "no capacity, connections and count"),
+        _ => Ok(None),
+    }
+}
+
+fn pass_some<R: Threads + Wait + Copy + Send + 'static>(
+    rt: R,
+    alloc: Global,
+    text: &str,
+) -> io::Result<String> {
+    match pass_up_to(rt, alloc, text, u64::MAX)? {
+        Some(received) => received.told(alloc),
+        None => line_of(alloc, "no capacity, two seats and count"),
+    }
+}
+
+// The same, where the receiving end goes after so many posts.
+fn forsake<R: Threads + Wait + Copy + Send + 'static>(
+    rt: R,
+    alloc: Global,
+    text: &str,
+) -> io::Result<String> {
+    let (most, rest) = part(text);
+    let Ok(most) = most.parse::<u64>() else {
+        return line_of(alloc, "no number of posts");
+    };
+    match pass_up_to(rt, alloc, rest, most)? {
+        Some(received) => received.told_as_one(alloc),
+        None => line_of(alloc, "no capacity, two seats and count"),
     }
 }
 

@@ -65,4 +65,21 @@ impl Received {
             self.others = self.others.wrapping_add(1);
         }
     }
+    /// What came, as three lines.
+    pub fn told(&self, alloc: Global) -> io::Result<String> {
+        let mut told = self.first.told(alloc)?;
+        told.push_str(self.second.told(alloc)?.as_str())?;
+        let others = self.others;
+        write!(told, "others: {others}, and then none\n")?;
+        Ok(told)
+    }
+
+    /// What came of both, as a line.
+    pub fn told_as_one(&self, alloc: Global) -> io::Result<String> {
+        let count = self.first.count.wrapping_add(self.second.count);
+        let are_in_order = self.first.are_in_order && self.second.are_in_order;
+        Ok(format!(in alloc;
+            "{count} received, each the next: {are_in_order}; the others came back\n"
+        )?)
+    }
 }

@@ -9,7 +9,6 @@ use crate::work::{Work, start};
 use message_tree::Octets;
 use realm_inbox::{Act, Inbox, Poster};
 use std::alloc::{AllocError, Global};
-use std::io;
 use std::sync::Wait;
 use std::thread::Threads;
 use wamp_ids::{Conn, seat};
@@ -80,9 +79,9 @@ fn both_of(mut room: Room, alloc: Global, first: Conn, second: Conn, count: u64)
     })
 }
 
-// Receives until each sender is gone.
-fn receive_all<R: Wait>(rt: &R, inbox: &mut Inbox<Wire>, received: &mut Received) {
-    for _ in rt.forever() {
+// Receives until each sender is gone, or so many posts came, and goes.
+fn receive_up_to<R: Wait>(rt: &R, mut inbox: Inbox<Wire>, most: u64, received: &mut Received) {
+    for _ in 0..most {
         match inbox.receive(rt) {
             None => break,
             Some(post) => received.sees(&post),
@@ -90,16 +89,17 @@ fn receive_all<R: Wait>(rt: &R, inbox: &mut Inbox<Wire>, received: &mut Received
     }
 }
 
-// Starts both threads and receives what they post. False where memory was refused.
+// Starts both threads and receives so much of what they post. False where memory was refused.
 fn pass<R: Threads + Wait + Copy + Send + 'static>(
     rt: R,
     both: Both,
+    most: u64,
     received: &mut Received,
 ) -> Result<bool, AllocError> {
     let Both {
         first,
         second,
-        mut inbox,
+        inbox,
     } = both;
     let first = start(rt, first)?;
     let second = start(rt, second);
@@ -108,37 +108,35 @@ fn pass<R: Threads + Wait + Copy + Send + 'static>(
         first.join(&rt);
         return Err(AllocError);
     };
-    receive_all(&rt, &mut inbox, received);
+    receive_up_to(&rt, inbox, most, received);
     let had_memory = first.join(&rt);
     Ok(second.join(&rt) && had_memory)
 }
 
-/// Posts so many PINGs from each of two threads through an inbox of this capacity, and tells what a third received.
+/// Posts so many PINGs from each of two threads through an inbox of this capacity, of which a third receives so many, and goes. What
+/// that one received; none where the two connections have the same seat.
 pub fn pass_all<R: Threads + Wait + Copy + Send + 'static>(
     rt: R,
     alloc: Global,
     cap: usize,
     conns: (Conn, Conn),
     count: u64,
-) -> io::Result<String>
+    most: u64,
+) -> Result<Option<Received>, AllocError>
     requires { 1 ≤ cap }
 {
     let (first, second) = conns;
     let room = Room::new(alloc, cap)?;
     let Some(both) = both_of(room, alloc, first, second, count) else {
-        return Ok(String::from_str(alloc, "they need the same seat\n")?);
+        return Ok(None);
     };
     let mut received = Received {
         first: Tally::new(first),
         second: Tally::new(second),
         others: 0,
     };
-    if !pass(rt, both, &mut received)? {
-        return Err(AllocError)?;
+    if !pass(rt, both, most, &mut received)? {
+        return Err(AllocError);
     }
-    let mut told = received.first.told(alloc)?;
-    told.push_str(received.second.told(alloc)?.as_str())?;
-    let others = received.others;
-    write!(told, "others: {others}, and then none\n")?;
-    Ok(told)
+    Ok(Some(received))
 }
