@@ -1,6 +1,6 @@
 //! Words counted from 0.
 ghost use Rattle.std.specs.Prelude.{◌≡◌, ◌++◌, ◌∷◌, []};
-ghost use Rattle.realm_inbox.specs.Past.{items_of};
+ghost use Rattle.ghost_state.specs.Past.{items_of};
 
 use realm_inbox::{IdSource, Past};
 use std::snapshot::Snapshot;

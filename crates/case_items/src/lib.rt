@@ -1,4 +1,4 @@
-//! What the drivers of realms share: items as text, and messages in JSON as what a client says.
+//! What the drivers of `realm_core` and `realm_actor` share: items as text, and messages in JSON as what a client says.
 #![tactic(auto)]
 
 mod items;

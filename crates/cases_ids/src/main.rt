@@ -1,5 +1,5 @@
-//! Cases of ids, topics and patterns, and of who is eligible, as lines of standard input; what each
-//! is answered by is printed. In a text `\7f` is an octet, and `-` alone is the empty text.
+//! Cases of ids, topics and patterns (`wamp_ids`), and of who is eligible (`eligibility`), as lines of standard input; what each is
+//! answered by is printed. In a text `\7f` is an octet, and `-` alone is the empty text.
 //!
 //! - `# TEXT` begins a case, and is printed as it stands.
 //! - `id N`, `conn N`: the id, or the connection and its seat.

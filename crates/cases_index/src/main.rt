@@ -1,4 +1,4 @@
-//! Cases of subscriptions and of retained publications, as lines of standard input; what each is
+//! Cases of subscriptions (`subscription_index`) and of retained publications (`retained`), as lines of standard input; what each is
 //! answered by is printed. In a text `\7f` is an octet, and `-` alone is the empty text.
 //!
 //! - `# TEXT` begins a case, with nothing held and nothing kept, and is printed as it stands.

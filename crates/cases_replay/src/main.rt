@@ -1,4 +1,4 @@
-//! Cases of `replay`, as lines of standard input; what each gives is printed.
+//! Cases of `broker_server`'s `replay`, of its command line and of its grants, as lines of standard input; what each gives is printed.
 //!
 //! - `# TEXT` begins a case, and is printed as it stands.
 //! - `grants TEXT`: the grants, as the command line has them.

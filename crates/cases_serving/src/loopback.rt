@@ -76,7 +76,7 @@ impl<R: Net<Stream = TcpStream, Listener = TcpListener> + Clock + Copy + Drop> S
 
 impl<R: Net<Stream = TcpStream, Listener = TcpListener> + Clock + Copy + Drop> Acceptor
     for Loopback<R> {
-    ghost use Rattle.realm_inbox.specs.Past.{items_of};
+    ghost use Rattle.ghost_state.specs.Past.{items_of};
 
     type Stream = TcpStream;
 

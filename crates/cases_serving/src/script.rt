@@ -73,7 +73,7 @@ impl<R: Net + Drop> Pairs<R> {
 }
 
 impl<R: Net + Drop> Acceptor for Script<R> {
-    ghost use Rattle.realm_inbox.specs.Past.{items_of};
+    ghost use Rattle.ghost_state.specs.Past.{items_of};
 
     type Stream = End;
 

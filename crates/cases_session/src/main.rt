@@ -1,4 +1,4 @@
-//! Cases of sessions, as lines of standard input; what each is answered by is printed.
+//! Cases of `session`, as lines of standard input; what each is answered by is printed.
 //!
 //! - `# TEXT` begins a case, and is printed as it stands.
 //! - `say JSON`: what a client's message says.

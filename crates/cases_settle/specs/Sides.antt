@@ -4,7 +4,7 @@ use Rattle.wamp_ids.specs.Numbers.{seat_of}
 use Rattle.session.specs.declared.item.Item.{Item}
 use Rattle.realm.specs.History.{History}
 use Rattle.outbox_queue.specs.Ends.{Taking}
-use Rattle.realm_inbox.specs.Past.{items_of}
+use Rattle.ghost_state.specs.Past.{items_of}
 use Rattle.realm_actor.specs.Acting.{Acting}
 use Rattle.realm_actor.specs.Following.{Box}
 use Rattle.realm_actor.specs.Naming.{outbox_of}

@@ -2,7 +2,7 @@
 ghost use Rattle.std.specs.Prelude.{◌≡◌, ℕ, [], Some, None, false};
 ghost use Rattle.wamp_ids.specs.Numbers.{seat_of};
 ghost use Rattle.realm_inbox.specs.Joins.{is_join};
-ghost use Rattle.realm_inbox.specs.Past.{items_of};
+ghost use Rattle.ghost_state.specs.Past.{items_of};
 ghost use Rattle.realm_inbox.specs.declared.act.Act.TheVariants.{Join as AJoin};
 ghost use Rattle.realm_inbox.specs.declared.joining.Joining.{Joining as AJoining};
 ghost use Rattle.realm_actor.specs.Following.{Box};

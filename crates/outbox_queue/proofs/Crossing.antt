@@ -18,7 +18,7 @@ use Rattle.crossbeam_queue.specs.contracts.array_queue.Turns as Turns
 use Rattle.crossbeam_queue.specs.contracts.array_queue.TurnsTableRuleOptionDoingUnit.TheImpl as turns
 use Rattle.crossbeam_utils.proofs.sync.parker.RuledParker.TheSendSync as parker
 use Rattle.crossbeam_utils.proofs.sync.parker.RuledUnparker.TheSendSync as unparker
-use Rattle.outbox_queue.proofs.count.Trail.TheLaws.TheKnot.{crosses as counts}
+use Rattle.ghost_state.proofs.count.Trail.TheLaws.TheKnot.{crosses as counts}
 use Rattle.outbox_queue.specs.contracts.drain.Drain as Drain
 use Rattle.outbox_queue.specs.contracts.drain.Drain.TheInside as drain
 use Rattle.outbox_queue.specs.contracts.ends.AddingEnd as AddingEnd

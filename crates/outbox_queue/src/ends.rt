@@ -10,10 +10,10 @@ ghost use Rattle.outbox_queue.specs.Rule.{start, adding, taking, both};
 ghost use Rattle.outbox_queue.specs.Rule.{Grows};
 ghost use Rattle.outbox_queue.specs.Ends.{Owes};
 
-use crate::count::Count;
 use crate::owed::{Owed, Stamped};
 use crate::rule::{Adds, Ends, InStep, Naming, Settles, Takes, View, Whole};
 use crossbeam_queue::{Pass, RuledArrayQueue};
+use ghost_state::Count;
 use std::alloc::{AllocError, Global};
 use std::marker::{Brand, Model};
 use std::sync::{Arc, Wait};

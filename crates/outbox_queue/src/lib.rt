@@ -9,10 +9,9 @@
 //!
 //! Nothing is promised of time: neither that a call returns while the other end is inside its step, nor that a writer wakes.
 //!
-//! It stands on no other crate of this repository.
+//! It stands on `ghost_state` alone.
 #![tactic(auto)]
 
-mod count;
 mod drain;
 mod ends;
 mod outbox;

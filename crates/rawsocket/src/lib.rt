@@ -5,6 +5,10 @@
 //!
 //! A frame's length has 24 bits here: payloads of exactly 2^24 octets, and any use of the upper five
 //! bits of a frame's first octet, are left out.
+//!
+//! It stands on `ghost_state` alone. Contracts say how each handshake is answered; that the frames of a stream, and the fault behind
+//! the last one, are those that its octets spell, whatever pieces they came in; and of a device which octets it gave or took, in how
+//! many calls, and how often it failed.
 mod deframer;
 mod device;
 mod fault;
@@ -14,7 +18,6 @@ pub mod laws;
 mod memory;
 mod over_io;
 mod passed;
-mod steps;
 pub mod testing;
 mod turns;
 
@@ -26,5 +29,4 @@ pub use handshake::{Handshake, Serializer, answer, no_seat_reply};
 pub use memory::{MemorySink, MemorySource};
 pub use over_io::{ReadSource, WriteSink};
 pub use passed::Passed;
-pub use steps::Steps;
 pub use turns::{PIECE, Turns, read_turn, send, write_all};

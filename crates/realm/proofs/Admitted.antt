@@ -3,6 +3,7 @@ use Rattle.std.proofs.Common.{◌≡◌, ◌≢◌, ℕ, ℤ, Bool, true, false,
 use Rattle.std.specs.declared.option.Option.{Option}
 use Rattle.std.specs.declared.result.Result.{Result}
 use Rattle.std.specs.List.{filter}
+use Rattle.std.proofs.lemmas.Bool.{and_parts}
 use Rattle.wamp_ids.specs.Pattern.{PatternText, matches}
 use Rattle.eligibility.specs.declared.who.Who.{Who}
 use Rattle.eligibility.specs.Audience.{has_number, is_free_of, allows, admits as eligible}
@@ -21,7 +22,6 @@ use Rattle.realm.specs.Subscriptions.{held, number, subscribed, holds_number}
 use Rattle.realm.specs.Publications.{Made, published, retained}
 use Rattle.realm.specs.Yield.{yield, reply, events, retained_events_of, publication_of, sent_events, asked_events, welcome, publish_reply, subscribe_reply, unsubscribe_reply, names_topic, admits_who}
 use Rattle.realm.specs.Laws.{EachEvent, EventsAreAdmitted, ExcludedIsNotReached, EmptyEligibleReachesNobody}
-use Rattle.realm.proofs.Numbers.{and-true}
 
 module _ (P : Publication → Type 0) where
   pub each-append : (xs ys : List Item) → EachEvent P xs → EachEvent P ys → EachEvent P (xs ++ ys)
@@ -95,7 +95,7 @@ retained-admitted (p ∷ ps) receiver n pattern = at (matches pattern p.topic &&
     at : (b : Bool) → matches pattern p.topic && admits_who p receiver ≡ b → EachEvent (λ q. admits_who q receiver ≡ true) (retained_events_of ps receiver n pattern)
         → EachEvent (λ q. admits_who q receiver ≡ true)
         (map event (cond b (p ∷ filter (λ q. matches pattern q.topic && admits_who q receiver) ps) (filter (λ q. matches pattern q.topic && admits_who q receiver) ps)))
-    at true is rest = ((and-true (matches pattern p.topic) (admits_who p receiver) is).1, rest)
+    at true is rest = ((and_parts (matches pattern p.topic) (admits_who p receiver) is).1, rest)
     at false is rest = rest
 
 asked-admitted : (flag : Option Bool) (r : Result PatternText Reason) (num : PatternText → ℕ) (ps : List Publication) (receiver : Option Who)
@@ -127,12 +127,12 @@ record Passes (p : Publication) (w : Who) : Type 0 where
 
 passes : (p : Publication) (w : Who) → eligible p.lists w p.publisher ≡ true → Passes p w
 passes p w is =
-    let not_me = and-true _ _ is in
-    let role = and-true _ _ not_me.0 in
-    let name = and-true _ _ role.0 in
-    let number = and-true _ _ name.0 in
-    let free_role = and-true _ _ number.0 in
-    let free_name = and-true _ _ free_role.0 in
+    let not_me = and_parts _ _ is in
+    let role = and_parts _ _ not_me.0 in
+    let name = and_parts _ _ role.0 in
+    let number = and_parts _ _ name.0 in
+    let free_role = and_parts _ _ number.0 in
+    let free_name = and_parts _ _ free_role.0 in
     record { free = free_name.0; eligible = number.1 }
 
 pub excluded : ExcludedIsNotReached

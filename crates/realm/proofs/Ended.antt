@@ -2,7 +2,7 @@
 use Rattle.std.proofs.Common.{◌≡◌, ℕ, Bool, true, false, cond, not, ◌&&◌, ◌||◌, eqb, ltb, List, [], ◌∷◌, refl, sym, ap, ◌∙◌, None, Some, arith}
 use Rattle.std.specs.declared.option.Option.{Option}
 use Rattle.std.specs.List.{list_any, list_all}
-use Rattle.std.proofs.lemmas.Bool.{eqb-true, eq-eqb}
+use Rattle.std.proofs.lemmas.Bool.{eqb-true, eq-eqb, or_right}
 use Rattle.std.proofs.lemmas.Bool.Decides.{nat_tests}
 use Rattle.wamp_ids.specs.Numbers.{seat_of}
 use Rattle.wamp_ids.specs.Pattern.{PatternText}
@@ -74,15 +74,11 @@ none_if : (b : Bool) → cond {A = Option Who} b None None ≡ None
 none_if true = refl
 none_if false = refl
 
-or_true : (b a : Bool) → a ≡ true → b || a ≡ true
-or_true true a e = refl
-or_true false a e = e
-
 over-next : (k : History) (c : ℕ) (f : Entry) → IsOver k c → may_come k f ≡ true → IsOver (k ▷ f) c
 unfolding who
 over-next k c (Join d word authid) over come =
     let elsewhere : eqb d c ≡ false = over-entry k c (Join d word authid) over come in
-    record { joined = or_true (eqb d c) (has (joined k) c) over.joined; ended = rw elsewhere over.ended }
+    record { joined = or_right (eqb d c) (has (joined k) c) over.joined; ended = rw elsewhere over.ended }
 over-next k c f over come = record { joined = over.joined; ended = rw over.ended (none_if (ends f c)) }
 
 and-first : (a b : Bool) → a && b ≡ true → a ≡ true

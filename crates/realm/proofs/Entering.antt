@@ -2,7 +2,7 @@
 use Rattle.std.proofs.Common.{◌≡◌, ℕ, Bool, true, false, cond, not, eqb, ◌&&◌, ◌||◌, List, [], ◌∷◌, ◌++◌, refl, sym, ap, subst, ◌∙◌, append-nil, append_assoc, None, is_some}
 use Rattle.std.specs.declared.option.Option.{Option}
 use Rattle.std.specs.List.{list_any}
-use Rattle.std.proofs.lemmas.Bool.{eqb-true}
+use Rattle.std.proofs.lemmas.Bool.{eqb-true, and_left}
 use Rattle.std.proofs.lemmas.List.Folds.{list_any-append}
 use Rattle.std.proofs.lemmas.List.Elements.{filter-append}
 use Rattle.eligibility.specs.declared.who.Who.{Who}
@@ -83,14 +83,10 @@ none_if : (b : Bool) (o : Option Who) → b ≡ false → cond b None o ≡ o
 none_if true o e = absurd (cc)
 none_if false o e = refl
 
-elsewhere-said : (a b : Bool) → a ≡ false → a && b ≡ false
-elsewhere-said true b e = absurd (cc)
-elsewhere-said false b e = refl
-
 who-elsewhere : (h : History) (e : Entry) (c : ℕ) → eqb (conn_of e) c ≡ false → who (h ▷ e) c ≡ who h c
 unfolding who
 who-elsewhere h (Join d word authid) c elsewhere = rw elsewhere refl
-who-elsewhere h (Said d word said) c elsewhere = none_if (ends (Said d word said) c) (who h c) (elsewhere-said (eqb d c) _ elsewhere)
+who-elsewhere h (Said d word said) c elsewhere = none_if (ends (Said d word said) c) (who h c) (and_left (eqb d c) _ elsewhere)
 who-elsewhere h (Ping d payload) c elsewhere = refl
 who-elsewhere h (Spoilt d word) c elsewhere = none_if (eqb d c) (who h c) elsewhere
 who-elsewhere h (Gone d word) c elsewhere = none_if (eqb d c) (who h c) elsewhere

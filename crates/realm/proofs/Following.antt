@@ -3,8 +3,9 @@ use Rattle.std.proofs.Common.{◌≡◌, ℕ, ◌+◌, Bool, true, false, cond, 
 use Rattle.std.specs.declared.option.Option.{Option}
 use Rattle.std.specs.declared.result.Result.{Result}
 use Rattle.std.specs.List.{list_any, filter}
-use Rattle.std.proofs.lemmas.Bool.{eqb-true, eq-eqb}
+use Rattle.std.proofs.lemmas.Bool.{eqb-true, eq-eqb, or_right, or_left, not-true, and_parts, or_cases}
 use Rattle.std.proofs.lemmas.List.Folds.{list_any-append}
+use Rattle.std.proofs.Math.Bool.{and-false}
 use Rattle.wamp_ids.specs.Pattern.{PatternText, matches, same_pattern}
 use Rattle.realm.specs.declared.entry.Entry.{Entry}
 use Rattle.realm.specs.declared.entry.Entry.TheVariants.{Join, Said, Ping, Spoilt, Gone, Cut, Closed}
@@ -22,19 +23,11 @@ use Rattle.realm.specs.Subscriptions.{holds, opened, held, number, number_among,
 use Rattle.realm.specs.Publications.{Made, published, retained}
 use Rattle.realm.specs.Yield.{yield, owed, reply, events, retained_events_of, publication_of, sent_events, asked_events, welcome, publish_reply, subscribe_reply, unsubscribe_reply, names_topic, admits_who}
 use Rattle.realm.specs.Laws.{is_subscribed, at_once, further, IsSubscribed, EventsWhileSubscribed}
-use Rattle.realm.proofs.Numbers.{and-true, or-true, same_pattern-true}
+use Rattle.realm.proofs.Numbers.{same_pattern-true}
 use Rattle.realm.proofs.Joined.{live-joined}
 
 abbrev has : List ℕ → ℕ → Bool
 has xs c = list_any (λ x. eqb x c) xs
-
-or_right : (a b : Bool) → b ≡ true → a || b ≡ true
-or_right true b e = refl
-or_right false b e = e
-
-or_left : (a b : Bool) → a ≡ true → a || b ≡ true
-or_left true b e = refl
-or_left false b e = absurd (cc)
 
 -- who holds something has joined
 pub holder-joined : (h : History) (c : ℕ) (p : PatternText) → IsHistory h → holds h c p ≡ true → has (joined h) c ≡ true
@@ -43,14 +36,14 @@ holder-joined (begun grants) c p is_history held = absurd (cc)
 holder-joined (h ▷ Said d word (Subscribe request options topic)) c p is_history held =
     ⊎_elim
     (λ before. holder-joined h c p is_history.0 before)
-    (λ new. let own : d ≡ c = eqb-true d c (and-true (eqb d c) (is_of p (subscribed h d options topic)) new).0 in
+    (λ new. let own : d ≡ c = eqb-true d c (and_parts (eqb d c) (is_of p (subscribed h d options topic)) new).0 in
     live-joined h c (sym (ap (live h) own) ∙ is_history.1))
-    (or-true (holds h c p) (eqb d c && is_of p (subscribed h d options topic)) held)
+    (or_cases (holds h c p) (eqb d c && is_of p (subscribed h d options topic)) held)
 holder-joined (h ▷ Said d word (Unsubscribe request n)) c p is_history held =
-    holder-joined h c p is_history.0 (and-true (holds h c p) (not (eqb d c && eqb (number_among (opened h) p) n)) held).0
+    holder-joined h c p is_history.0 (and_parts (holds h c p) (not (eqb d c && eqb (number_among (opened h) p) n)) held).0
 holder-joined (h ▷ Join d word authid) c p is_history held =
-    or_right (eqb d c) (has (joined h) c) (holder-joined h c p is_history.0 (and-true (holds h c p) true held).0)
-holder-joined (h ▷ e) c p is_history held = holder-joined h c p is_history.0 (and-true (holds h c p) (not (ends e c)) held).0
+    or_right (eqb d c) (has (joined h) c) (holder-joined h c p is_history.0 (and_parts (holds h c p) true held).0)
+holder-joined (h ▷ e) c p is_history held = holder-joined h c p is_history.0 (and_parts (holds h c p) (not (ends e c)) held).0
 
 pub any-here : (P : ℕ → Bool) (xs : List ℕ) (c : ℕ) → has xs c ≡ true → P c ≡ true → list_any P xs ≡ true
 any-here P [] c here is = absurd (cc)
@@ -104,14 +97,14 @@ held-announced (h ▷ Said d word (Subscribe request options topic)) c q is_hist
     let kept : number (h ▷ e) q ≡ number h q = number-kept somebody (opened h) r q (any-here (λ x. holds h x q) (joined h) c (holder-joined h c q is_history.0 before) before) in
     rw kept (announced-more (owed h c) (yield h e c) (number h q) (held-announced h c q is_history.0 before)))
     (λ new.
-    let both = and-true (eqb d c) (is_of q r) new in
+    let both = and_parts (eqb d c) (is_of q r) new in
     announced-new (owed h c) (yield h e c) (number (h ▷ e) q) (rw both.0 (replied request (number (h ▷ e)) r q (asked_events (get_retained_of options) r (number (h ▷ e)) (retained h) (who h c)) both.1)))
-    (or-true (holds h c q) (eqb d c && is_of q r) held)
+    (or_cases (holds h c q) (eqb d c && is_of q r) held)
 held-announced (h ▷ Said d word (Unsubscribe request n)) c q is_history held =
     announced-more (owed h c) (yield h (Said d word (Unsubscribe request n)) c) (number h q)
-    (held-announced h c q is_history.0 (and-true (holds h c q) (not (eqb d c && eqb (number_among (opened h) q) n)) held).0)
+    (held-announced h c q is_history.0 (and_parts (holds h c q) (not (eqb d c && eqb (number_among (opened h) q) n)) held).0)
 held-announced (h ▷ e) c q is_history held =
-    announced-more (owed h c) (yield h e c) (number h q) (held-announced h c q is_history.0 (and-true (holds h c q) (not (ends e c)) held).0)
+    announced-more (owed h c) (yield h e c) (number h q) (held-announced h c q is_history.0 (and_parts (holds h c q) (not (ends e c)) held).0)
 
 -- `Backs n` is another reason for an EVENT of number n
 module _ (Backs : ℕ → Type 0) where
@@ -218,7 +211,7 @@ module _ (Backs : ℕ → Type 0) where
         at_match : (b : Bool) → P x.1 && eqb (num x.1) x.0 ≡ true → AllowsEach seen (map event (filter (λ s. matches s.1 p.topic) (filter (λ s. P s.1 && eqb (num s.1) s.0) xs)))
             → AllowsEach seen (map event (cond b (x ∷ filter (λ s. matches s.1 p.topic) (filter (λ s. P s.1 && eqb (num s.1) s.0) xs)) (filter (λ s. matches s.1 p.topic) (filter (λ s. P s.1 && eqb (num s.1) s.0) xs))))
         at_match true is all =
-            let both = and-true (P x.1) (eqb (num x.1) x.0) is in
+            let both = and_parts (P x.1) (eqb (num x.1) x.0) is in
             let same : num x.1 ≡ x.0 = eqb-true (num x.1) x.0 both.1 in
             (rw (← same) (announced x.1 both.0), all)
         at_match false is all = all
@@ -307,11 +300,6 @@ pub events-follow : (h : History) (c n : ℕ) (p : Publication) (with_topic reta
 events-follow h c n p with_topic retained before after is_history is =
     ⊎_elim (λ announced. announced) (λ never. absurd never) (in-turn-at (λ m. ⊥) [] (owed h c) before after n p with_topic retained (owed-in_turn h c is_history) is)
 
--- what is held was subscribed to, and not let go since
-not-true : (b : Bool) → not b ≡ true → b ≡ false
-not-true true is = absurd (cc)
-not-true false is = refl
-
 still-held : (d c m n : ℕ) (held : Bool) → not (eqb d c && eqb n m) ≡ true → eqb d c && (eqb m n && held) ≡ false
 still-held d c m n held kept = at (eqb d c) (eqb n m) kept
   where
@@ -323,10 +311,7 @@ still-held d c m n held kept = at (eqb d c) (eqb n m) kept
     at true b kept = with_number (eqb m n) refl (not-true (eqb n m) kept)
     at false b kept = refl
 
-and-false : (b : Bool) → b && false ≡ false
-and-false true = refl
-and-false false = refl
-
+-- what is held was subscribed to, and not let go since
 pub held-since : (h : History) (c : ℕ) (q : PatternText) → IsHistory h → holds h c q ≡ true → IsSubscribed h c (number h q)
 unfolding holds opened yield
 held-since (begun grants) c q is_history held = absurd (cc)
@@ -340,20 +325,20 @@ held-since (h ▷ Said d word (Subscribe request options topic)) c q is_history 
     let s = held-since h c q is_history.0 before in
     rw kept (record { before = s.before; entry = s.entry; given = s.given; since = further s.since (and-false (eqb d c)) }))
     (λ new.
-    let both = and-true (eqb d c) (is_of q r) new in
+    let both = and_parts (eqb d c) (is_of q r) new in
     record {
       before = h;
       entry = e;
       given = rw both.0 (replied request (number (h ▷ e)) r q (asked_events (get_retained_of options) r (number (h ▷ e)) (retained h) (who h c)) both.1);
       since = at_once;
     })
-    (or-true (holds h c q) (eqb d c && is_of q r) held)
+    (or_cases (holds h c q) (eqb d c && is_of q r) held)
 held-since (h ▷ Said d word (Unsubscribe request n)) c q is_history held =
-    let both = and-true (holds h c q) (not (eqb d c && eqb (number_among (opened h) q) n)) held in
+    let both = and_parts (holds h c q) (not (eqb d c && eqb (number_among (opened h) q) n)) held in
     let s = held-since h c q is_history.0 both.0 in
     record { before = s.before; entry = s.entry; given = s.given; since = further s.since (still-held d c n (number h q) (holds_number h d n) both.1) }
 held-since (h ▷ e) c q is_history held =
-    let both = and-true (holds h c q) (not (ends e c)) held in
+    let both = and_parts (holds h c q) (not (ends e c)) held in
     let s = held-since h c q is_history.0 both.0 in
     record { before = s.before; entry = s.entry; given = s.given; since = further s.since (not-true (ends e c) both.1) }
 

@@ -2,7 +2,7 @@
 use Rattle.std.proofs.Common.{◌≡◌, ℕ, ◌≤◌, Bool, true, false, cond, ◌||◌, ◌&&◌, eqb, ltb, List, [], ◌∷◌, ◌++◌, map, refl, ap, ◌∙◌, None, Some, arith}
 use Rattle.std.specs.declared.option.Option.{Option}
 use Rattle.std.specs.List.{filter}
-use Rattle.std.proofs.lemmas.Bool.{eqb-true}
+use Rattle.std.proofs.lemmas.Bool.{eqb-true, or_right}
 use Rattle.std.proofs.lemmas.Bool.Decides.{nat_tests}
 use Rattle.wamp_ids.specs.Pattern.{PatternText, matches}
 use Rattle.subscription_index.specs.Held.{Row, IsStrictlyAscending, IsBeforeAll, keys, pattern_of, matching}
@@ -32,10 +32,6 @@ items_for-append c (x ∷ xs) ys = at (eqb x.0 c) (items_for-append c xs ys)
 abbrev AllFound : List Row → List Row → Type 0
 AllFound rows [] = Unit {0}
 AllFound rows (r ∷ rs) = (pattern_of rows r.0.0 r.0.1 ≡ Some r.1) × AllFound rows rs
-
-or_right : (a b : Bool) → b ≡ true → a || b ≡ true
-or_right true b e = refl
-or_right false b e = e
 
 found-among : (rows rs : List Row) → IsStrictlyAscending (keys rows) → ((q : Row) → has_row rs q ≡ true → has_row rows q ≡ true) → AllFound rows rs
 found-among rows [] ascending within = tt

@@ -1,14 +1,14 @@
 -- What is held, with its numbers, as a list in order.
 use Rattle.std.proofs.Common.{◌≡◌, ℕ, ◌+◌, ◌≤◌, ◌<◌, Bool, true, false, cond, ◌&&◌, ◌||◌, eqb, List, [], ◌∷◌, ◌++◌, length, refl, sym, ap, ◌∙◌, arith}
 use Rattle.std.specs.List.{filter}
-use Rattle.std.proofs.lemmas.Bool.{eqb-true, eq-eqb}
+use Rattle.std.proofs.lemmas.Bool.{eqb-true, eq-eqb, and_parts}
 use Rattle.std.proofs.lemmas.List.Folds.{list_any-append}
 use Rattle.wamp_ids.specs.Pattern.{PatternText, same_pattern}
 use Rattle.subscription_index.specs.Held.{Row, IsStrictlyAscending, keys}
 use Rattle.subscription_index.specs.Members.{has_row, rows_of, has_named, same_named, IsBelowAll, AscendsByNumber}
 use Rattle.subscription_index.proofs.Holders.{has_named-rows_of, ascends-rows_of, named_decide}
 use Rattle.realm.specs.Subscriptions.{held_among, number_among, numbered}
-use Rattle.realm.proofs.Numbers.{and-true, same_pattern-true, same_pattern-refl}
+use Rattle.realm.proofs.Numbers.{same_pattern-true, same_pattern-refl}
 
 -- numbers ascend
 below-append : (n : ℕ) (xs : List (ℕ × PatternText)) (x : ℕ × PatternText) → n < x.0 → IsBelowAll n xs → IsBelowAll n (xs ++ x ∷ [])
@@ -60,7 +60,7 @@ ascends-filter f (x ∷ xs) ascends = at (f x) (ascends-filter f xs ascends.1)
 -- what is in the list
 same_named-true : (a b : ℕ × PatternText) → same_named a b ≡ true → a ≡ b
 same_named-true a b is =
-    let both = and-true (eqb a.0 b.0) (same_pattern a.1 b.1) is in
+    let both = and_parts (eqb a.0 b.0) (same_pattern a.1 b.1) is in
     ap (λ n. (n, a.1)) (eqb-true a.0 b.0 both.0) ∙ ap (λ p. (b.0, p)) (same_pattern-true a.1 b.1 both.1)
 
 module _ (f : ℕ × PatternText → Bool) (s : ℕ × PatternText) where
@@ -119,7 +119,7 @@ rows-held rows os holds c ascending some agree =
   where
     at : (s : ℕ × PatternText) (b : Bool) → holds s.1 && eqb (number_among os s.1) s.0 ≡ b → b && has_named (numbered os) s ≡ b
     at s true is =
-        let both = and-true (holds s.1) (eqb (number_among os s.1) s.0) is in
+        let both = and_parts (holds s.1) (eqb (number_among os s.1) s.0) is in
         let number : number_among os s.1 ≡ s.0 = eqb-true (number_among os s.1) s.0 both.1 in
         ap (λ n. has_named (numbered os) (n, s.1)) (sym number) ∙ has_named-numbered os s.1 (some s.1 both.0)
     at s false is = refl

@@ -1,7 +1,7 @@
 -- An ending gives its own session no EVENT.
 use Rattle.std.proofs.Common.{◌≡◌, ℕ, true, false, eqb, List, refl, None, Some, option_map, subst}
 use Rattle.std.specs.declared.option.Option.{Option}
-use Rattle.std.proofs.lemmas.Bool.{eqb-true, eq-eqb}
+use Rattle.std.proofs.lemmas.Bool.{eqb-true, eq-eqb, and_parts}
 use Rattle.wamp_ids.specs.Pattern.{PatternText}
 use Rattle.eligibility.specs.declared.who.Who.{Who}
 use Rattle.session.specs.declared.said.Said.TheVariants.{Hello, Abort, Goodbye, Publish, Subscribe, Unsubscribe}
@@ -13,7 +13,6 @@ use Rattle.realm.specs.Subscriptions.{held}
 use Rattle.realm.specs.Announcements.{departure}
 use Rattle.realm.specs.Yield.{yield, reply, events, sent_events}
 use Rattle.realm.specs.Laws.{EachEvent, LeaverIsNotTold}
-use Rattle.realm.proofs.Numbers.{and-true}
 use Rattle.realm.proofs.Admitted.{each-append, each-if, reply-none}
 
 -- a departure doesn't admit who leaves
@@ -27,12 +26,12 @@ own-departure h d c word own =
 
 own-events : (h : History) (e : Entry) (c : ℕ) → ends e c ≡ true → EachEvent (λ p. ⊥) (events h e c)
 own-events h (Join d word authid) c ending = absurd (cc)
-own-events h (Said d word (Hello realm authid)) c ending = own-departure h d c word (and-true (eqb d c) true ending).0
-own-events h (Said d word Abort) c ending = own-departure h d c word (and-true (eqb d c) true ending).0
-own-events h (Said d word Goodbye) c ending = own-departure h d c word (and-true (eqb d c) true ending).0
-own-events h (Said d word (Publish request options topic args)) c ending = absurd (let no = (and-true (eqb d c) false ending).1 in cc)
-own-events h (Said d word (Subscribe request options topic)) c ending = absurd (let no = (and-true (eqb d c) false ending).1 in cc)
-own-events h (Said d word (Unsubscribe request n)) c ending = absurd (let no = (and-true (eqb d c) false ending).1 in cc)
+own-events h (Said d word (Hello realm authid)) c ending = own-departure h d c word (and_parts (eqb d c) true ending).0
+own-events h (Said d word Abort) c ending = own-departure h d c word (and_parts (eqb d c) true ending).0
+own-events h (Said d word Goodbye) c ending = own-departure h d c word (and_parts (eqb d c) true ending).0
+own-events h (Said d word (Publish request options topic args)) c ending = absurd (let no = (and_parts (eqb d c) false ending).1 in cc)
+own-events h (Said d word (Subscribe request options topic)) c ending = absurd (let no = (and_parts (eqb d c) false ending).1 in cc)
+own-events h (Said d word (Unsubscribe request n)) c ending = absurd (let no = (and_parts (eqb d c) false ending).1 in cc)
 own-events h (Ping d payload) c ending = absurd (cc)
 own-events h (Spoilt d word) c ending = own-departure h d c word ending
 own-events h (Gone d word) c ending = own-departure h d c word ending

@@ -4,6 +4,7 @@ use Rattle.std.specs.declared.result.Result.{Result}
 use Rattle.std.specs.List.{list_any}
 use Rattle.std.specs.Str.{bytes_eq}
 use Rattle.std.proofs.lemmas.Slice.Eq.{bytes_eq-Decides}
+use Rattle.std.proofs.lemmas.Bool.{and_parts, or_cases}
 use Rattle.wamp_ids.specs.Pattern.{PatternText, same_policy, same_pattern}
 use Rattle.wamp_ids.specs.declared.pattern.Policy.{Policy}
 use Rattle.wamp_ids.specs.declared.pattern.Policy.TheVariants.{Exact, Prefix, Wildcard}
@@ -13,10 +14,6 @@ use Rattle.session.specs.declared.item.Reason.{Reason}
 use Rattle.realm.specs.History.{History, begun, ◌▷◌}
 use Rattle.realm.specs.Sessions.{joined, ends}
 use Rattle.realm.specs.Subscriptions.{holds, opened, number, number_among, if_new, is_of, subscribed}
-
-pub and-true : (a b : Bool) → a && b ≡ true → (a ≡ true) × (b ≡ true)
-and-true true b e = (refl, e)
-and-true false b e = absurd (cc)
 
 pub bytes_eq-refl : (xs : List ℕ) → bytes_eq xs xs ≡ true
 bytes_eq-refl xs = (bytes_eq-Decides xs xs).1 refl
@@ -42,7 +39,7 @@ same_pattern-refl p = rw (same_policy-refl p.policy) (bytes_eq-refl p.text)
 
 pub same_pattern-true : (p q : PatternText) → same_pattern p q ≡ true → p ≡ q
 same_pattern-true p q e =
-    let both = and-true (same_policy p.policy q.policy) (bytes_eq p.text q.text) e in
+    let both = and_parts (same_policy p.policy q.policy) (bytes_eq p.text q.text) e in
     let text_same : p.text ≡ q.text = (bytes_eq-Decides p.text q.text).0 both.1 in
     ap (λ x. record { policy = x; text = p.text }) (same_policy-true p.policy q.policy both.0) ∙ ap (λ t. record { policy = q.policy; text = t }) text_same
 
@@ -91,10 +88,6 @@ number-of_new somebody os (Ok q) p is some = rw (same_pattern-true q p is) (at (
     at true held = some held
     at false held = rw (same_pattern-refl p) (omega arith)
 
-pub or-true : (a b : Bool) → a || b ≡ true → (a ≡ true) ⊎ (b ≡ true)
-or-true true b e = inl refl
-or-true false b e = inr e
-
 pub held-number : (h : History) (c : ℕ) (p : PatternText) → holds h c p ≡ true → 1 ≤ number h p
 unfolding holds opened
 held-number (begun grants) c p held = absurd (cc)
@@ -103,9 +96,9 @@ held-number (h ▷ Said d word (Subscribe request options topic)) c p held =
     let r = subscribed h d options topic in
     ⊎_elim
     (λ before. number-if_new somebody (opened h) r p (held-number h c p before))
-    (λ new. number-of_new somebody (opened h) r p (and-true (eqb d c) (is_of p r) new).1
+    (λ new. number-of_new somebody (opened h) r p (and_parts (eqb d c) (is_of p r) new).1
     (λ some. let s = list_any-true (λ e. holds h e p) (joined h) some in held-number h s.one p s.is))
-    (or-true (holds h c p) (eqb d c && is_of p r) held)
+    (or_cases (holds h c p) (eqb d c && is_of p r) held)
 held-number (h ▷ Said d word (Unsubscribe request n)) c p held =
-    held-number h c p (and-true (holds h c p) (not (eqb d c && eqb (number_among (opened h) p) n)) held).0
-held-number (h ▷ e) c p held = held-number h c p (and-true (holds h c p) (not (ends e c)) held).0
+    held-number h c p (and_parts (holds h c p) (not (eqb d c && eqb (number_among (opened h) p) n)) held).0
+held-number (h ▷ e) c p held = held-number h c p (and_parts (holds h c p) (not (ends e c)) held).0

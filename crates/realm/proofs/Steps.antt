@@ -1,6 +1,7 @@
 -- One entry more: what it changes of the model, kind by kind.
 use Rattle.std.proofs.Common.{◌≡◌, ℕ, Bool, true, false, cond, not, ◌&&◌, eqb, List, refl, None}
 use Rattle.std.specs.declared.option.Option.{Option}
+use Rattle.std.proofs.Math.Bool.{and-true, and-false}
 use Rattle.message_tree.specs.Data.{Entries}
 use Rattle.wamp_ids.specs.Pattern.{PatternText}
 use Rattle.session.specs.Arguments.{Arguments}
@@ -19,14 +20,6 @@ pub record IsEnding (h : History) (e : Entry) (c : ℕ) : Type 0 where
   pub opened : opened (h ▷ e) ≡ opened h
   pub kept : kept (h ▷ e) ≡ kept h
   pub joined : joined (h ▷ e) ≡ joined h
-
-and-true-r : (b : Bool) → b && true ≡ b
-and-true-r true = refl
-and-true-r false = refl
-
-and-false-r : (b : Bool) → b && false ≡ false
-and-false-r true = refl
-and-false-r false = refl
 
 pub spoilt : (h : History) (c w : ℕ) → IsEnding h (Spoilt c w) c
 unfolding who holds opened kept
@@ -47,8 +40,8 @@ closed h c w = record { who = λ d. refl; holds = λ d p. refl; opened = refl; k
 pub abort : (h : History) (c w : ℕ) → IsEnding h (Said c w Abort) c
 unfolding who holds opened kept
 abort h c w = record {
-  who = λ d. rw (and-true-r (eqb c d)) refl;
-  holds = λ d p. rw (and-true-r (eqb c d)) refl;
+  who = λ d. rw (and-true (eqb c d)) refl;
+  holds = λ d p. rw (and-true (eqb c d)) refl;
   opened = refl;
   kept = refl;
   joined = refl;
@@ -57,8 +50,8 @@ abort h c w = record {
 pub goodbye : (h : History) (c w : ℕ) → IsEnding h (Said c w Goodbye) c
 unfolding who holds opened kept
 goodbye h c w = record {
-  who = λ d. rw (and-true-r (eqb c d)) refl;
-  holds = λ d p. rw (and-true-r (eqb c d)) refl;
+  who = λ d. rw (and-true (eqb c d)) refl;
+  holds = λ d p. rw (and-true (eqb c d)) refl;
   opened = refl;
   kept = refl;
   joined = refl;
@@ -67,8 +60,8 @@ goodbye h c w = record {
 pub hello : (h : History) (c w : ℕ) (realm : List ℕ) (authid : Option (List ℕ)) → IsEnding h (Said c w (Hello realm authid)) c
 unfolding who holds opened kept
 hello h c w realm authid = record {
-  who = λ d. rw (and-true-r (eqb c d)) refl;
-  holds = λ d p. rw (and-true-r (eqb c d)) refl;
+  who = λ d. rw (and-true (eqb c d)) refl;
+  holds = λ d p. rw (and-true (eqb c d)) refl;
   opened = refl;
   kept = refl;
   joined = refl;
@@ -90,7 +83,7 @@ ping h c payload = record { who = λ d. refl; joined = refl }
 
 pub ping-held : (h : History) (c : ℕ) (payload : List ℕ) → KeepsHeld h (Ping c payload)
 unfolding holds opened
-ping-held h c payload = record { holds = λ d p. and-true-r (holds h d p); opened = refl }
+ping-held h c payload = record { holds = λ d p. and-true (holds h d p); opened = refl }
 
 pub ping-kept : (h : History) (c : ℕ) (payload : List ℕ) → kept (h ▷ Ping c payload) ≡ kept h
 unfolding kept
@@ -98,18 +91,18 @@ ping-kept h c payload = refl
 
 pub publish : (h : History) (c w request : ℕ) (options : Entries) (topic : List ℕ) (args : Arguments) → KeepsSessions h (Said c w (Publish request options topic args))
 unfolding who
-publish h c w request options topic args = record { who = λ d. rw (and-false-r (eqb c d)) refl; joined = refl }
+publish h c w request options topic args = record { who = λ d. rw (and-false (eqb c d)) refl; joined = refl }
 
 pub publish-held : (h : History) (c w request : ℕ) (options : Entries) (topic : List ℕ) (args : Arguments) → KeepsHeld h (Said c w (Publish request options topic args))
 unfolding holds opened
 publish-held h c w request options topic args = record {
-  holds = λ d p. rw (and-false-r (eqb c d)) (and-true-r (holds h d p));
+  holds = λ d p. rw (and-false (eqb c d)) (and-true (holds h d p));
   opened = refl;
 }
 
 pub subscribe : (h : History) (c w request : ℕ) (options : Entries) (topic : List ℕ) → KeepsSessions h (Said c w (Subscribe request options topic))
 unfolding who
-subscribe h c w request options topic = record { who = λ d. rw (and-false-r (eqb c d)) refl; joined = refl }
+subscribe h c w request options topic = record { who = λ d. rw (and-false (eqb c d)) refl; joined = refl }
 
 pub subscribe-kept : (h : History) (c w request : ℕ) (options : Entries) (topic : List ℕ) → kept (h ▷ Said c w (Subscribe request options topic)) ≡ kept h
 unfolding kept
@@ -117,7 +110,7 @@ subscribe-kept h c w request options topic = refl
 
 pub unsubscribe : (h : History) (c w request n : ℕ) → KeepsSessions h (Said c w (Unsubscribe request n))
 unfolding who
-unsubscribe h c w request n = record { who = λ d. rw (and-false-r (eqb c d)) refl; joined = refl }
+unsubscribe h c w request n = record { who = λ d. rw (and-false (eqb c d)) refl; joined = refl }
 
 pub unsubscribe-kept : (h : History) (c w request n : ℕ) → kept (h ▷ Said c w (Unsubscribe request n)) ≡ kept h
 unfolding kept
@@ -125,7 +118,7 @@ unsubscribe-kept h c w request n = refl
 
 pub join-held : (h : History) (c w : ℕ) (authid : Option (List ℕ)) → KeepsHeld h (Join c w authid)
 unfolding holds opened
-join-held h c w authid = record { holds = λ d p. and-true-r (holds h d p); opened = refl }
+join-held h c w authid = record { holds = λ d p. and-true (holds h d p); opened = refl }
 
 pub join-kept : (h : History) (c w : ℕ) (authid : Option (List ℕ)) → kept (h ▷ Join c w authid) ≡ kept h
 unfolding kept

@@ -2,7 +2,7 @@
 use Rattle.std.proofs.Common.{◌≡◌, ℕ, suc, ◌+◌, ◌<◌, Bool, true, false, cond, ◌&&◌, ◌||◌, eqb, ltb, List, ◌∷◌, ◌++◌, length, refl, sym, ap, ◌∙◌, None, Some, Ok, Err, is_some, arith}
 use Rattle.std.specs.declared.option.Option.{Option}
 use Rattle.std.specs.List.{list_any}
-use Rattle.std.proofs.lemmas.Bool.{eqb-true, eq-eqb, ltb-true}
+use Rattle.std.proofs.lemmas.Bool.{eqb-true, eq-eqb, ltb-true, and_parts}
 use Rattle.message_tree.specs.Data.{Entries}
 use Rattle.wamp_ids.specs.Pattern.{PatternText, same_pattern}
 use Rattle.subscription_index.specs.Held.{Held, IsIndex, number_held, number_of, count_of, insert_row, subscribed_by, joined_or_opened, subscribed as answered}
@@ -18,7 +18,7 @@ use Rattle.realm.specs.History.{History, ◌▷◌}
 use Rattle.realm.specs.Sessions.{joined, IsHistory}
 use Rattle.realm.specs.Subscriptions.{holds, opened, held_among, has_room, number_among, number, subscribed, if_new, is_of}
 use Rattle.realm.specs.Agreeing.{Agrees}
-use Rattle.realm.proofs.Numbers.{and-true, same_pattern-true, same_pattern-refl, list_any-true, held-number}
+use Rattle.realm.proofs.Numbers.{same_pattern-true, same_pattern-refl, list_any-true, held-number}
 use Rattle.realm.proofs.Following.{holder-joined, any-here}
 use Rattle.realm.proofs.Held.{rows-held}
 
@@ -45,7 +45,7 @@ somebody h p = list_any (λ d. holds h d p) (joined h)
 module _ (h : History) (v : Held) (t : Ties h v) (c : ℕ) (p : PatternText) where
   here-holds : (d n : ℕ) → has_row v.rows ((d, n), p) ≡ true → (holds h d p ≡ true) × (number h p ≡ n)
   here-holds d n there =
-      let both = and-true (holds h d p) (eqb (number h p) n) (sym (t.rows d n p) ∙ there) in
+      let both = and_parts (holds h d p) (eqb (number h p) n) (sym (t.rows d n p) ∙ there) in
       (both.0, eqb-true (number h p) n both.1)
 
   holds-here : (d : ℕ) → holds h d p ≡ true → has_row v.rows ((d, number h p), p) ≡ true

@@ -3,7 +3,7 @@ use Rattle.std.proofs.Common.{subst, ◌≡◌, ◌≢◌, ℕ, Bool, true, fals
 use Rattle.std.specs.declared.option.Option.{Option}
 use Rattle.std.specs.declared.result.Result.{Result}
 use Rattle.std.specs.Result.{result_ok}
-use Rattle.std.proofs.lemmas.Bool.{eqb-true}
+use Rattle.std.proofs.lemmas.Bool.{eqb-true, and_parts}
 use Rattle.message_tree.specs.Data.{Items}
 use Rattle.eligibility.specs.declared.who.Who.{Who}
 use Rattle.session.specs.declared.said.Said.TheVariants.{Hello, Abort, Goodbye, Publish, Subscribe, Unsubscribe}
@@ -18,7 +18,6 @@ use Rattle.realm.specs.Subscriptions.{held}
 use Rattle.realm.specs.Announcements.{announcement, arrival, departure, joined_items, left_items}
 use Rattle.realm.specs.Yield.{yield, reply, events, sent_events, names_topic, admits_who}
 use Rattle.realm.specs.Laws.{IsToldOthers, ArrivalsAreTold, DeparturesAreTold}
-use Rattle.realm.proofs.Numbers.{and-true}
 use Rattle.realm.proofs.Joined.{Live, Live-from_live}
 use Rattle.realm.proofs.Agreement.{none-joined, admitted-conn, who-join}
 use Rattle.realm.proofs.Sent.{among-more, among-events}
@@ -96,12 +95,12 @@ ended false o w lives gone = none-some o w gone lives
 
 gone : (h : History) (e : Entry) (c brought : ℕ) (w : Who) → who h c ≡ Some w → ends e c ≡ true → word_of e ≡ Some brought → IsToldOthers h e c (departure brought w)
 gone h (Join d word authid) c brought w lives ending brings = absurd (cc)
-gone h (Said d word (Hello realm authid)) c brought w lives ending brings = went h (Said d word (Hello realm authid)) d c word brought w (and-true (eqb d c) true ending).0 lives brings (λ x. refl)
-gone h (Said d word Abort) c brought w lives ending brings = went h (Said d word Abort) d c word brought w (and-true (eqb d c) true ending).0 lives brings (λ x. refl)
-gone h (Said d word Goodbye) c brought w lives ending brings = went h (Said d word Goodbye) d c word brought w (and-true (eqb d c) true ending).0 lives brings (λ x. refl)
-gone h (Said d word (Publish request options topic args)) c brought w lives ending brings = absurd (let no = (and-true (eqb d c) false ending).1 in cc)
-gone h (Said d word (Subscribe request options topic)) c brought w lives ending brings = absurd (let no = (and-true (eqb d c) false ending).1 in cc)
-gone h (Said d word (Unsubscribe request n)) c brought w lives ending brings = absurd (let no = (and-true (eqb d c) false ending).1 in cc)
+gone h (Said d word (Hello realm authid)) c brought w lives ending brings = went h (Said d word (Hello realm authid)) d c word brought w (and_parts (eqb d c) true ending).0 lives brings (λ x. refl)
+gone h (Said d word Abort) c brought w lives ending brings = went h (Said d word Abort) d c word brought w (and_parts (eqb d c) true ending).0 lives brings (λ x. refl)
+gone h (Said d word Goodbye) c brought w lives ending brings = went h (Said d word Goodbye) d c word brought w (and_parts (eqb d c) true ending).0 lives brings (λ x. refl)
+gone h (Said d word (Publish request options topic args)) c brought w lives ending brings = absurd (let no = (and_parts (eqb d c) false ending).1 in cc)
+gone h (Said d word (Subscribe request options topic)) c brought w lives ending brings = absurd (let no = (and_parts (eqb d c) false ending).1 in cc)
+gone h (Said d word (Unsubscribe request n)) c brought w lives ending brings = absurd (let no = (and_parts (eqb d c) false ending).1 in cc)
 gone h (Ping d payload) c brought w lives ending brings = absurd (cc)
 gone h (Spoilt d word) c brought w lives ending brings = went h (Spoilt d word) d c word brought w ending lives brings (λ x. refl)
 gone h (Gone d word) c brought w lives ending brings = went h (Gone d word) d c word brought w ending lives brings (λ x. refl)

@@ -1,5 +1,6 @@
 -- An act was dropped.
 use Rattle.std.proofs.Common.{◌≡◌, refl, ap, Bool, true, false, not}
+use Rattle.std.proofs.lemmas.Bool.{not-true}
 use Rattle.realm_actor.specs.declared.outcome.Outcome.{Outcome}
 use Rattle.realm_actor.specs.declared.outcome.Outcome.TheVariants.{Applied, Dropped, NoMemory}
 use Rattle.realm_actor.specs.Handling.{MatchOutcome}
@@ -8,7 +9,3 @@ pub dropped_by : (r : Outcome) (A B same : Type 0) (b : Bool) → MatchOutcome r
 dropped_by Applied A B same b m = m
 dropped_by Dropped A B same b m = (m.0, ap not m.1)
 dropped_by NoMemory A B same b m = m
-
-pub not_true : (b : Bool) → not b ≡ true → b ≡ false
-not_true true e = absurd (cc)
-not_true false e = refl

@@ -2,7 +2,7 @@
 use Rattle.std.proofs.Common.{◌≡◌, ◌≢◌, ◌⊎◌, ℕ, zero, suc, ◌+◌, ◌<◌, ◌≤◌, Bool, true, false, cond, not, eqb, List, [], ◌∷◌, ◌++◌, length, get_or, refl, sym, ap, ◌∙◌, subst, inl, inr, ⊎_elim, arith}
 use Rattle.std.specs.Prelude.{Option, Some, None, ⊤, slice_get, MatchOption, option_map}
 use Rattle.std.specs.List.{insert}
-use Rattle.std.proofs.lemmas.Bool.{eqb-true, eq-eqb}
+use Rattle.std.proofs.lemmas.Bool.{eqb-true, eq-eqb, or_cases, or_left}
 use Rattle.realm.specs.declared.entry.Entry.{Entry}
 use Rattle.realm.specs.History.{History}
 use Rattle.realm.specs.Sessions.{live, joined, may_join}
@@ -23,7 +23,7 @@ use Rattle.realm_actor.specs.Naming.{is_named, named_conns, is_in, finds_in, fin
 use Rattle.realm_actor.specs.Standing.{Stands}
 use Rattle.realm_actor.proofs.Standing.{read, within, same_place}
 use Rattle.realm_actor.proofs.Marks.{unmarked_after}
-use Rattle.realm_actor.proofs.Named.{EachMoved, EachWent-same, accepted_went, moved_went, moved_marked, moved_on, moved_by, names_moved, found, same_after, insert_other, insert_here, or_either, or_left}
+use Rattle.realm_actor.proofs.Named.{EachMoved, EachWent-same, accepted_went, moved_went, moved_marked, moved_on, moved_by, names_moved, found, same_after, insert_other, insert_here}
 
 not_joined : (h : History) (c : ℕ) → may_join h c ≡ true → has_joined h c ≡ true → ⊥
 not_joined h c may has = let never : may_join h c ≡ false = no_more (joined h) c has in absurd (cc)
@@ -40,7 +40,7 @@ went_some o None w = absurd w
 went_some o (Some p) w = (p, refl, w)
 
 pub one_in : (c d : ℕ) → is_in d (c ∷ []) ≡ true → c ≡ d
-one_in c d e = ⊎_elim (λ (y : eqb c d ≡ true). eqb-true c d y) (λ (y : false ≡ true). absurd (cc)) (or_either (eqb c d) false e)
+one_in c d e = ⊎_elim (λ (y : eqb c d ≡ true). eqb-true c d y) (λ (y : false ≡ true). absurd (cc)) (or_cases (eqb c d) false e)
 
 module _ {S : Type 0} where
   -- whom the loss marks: a session that was live

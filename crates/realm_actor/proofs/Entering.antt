@@ -2,7 +2,8 @@
 use Rattle.std.proofs.Common.{◌≡◌, ◌≢◌, ℕ, zero, suc, ◌<◌, Bool, true, false, cond, not, ◌&&◌, ◌||◌, eqb, is_some, List, [], ◌∷◌, ◌++◌, length, set, get_or, take, refl, sym, ap, ◌∙◌, subst, inl, inr, ⊎_elim, append-nil, append_assoc, arith}
 use Rattle.std.specs.Prelude.{Option, Some, None, ⊤, slice_get, MatchOption, option_map}
 use Rattle.std.proofs.Math.ListN.{length-set}
-use Rattle.std.proofs.lemmas.Bool.{eqb-true, eq-eqb}
+use Rattle.std.proofs.lemmas.Bool.{eqb-true, eq-eqb, or_parts, not-true}
+use Rattle.std.proofs.Math.Bool.{and-false}
 use Rattle.outbox_queue.specs.Rule.{Grows}
 use Rattle.session.specs.declared.item.Item.{Item}
 use Rattle.eligibility.specs.declared.who.Who.{Who}
@@ -22,14 +23,6 @@ use Rattle.realm_actor.specs.Tables.{has_joined, IsOpen, Went, BoxWent, BoxEnds,
 use Rattle.realm_actor.proofs.Standing.{same_place, within, read, written, one_place}
 
 -- Booleans
-
-or_false : (a b : Bool) → a || b ≡ false → (a ≡ false) × (b ≡ false)
-or_false true b e = absurd (cc)
-or_false false b e = (refl, e)
-
-not_true : (a : Bool) → not a ≡ true → a ≡ false
-not_true true e = absurd (cc)
-not_true false e = refl
 
 or_swap : (a b : Bool) → a || b ≡ true → b || a ≡ true
 or_swap true true e = refl
@@ -88,7 +81,7 @@ joined_after h e c come j = at (has_joined h c) (eqb (conn_of e) c) refl refl j
 pub quiet : (h : History) (e : Entry) (c : ℕ) → live h c || eqb (conn_of e) c ≡ false → yield h e c ≡ []
 unfolding yield
 quiet h e c n =
-    let both = or_false (live h c) (eqb (conn_of e) c) n in
+    let both = or_parts (live h c) (eqb (conn_of e) c) n in
     let elsewhere : eqb (conn_of e) c ≡ false = both.1 in
     let none : who h c ≡ None = not_live h c both.0 in
     rw (elsewhere, no_events h e c none elsewhere)
@@ -107,7 +100,7 @@ Follows-entry h e xs o c own is f is_open =
       begins = (f.begins.0 ++ yield h e o.conn, sym (append_assoc o.added f.begins.0 (yield h e o.conn)) ∙ ap (λ l. l ++ yield h e o.conn) f.begins.1);
       whole = λ never. ap (λ l. o.added ++ l) y ∙ ap (λ l. l ++ yield h e o.conn) (sym (append-nil o.added) ∙ f.whole never);
       seen = seen_longer h e o.history f.seen;
-      closed = λ shut. is ∙ quiet h e c (not_true (live h c || eqb (conn_of e) c) (sym is_open ∙ shut));
+      closed = λ shut. is ∙ quiet h e c (not-true (live h c || eqb (conn_of e) c) (sym is_open ∙ shut));
     }
 
 module _ {S : Type 0} where
@@ -293,10 +286,6 @@ BoxEnds-same shut (Some o) is = ap (λ b. let q : Box = record o { is_closed = c
 BoxEnds-by : (shut : Bool) (o p : Option Box) → shut ≡ true → BoxEnds true o p → BoxEnds shut o p
 BoxEnds-by shut o p is e = subst (λ b. BoxEnds b o p) (sym is) e
 
-and_false : (b : Bool) → b && false ≡ false
-and_false true = refl
-and_false false = refl
-
 other_conn : (c d : ℕ) → d ≢ c → eqb c d ≡ false
 other_conn c d n = at (eqb c d) refl
   where
@@ -309,7 +298,7 @@ module _ {S : Type 0} where
   RowEnds-other c b r is = record { conn = refl; is_cut = refl; is_lost = refl; box = BoxEnds-same (not b && eqb c r.conn) (box_in r) is }
 
   RowEnds-away : (c : ℕ) (b : Bool) (r : Row S) → r.conn ≢ c → RowEnds c b r r
-  RowEnds-away c b r n = RowEnds-other c b r (ap (λ x. not b && x) (other_conn c r.conn n) ∙ and_false (not b))
+  RowEnds-away c b r n = RowEnds-other c b r (ap (λ x. not b && x) (other_conn c r.conn n) ∙ and-false (not b))
 
   pub ends_live : (c : ℕ) (b : Bool) (rows : List (Row S)) → b ≡ true → EachEnds c b rows rows
   ends_live c b rows is = (refl, λ k o p eo ep. subst (λ q. RowEnds c b o q) (same_place rows k o p eo ep) (RowEnds-other c b o (ap (λ x. not x && eqb c o.conn) is)))

@@ -2,7 +2,7 @@
 use Rattle.std.proofs.Common.{◌≡◌, ℕ, ◌+◌, ◌<◌, ◌≤◌, Bool, true, false, ◌||◌, eqb, List, length, get_or, refl, sym, ap, ◌∙◌, subst, ⊎_elim, arith}
 use Rattle.std.specs.Prelude.{Option, Some, None, ⊤, slice_get, Result, Ok, Err, MatchResult}
 use Rattle.std.specs.Result.{is_ok, is_err}
-use Rattle.std.proofs.lemmas.Bool.{eqb-true}
+use Rattle.std.proofs.lemmas.Bool.{eqb-true, or_left}
 use Rattle.realm.specs.declared.entry.Entry.{Entry}
 use Rattle.realm.specs.History.{History}
 use Rattle.realm.specs.Sessions.{live, conn_of}
@@ -21,10 +21,6 @@ or_same h c d is_live = at (live h d) (eqb c d) refl refl
     at false true dead same = let here : live h c ≡ false = ap (live h) (eqb-true c d same) ∙ dead in absurd (cc)
     at false false dead same = refl
 
-or_first : (a b : Bool) → a ≡ true → a || b ≡ true
-or_first true b e = refl
-or_first false b e = absurd (cc)
-
 -- the rows are ready for an entry of a live session
 pub ready_live : {S : Type 0} (h : History) (e : Entry) (c : ℕ) (rows : List (Row S)) → conn_of e ≡ c → live h c ≡ true → Sound h rows → Ready e h rows
 ready_live h e c rows own is_live sound =
@@ -33,7 +29,7 @@ ready_live h e c rows own is_live sound =
       ascending = sound.ascending;
       in_step = sound.in_step;
       is_open = λ k r get. subst (λ b. IsOpen b (box_in r)) (sym (or_same h (conn_of e) r.conn lives)) (sound.is_open k r get);
-      joined = λ k r get. or_first (has_joined h r.conn) (eqb (conn_of e) r.conn) (sound.joined k r get);
+      joined = λ k r get. or_left (has_joined h r.conn) (eqb (conn_of e) r.conn) (sound.joined k r get);
       has_rows = sound.has_rows;
       own = sound.has_rows (conn_of e) lives;
       legal = sound.legal;

@@ -2,7 +2,7 @@
 use Rattle.std.proofs.Common.{◌≡◌, ◌≢◌, ℕ, zero, suc, ◌<◌, ◌≤◌, Bool, true, false, not, ◌||◌, eqb, List, [], ◌∷◌, ◌++◌, length, refl, sym, ap, ◌∙◌, subst, arith}
 use Rattle.std.specs.Prelude.{Some, None, ⊤, slice_get, MatchOption}
 use Rattle.std.specs.List.{insert}
-use Rattle.std.proofs.lemmas.Bool.{eqb-true, eq-eqb}
+use Rattle.std.proofs.lemmas.Bool.{eqb-true, eq-eqb, or_left, or_right}
 use Rattle.realm.specs.declared.entry.Entry.{Entry}
 use Rattle.outbox_queue.specs.Rule.{Grows}
 use Rattle.realm.specs.History.{History, begun, ◌▷◌, Begins}
@@ -55,14 +55,6 @@ or_none : (a b : Bool) → (a ≡ true → ⊥) → (b ≡ true → ⊥) → a |
 or_none true b n m = absurd (n refl)
 or_none false true n m = absurd (m refl)
 or_none false false n m = refl
-
-or_left : (a b : Bool) → a ≡ true → a || b ≡ true
-or_left true b e = refl
-or_left false b e = absurd (cc)
-
-or_right : (a b : Bool) → b ≡ true → a || b ≡ true
-or_right true b e = refl
-or_right false b e = e
 
 pub never_owed : (h : History) (c : ℕ) → IsHistory h → (has_joined h c ≡ true → ⊥) → owed h c ≡ []
 never_owed (begun grants) c legal n = refl

@@ -2,7 +2,7 @@
 use Rattle.std.proofs.Common.{◌≡◌, ◌≢◌, ◌⊎◌, ℕ, suc, ◌<◌, ◌≤◌, Bool, true, false, cond, not, ◌||◌, eqb, List, [], ◌∷◌, length, get_or, set, refl, sym, ap, ◌∙◌, subst, inl, inr, ⊎_elim, arith}
 use Rattle.std.specs.Prelude.{Option, Some, None, slice_get, Result, Ok, Err, IfOk, IfErr}
 use Rattle.std.specs.List.{insert, filter}
-use Rattle.std.proofs.lemmas.Bool.{eqb-true, eq-eqb}
+use Rattle.std.proofs.lemmas.Bool.{eqb-true, eq-eqb, or_parts, not-false}
 use Rattle.std.proofs.Math.ListN.{length-set}
 use Rattle.realm.specs.declared.entry.Entry.{Entry}
 use Rattle.realm.specs.History.{History, ◌▷◌}
@@ -24,14 +24,6 @@ use Rattle.realm_actor.proofs.Entering.{live_other}
 use Rattle.realm_actor.proofs.Doing.{insert_all}
 use Rattle.realm_actor.proofs.Marks.{unmarked_after}
 use Rattle.realm_actor.proofs.Leaving.{source}
-
-pub or_false : (a b : Bool) → a || b ≡ false → (a ≡ false) × (b ≡ false)
-or_false true b e = absurd (cc)
-or_false false b e = (refl, e)
-
-not_false : (b : Bool) → not b ≡ false → b ≡ true
-not_false true e = refl
-not_false false e = absurd (cc)
 
 full_before : (o p : Option Box) → BoxWent o p → (Rose o p → ⊥) → IsFull p → IsFull o
 full_before None None w n f = f
@@ -87,12 +79,12 @@ module _ {S : Type 0} where
       → EachWent old.rows.items new.rows.items → (is_full ≡ false → NoneRose old.rows.items new.rows.items) → new.has_marks ≡ old.has_marks || is_full → new.has_ended ≡ old.has_ended || not is_live
       → Knows old → Knows new
   knows_entry old new h e c is_full is_live own realm was lives w none marks ended knows = record {
-    marks = λ quiet. let t = or_false old.has_marks is_full (sym marks ∙ quiet) in still_unmarked old.rows.items new.rows.items w (none t.1) (knows.marks t.0);
+    marks = λ quiet. let t = or_parts old.has_marks is_full (sym marks ∙ quiet) in still_unmarked old.rows.items new.rows.items w (none t.1) (knows.marks t.0);
     ended = λ quiet.
-        let t = or_false old.has_ended (not is_live) (sym ended ∙ quiet) in
+        let t = or_parts old.has_ended (not is_live) (sym ended ∙ quiet) in
         let all : Each (λ r. live h r.conn ≡ true) old.rows.items = subst (λ k. Each (λ r. live k r.conn ≡ true) old.rows.items) was (knows.ended t.0) in
         subst (λ k. Each (λ r. live k r.conn ≡ true) new.rows.items) (sym realm)
-        (still_live h e c old.rows.items new.rows.items own w (sym lives ∙ not_false is_live t.1) (λ k r get. inl (all k r get)));
+        (still_live h e c old.rows.items new.rows.items own w (sym lives ∙ not-false is_live t.1) (λ k r get. inl (all k r get)));
   }
 
   -- the same where a row of c without marks came first
@@ -104,13 +96,13 @@ module _ {S : Type 0} where
       let rows = insert old.rows.items place row in
       record {
         marks = λ quiet.
-            let t = or_false old.has_marks is_full (sym marks ∙ quiet) in
+            let t = or_parts old.has_marks is_full (sym marks ∙ quiet) in
             still_unmarked rows new.rows.items w (none t.1) (insert_all (λ r. (r.is_cut ≡ false) × (r.is_lost ≡ false)) old.rows.items place row (knows.marks t.0) (is_cut, is_lost));
         ended = λ quiet.
-            let t = or_false old.has_ended (not is_live) (sym ended ∙ quiet) in
+            let t = or_parts old.has_ended (not is_live) (sym ended ∙ quiet) in
             let all : Each (λ r. live h r.conn ≡ true) old.rows.items = subst (λ k. Each (λ r. live k r.conn ≡ true) old.rows.items) was (knows.ended t.0) in
             subst (λ k. Each (λ r. live k r.conn ≡ true) new.rows.items) (sym realm)
-            (still_live h e c rows new.rows.items own w (sym lives ∙ not_false is_live t.1)
+            (still_live h e c rows new.rows.items own w (sym lives ∙ not-false is_live t.1)
             (insert_all (λ r. (live h r.conn ≡ true) ⊎ (r.conn ≡ c)) old.rows.items place row (λ k r get. inl (all k r get)) (inr conn)));
       }
 

@@ -2,7 +2,8 @@
 use Rattle.std.proofs.Common.{◌≡◌, ◌≢◌, ◌⊎◌, ℕ, zero, suc, ◌+◌, ◌<◌, ◌≤◌, Bool, true, false, cond, ◌||◌, eqb, List, [], ◌∷◌, ◌++◌, length, get_or, refl, sym, ap, ◌∙◌, subst, inl, inr, ⊎_elim, append-nil, append_assoc, arith}
 use Rattle.std.specs.Prelude.{Option, Some, None, ⊤, slice_get, option_map}
 use Rattle.std.specs.List.{insert, list_any}
-use Rattle.std.proofs.lemmas.Bool.{eqb-true, eq-eqb}
+use Rattle.std.proofs.lemmas.Bool.{eqb-true, eq-eqb, or_cases, or_left, or_right}
+use Rattle.std.proofs.Math.Bool.{or_assoc}
 use Rattle.realm.specs.declared.entry.Entry.{Entry}
 use Rattle.realm.specs.History.{History, ◌▷◌}
 use Rattle.realm_actor.specs.declared.row.Row.{Row}
@@ -80,18 +81,6 @@ rose_finds None (Some p) w h = absurd w
 rose_finds (Some o) None w h = absurd w
 rose_finds (Some o) (Some p) w h = h
 
-pub or_either : (a b : Bool) → a || b ≡ true → (a ≡ true) ⊎ (b ≡ true)
-or_either true b e = inl refl
-or_either false b e = inr e
-
-pub or_left : (a b : Bool) → a ≡ true → a || b ≡ true
-or_left true b e = refl
-or_left false b e = absurd (cc)
-
-pub or_right : (a b : Bool) → b ≡ true → a || b ≡ true
-or_right true b e = refl
-or_right false b e = e
-
 pub insert_length : {A : Type 0} (xs : List A) (i : ℕ) (x : A) → length (insert xs i x) ≤ length xs + 1
 insert_length [] zero x = omega arith
 insert_length [] (suc i) x = omega arith
@@ -102,13 +91,9 @@ or_nothing : (b : Bool) → b ≡ b || false
 or_nothing true = refl
 or_nothing false = refl
 
-or_more : (a b d : Bool) → (a || b) || d ≡ a || (b || d)
-or_more true b d = refl
-or_more false b d = refl
-
 in_append : (c : ℕ) (xs ys : List ℕ) → is_in c (xs ++ ys) ≡ is_in c xs || is_in c ys
 in_append c [] ys = refl
-in_append c (x ∷ xs) ys = ap (λ b. eqb x c || b) (in_append c xs ys) ∙ sym (or_more (eqb x c) (is_in c xs) (is_in c ys))
+in_append c (x ∷ xs) ys = ap (λ b. eqb x c || b) (in_append c xs ys) ∙ sym (or_assoc (eqb x c) (is_in c xs) (is_in c ys))
 
 module _ {S : Type 0} where
   RowWent-same : (r : Row S) → RowWent r r
@@ -216,7 +201,7 @@ module _ {S : Type 0} where
           → (is_in c (named_conns rows) ≡ true → (k : ℕ) × (r : Row S) × (slice_get (x ∷ rows) k ≡ Some r) × (r.conn ≡ c) × (is_named r ≡ true))
           → is_in c (cond b (x.conn ∷ named_conns rows) (named_conns rows)) ≡ true
           → (k : ℕ) × (r : Row S) × (slice_get (x ∷ rows) k ≡ Some r) × (r.conn ≡ c) × (is_named r ≡ true)
-      at true is on e = ⊎_elim (λ (y : eqb x.conn c ≡ true). (0, x, refl, eqb-true x.conn c y, is)) (λ (y : is_in c (named_conns rows) ≡ true). on y) (or_either (eqb x.conn c) (is_in c (named_conns rows)) e)
+      at true is on e = ⊎_elim (λ (y : eqb x.conn c ≡ true). (0, x, refl, eqb-true x.conn c y, is)) (λ (y : is_in c (named_conns rows) ≡ true). on y) (or_cases (eqb x.conn c) (is_in c (named_conns rows)) e)
       at false is on e = on e
 
   pub row_named : (rows : List (Row S)) (k : ℕ) (r : Row S) → slice_get rows k ≡ Some r → is_named r ≡ true → is_in r.conn (named_conns rows) ≡ true
@@ -301,7 +286,7 @@ module _ {S : Type 0} where
           is_lost = y.is_lost
               ∙ ap (λ d. p.is_lost || is_in d second) x.conn
               ∙ ap (λ b. b || is_in o.conn second) x.is_lost
-              ∙ or_more o.is_lost (is_in o.conn first) (is_in o.conn second)
+              ∙ or_assoc o.is_lost (is_in o.conn first) (is_in o.conn second)
               ∙ ap (λ b. o.is_lost || b) (sym (in_append o.conn first second));
         },
   )
@@ -352,7 +337,7 @@ module _ {S : Type 0} where
         ⊎_elim
         (λ (marked : t.1.is_cut ≡ true). inl (subst (λ d. finds_of olds d < finds_of news d) t.3 (rose_at t.0 t.1 t.2 marked)))
         (λ (gone : t.1.is_lost ≡ true). inr (subst P t.3 (to t.0 t.1 t.2 (lost_at t.0 t.1 t.2 gone))))
-        (or_either t.1.is_cut t.1.is_lost t.4);
+        (or_cases t.1.is_cut t.1.is_lost t.4);
     ascending = named_ascend ends up;
   }
     where

@@ -4,7 +4,7 @@ ghost use Rattle.realm.specs.Granting.{pairs_of};
 ghost use Rattle.realm.specs.History.{begun};
 ghost use Rattle.realm.specs.Sessions.{conn_of, live, may_come};
 ghost use Rattle.realm.specs.declared.entry.Entry.{Entry as AnEntry};
-ghost use Rattle.realm_inbox.specs.Past.{items_of};
+ghost use Rattle.ghost_state.specs.Past.{items_of};
 ghost use Rattle.realm_actor.specs.declared.row.Row.{Row as ARow};
 ghost use Rattle.realm_actor.specs.Tables.{EachMarked, Sound};
 ghost use Rattle.realm_actor.specs.Cutting.{Accepted, IsCutOf, NoneFull};

@@ -8,6 +8,7 @@ use Rattle.std.proofs.lemmas.Bool.{eqb-true, eq-eqb}
 use Rattle.std.proofs.lemmas.Bool.Decides.{nat_tests}
 use Rattle.std.specs.BTreeMap.{get}
 use Rattle.std.specs.Ordering.{nat_cmp, is_eq}
+use Rattle.std.proofs.lemmas.List.{nil_from_length}
 use Rattle.session.specs.declared.item.Item.{Item}
 use Rattle.realm_core.specs.declared.outboxes.Outbox.{Outbox}
 use Rattle.realm_core.specs.Outboxes.{Outboxes, items_in, outbox_of, IsFilled, AreFilled, AreFilledBut}
@@ -64,7 +65,3 @@ some-waits outboxes filled some = at outboxes.entries refl some
 
 pub none-waits : (outboxes : Outboxes) → outboxes.entries ≡ [] → (c : ℕ) → outbox_of outboxes c ≡ []
 none-waits outboxes none c = ap (λ l. items_in (lookup (λ k. is_eq (nat_cmp c k)) l)) none
-
-pub none-long : {X : Type 0} (xs : List X) → length xs ≡ 0 → xs ≡ []
-none-long [] e = refl
-none-long (x ∷ xs) e = absurd (let bad : ⊥ = omega arith in bad)

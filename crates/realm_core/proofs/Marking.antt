@@ -6,6 +6,7 @@ use Rattle.std.specs.Result.{result_ok}
 use Rattle.std.proofs.lemmas.Bool.{eqb-true, eq-eqb, or_cases, or_left, or_right}
 use Rattle.std.proofs.lemmas.List.Folds.{list_any-append}
 use Rattle.std.proofs.lemmas.List.Elements.{filter-append}
+use Rattle.std.proofs.Math.Bool.{and-false}
 use Rattle.session.specs.declared.item.Item.{Item}
 use Rattle.eligibility.specs.declared.who.Who.{Who}
 use Rattle.realm.specs.declared.entry.Entry.{Entry}
@@ -171,10 +172,6 @@ marks-more h rest c full marks m = record {
 pub record HaveJoined (h : History) (full : List ℕ) (pushing : List (ℕ × Item)) : Type 0 where
   pub found : NoneJoinsAgain h full
   pub pushed : (c : ℕ) → is_in c (conns_of pushing) ≡ true → may_join h c ≡ false
-
-and-false : (b : Bool) → b && false ≡ false
-and-false true = refl
-and-false false = refl
 
 never-again : (h : History) (e : Entry) (c : ℕ) → may_join h c ≡ false → may_join (h ▷ e) c ≡ false
 never-again h (Join d word authid) c none = rw none (and-false _)

@@ -5,7 +5,8 @@
 //! that meets it. [`laws`] has what holds of every history and of every world.
 //!
 //! It stands on `realm`. Contracts say of each step what it changes, and that the queues are those of the model; what was taken of a
-//! session's queue is then, by the laws, a beginning of what the history owes it.
+//! session's queue is then, by the laws, a beginning of what the history owes it. The headline is the clause `delivers` of
+//! [`World::run`].
 #![tactic(auto)]
 
 mod copying;

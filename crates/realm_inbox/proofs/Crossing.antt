@@ -28,6 +28,7 @@ use Rattle.crossbeam_channel.specs.contracts.flavors.array.ruled.Receiving as Re
 use Rattle.crossbeam_channel.specs.contracts.flavors.array.ruled.Sending as Sending
 use Rattle.crossbeam_utils.proofs.sync.parker.RuledParker.TheSendSync as parker
 use Rattle.crossbeam_utils.proofs.sync.parker.RuledUnparker.TheSendSync as unparker
+use Rattle.ghost_state.proofs.Crossing.{past_send}
 use Rattle.message_tree.proofs.Crossing.{octets_send, text_send}
 use Rattle.message_tree.specs.contracts.owned.Octets as Octets
 use Rattle.outbox_queue.proofs.Crossing.{outbox_send}
@@ -44,7 +45,6 @@ use Rattle.realm_inbox.specs.contracts.history.RealmHistoryOwedItem.TheImpl as o
 use Rattle.realm_inbox.specs.contracts.joining.Joining as Joining
 use Rattle.realm_inbox.specs.contracts.letter.Letter as Letter
 use Rattle.realm_inbox.specs.contracts.letter.Post as Post
-use Rattle.realm_inbox.specs.contracts.past.Past as Past
 use Rattle.realm_inbox.specs.contracts.room_bell.RoomBell as RoomBell
 use Rattle.realm_inbox.specs.contracts.rule.InTurn as InTurn
 use Rattle.realm_inbox.specs.contracts.rule.InTurnProtocolPostView.TheImpl as in_turn
@@ -54,9 +54,6 @@ use Rattle.realm_inbox.specs.declared.words.Shut.{Ghosts}
 
 option_send : (R : RattleType) → IsSend R → IsSend (Option.the_row R)
 option_send R s = search (sendable, crosses) depth 40
-
-past_send : (R : RattleType) → IsSend (Past.the_row R)
-past_send R = search (crosses, sendable) depth 60 fits 20000
 
 bell_send : IsSend RoomBell.the_row
 bell_send = search (crosses, sendable) depth 60

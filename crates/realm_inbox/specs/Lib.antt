@@ -1,5 +1,4 @@
 pub mod Begins
-pub mod Past
 pub mod Joins
 pub mod Seats
 pub mod InTurn

@@ -3,19 +3,19 @@ ghost use Rattle.std.specs.Prelude.{◌≡◌, ◌≤◌, ◌+◌, [], ◌∷◌
 ghost use Rattle.crossbeam_channel.specs.Claims.{view, IsSeatAt};
 ghost use Rattle.crossbeam_channel.specs.Ends.{sends_on, receives_on};
 ghost use Rattle.wamp_ids.specs.Numbers.{seat_of};
-ghost use Rattle.realm_inbox.specs.Past.{items_of};
+ghost use Rattle.ghost_state.specs.Past.{items_of};
 ghost use Rattle.realm_inbox.specs.Seats.{IsNext, BringsOwn};
 ghost use Rattle.realm_inbox.specs.Ends.{posted_in, is_seat, is_reader, is_door};
 
 use crate::act::Act;
 use crate::letter::{Letter, Post};
-use crate::past::Past;
 use crate::room_bell::RoomBell;
 use crate::rule::{InTurn, Posts, Receives, Stops, View};
 use crate::sending::{Bells, send};
 use crate::words::Shut;
 use crossbeam_channel::{Pass, RuledReceiver, RuledSender, TryRecvError};
 use crossbeam_utils::sync::Parker;
+use ghost_state::Past;
 use std::alloc::{AllocError, Global};
 use std::snapshot::Snapshot;
 use std::sync::{Arc, Wait};

@@ -4,8 +4,8 @@ ghost use Rattle.realm_inbox.specs.declared.joining.Joining.{Joining as AJoining
 ghost use Rattle.realm_inbox.specs.declared.act.Act.TheVariants.{Join};
 
 use crate::act::Act;
-use crate::past::Past;
 use crate::words::Shut;
+use ghost_state::Past;
 use std::snapshot::Snapshot;
 use wamp_ids::Conn;
 

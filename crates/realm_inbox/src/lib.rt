@@ -6,6 +6,9 @@
 //! exactly what had been received of the seat. So of each seat the inbox gives what was posted there, whole and in order, and
 //! [`laws`] says so of every moment.
 //!
+//! An end that finds the inbox full or empty waits by means of this crate's own: posters at a bell, the receiving end in a parker. Who
+//! receives many posts at once by [`Inbox::try_receive`] tells the posters afterwards that there is room, by [`Inbox::wake`].
+//!
 //! Nothing is promised of time: neither that a call returns while the inbox is full or empty, nor which seat comes first.
 //!
 //! It stands on `realm` (what is posted) and `outbox_queue` (what a Join brings).
@@ -18,7 +21,6 @@ mod joining;
 pub mod laws;
 mod letter;
 pub mod opening;
-mod past;
 mod posting;
 mod room_bell;
 mod rule;
@@ -27,10 +29,10 @@ mod words;
 
 pub use act::Act;
 pub use ends::{Door, Inbox, Poster, Seat};
+pub use ghost_state::Past;
 pub use history::RealmHistory;
 pub use joining::Joining;
 pub use letter::{Letter, Post};
-pub use past::Past;
 pub use posting::Posting;
 pub use rule::{InTurn, View};
 pub use words::{IdSource, Shut};

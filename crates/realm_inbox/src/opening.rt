@@ -7,13 +7,13 @@ ghost use Rattle.realm_inbox.specs.Shown.{received, capacity, stops, inbox_of, i
 
 use crate::ends::{Door, Inbox, Seat, Sending, Ticket};
 use crate::letter::Post;
-use crate::past::Past;
 use crate::room_bell::RoomBell;
 use crate::rule::{CutDoor, CutSeat, InTurn, View};
 use crate::sending::Bells;
 use crate::words::Shut;
 use crossbeam_channel::bounded_with;
 use crossbeam_utils::sync::Parker;
+use ghost_state::Past;
 use std::alloc::{AllocError, Global};
 use std::sync::Arc;
 

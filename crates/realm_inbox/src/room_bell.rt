@@ -24,8 +24,10 @@ impl RoomBell {
         }
     }
 
-    /// Announces a wait, and gives what it is to begin with. The count is read first: so a ring that comes before the announcement
-    /// is in the count that the wait looks at.
+    /// Announces a wait, and gives the count of rings that it is to begin with.
+    ///
+    /// The count is read before the announcement. Read after it, it might hold the ring that took the announcement away: then the
+    /// wait would sleep on, and no later ring would come, as nobody seems to wait.
     pub(crate) fn listen(&self) -> u64 {
         let heard = self.rings.load(Ordering::SeqCst);
         self.is_awaited.store(true, Ordering::SeqCst);

@@ -12,6 +12,7 @@ use Rattle.std.specs.List.Sorted.{IsSearchInRange, IsBinarySearchResult}
 use Rattle.std.specs.Ordering.{nat_cmp, is_eq, is_lt, ordering_reverse}
 use Rattle.std.proofs.lemmas.Cmp.{nat_list_cmp_total}
 use Rattle.std.specs.Str.{bytes_eq}
+use Rattle.std.proofs.Math.Bool.{or-false}
 use Rattle.session.specs.declared.item.Publication.{Publication}
 use Rattle.retained.specs.Retained.{without_topic, is_before, put_by_topic, has_topic, has_room, set_topic, IsBeforeAll, AreByTopic}
 use Rattle.retained.specs.Places.{FirstAreBefore, IsAt, GoesAt}
@@ -114,12 +115,8 @@ found-place ps t (Err i) all range parted =
 
 -- ---- room
 
-or_false : (b : Bool) → b || false ≡ b
-or_false true = refl
-or_false false = refl
-
 pub room-full : (ps : List Publication) (t : List ℕ) → 1000 ≤ length ps → has_room ps t ≡ has_topic t ps
-room-full ps t full = ap (λ b. has_topic t ps || b) (le-ltb (length ps) 1000 full) ∙ or_false (has_topic t ps)
+room-full ps t full = ap (λ b. has_topic t ps || b) (le-ltb (length ps) 1000 full) ∙ or-false (has_topic t ps)
 
 pub room-left : (ps : List Publication) (t : List ℕ) → length ps < 1000 → has_room ps t ≡ true
 room-left ps t left = or_right (has_topic t ps) (ltb (length ps) 1000) (lt-ltb (length ps) 1000 left)

@@ -1,7 +1,7 @@
 -- Lists of publications in ascending order of topics, each topic once.
 use Rattle.std.proofs.Common.{◌≡◌, ℕ, suc, Bool, true, false, cond, not, ◌||◌, List, [], ◌∷◌, length, take, refl, sym, ap, ◌∙◌}
 use Rattle.std.proofs.Math.Bool.{or_assoc, or_comm}
-use Rattle.std.proofs.lemmas.Bool.{true≢false}
+use Rattle.std.proofs.lemmas.Bool.{true≢false, or_parts}
 use Rattle.std.proofs.lemmas.Cmp.{nat_list_cmp_total}
 use Rattle.std.proofs.lemmas.Map.Text.{is_eq-slice_cmp}
 use Rattle.std.proofs.lemmas.Slice.Eq.{bytes_eq-Decides}
@@ -78,10 +78,6 @@ IsBeforeAll-put a p (q ∷ qs) e all = elim (is_before p.topic q.topic) as (λ b
   | true ↦ (e, all)
   | false ↦ (all.0, IsBeforeAll-put a p qs e all.1)
 ]
-
-or_parts : (a b : Bool) → a || b ≡ false → (a ≡ false) × (b ≡ false)
-or_parts true b e = absurd (true≢false e)
-or_parts false b e = (refl, e)
 
 AreByTopic-put : (p : Publication) (qs : List Publication) → AreByTopic qs → has_topic p.topic qs ≡ false → AreByTopic (put_by_topic p qs)
 AreByTopic-put p [] all new = (tt, tt)

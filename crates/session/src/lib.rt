@@ -1,8 +1,8 @@
-//! The messages of WAMP sessions: what clients say and what the broker answers, between trees and
-//! types.
+//! The messages of WAMP sessions, as types, as trees and as the octets of frames, and the opening of a session.
 //!
-//! It stands on the codecs, `rawsocket`, `wamp_ids` and `eligibility`. Contracts say what each message of a client means,
-//! which message answers it, which octets that message is, and how an opening goes, octet by octet.
+//! It stands on the codecs, `rawsocket`, `message_tree`, `wamp_ids` and `eligibility`. Contracts say what each message of a client
+//! means, which message each item that the broker owes is, which octets are its frame, and how an opening goes, octet by octet.
+//! Which item answers what, `realm` says.
 #![tactic(auto)]
 
 mod appender;

@@ -1,5 +1,5 @@
 use Rattle.std.proofs.Common.{◌≡◌, ℕ, Option, ap, ◌∙◌}
-use Rattle.realm_inbox.specs.Past.{items_of}
+use Rattle.ghost_state.specs.Past.{items_of}
 use Rattle.realm_actor.specs.Acting.{Acting}
 use Rattle.realm_actor.specs.Following.{Box}
 use Rattle.realm_actor.specs.Naming.{outbox_of}

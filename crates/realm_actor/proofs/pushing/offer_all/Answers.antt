@@ -1,7 +1,8 @@
 use Rattle.std.proofs.Common.{sym, ◌∙◌, subst}
 use Rattle.std.specs.Vec.Iter.{into_iter_items}
+use Rattle.std.proofs.lemmas.List.{nil_from_length}
 use Rattle.realm_actor.specs.Rows.{EachDue}
-use Rattle.realm_actor.proofs.Passing.{EachGoes-same, EachGoes-on, Ascending-goes, none_left, none_same, none_on}
+use Rattle.realm_actor.proofs.Passing.{EachGoes-same, EachGoes-on, Ascending-goes, none_same, none_on}
 use Rattle.realm_actor.proofs.pushing.offer_all.Goals as goal
 
 pub loop-conn-init : goal.loop-conn-init
@@ -28,4 +29,4 @@ loop-conn-preserved g c =
     }
 
 pub returns-clause-due : goal.returns-clause-due
-returns-clause-due g c = subst (λ l. EachDue c.args.history.now l c.loop-conn.rows) (none_left (into_iter_items c.loop-conn.conn-iterator) (sym c.loop-conn.conn-iterator.rest.ok.0 ∙ c.in-None.ensures.steps.0)) c.loop-conn.invariant.due
+returns-clause-due g c = subst (λ l. EachDue c.args.history.now l c.loop-conn.rows) (nil_from_length (into_iter_items c.loop-conn.conn-iterator) (sym c.loop-conn.conn-iterator.rest.ok.0 ∙ c.in-None.ensures.steps.0)) c.loop-conn.invariant.due

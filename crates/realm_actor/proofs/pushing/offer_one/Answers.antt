@@ -1,7 +1,7 @@
 use Rattle.std.proofs.Common.{ap, sym, ◌∙◌}
+use Rattle.std.proofs.lemmas.Bool.{or_parts}
 use Rattle.realm.specs.Given.{items_for}
 use Rattle.realm_actor.proofs.Passing.{due_here, due_next, due_nowhere, goes_next, row_at, none_same, none_next}
-use Rattle.realm_actor.proofs.Knowing.{or_false}
 use Rattle.realm_actor.proofs.pushing.offer_one.Goals as goal
 
 pub returns-in_default-clause-due : goal.returns-in_default-clause-due
@@ -36,5 +36,5 @@ pub returns-clause-none : goal.returns-clause-none
 returns-clause-none g c = λ quiet.
     let s = c.in-Some.ensures in
     let row = row_at c.args.rows.now c.in-Some.place c.index-rows-place.result s.1 s.0 s.2 in
-    let t = or_false c.args.pass.is_full c.offer-is_full.result (sym c.either.ensures ∙ quiet) in
+    let t = or_parts c.args.pass.is_full c.offer-is_full.result (sym c.either.ensures ∙ quiet) in
     (t.0, none_next c.args.rows.now c.in-Some.place _ c.offer-is_full.new.self row.0 (c.offer-is_full.ensures.same t.1))

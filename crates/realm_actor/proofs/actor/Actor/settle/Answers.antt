@@ -1,8 +1,8 @@
 use Rattle.std.proofs.Common.{◌≡◌, map, ap, sym, subst, length, arith}
 use Rattle.std.specs.Prelude.{IfOk, vec_capacity}
-use Rattle.realm_inbox.specs.Past.{items_of}
+use Rattle.ghost_state.specs.Past.{items_of}
 use Rattle.realm_inbox.specs.Seats.{said}
-use Rattle.realm_inbox.specs.declared.past.Past.{Past}
+use Rattle.ghost_state.specs.declared.past.Past.{Past}
 use Rattle.realm_actor.specs.Acting.{Acting}
 use Rattle.realm_actor.specs.Settling.{Settles}
 use Rattle.realm_actor.specs.Standing.{Stands}

@@ -1,9 +1,9 @@
 use Rattle.std.proofs.Common.{◌≡◌, map, ap, sym, subst, length, arith}
 use Rattle.std.specs.Prelude.{vec_capacity}
 use Rattle.realm.specs.Sessions.{live}
-use Rattle.realm_inbox.specs.Past.{items_of}
+use Rattle.ghost_state.specs.Past.{items_of}
 use Rattle.realm_inbox.specs.Seats.{said}
-use Rattle.realm_inbox.specs.declared.past.Past.{Past}
+use Rattle.ghost_state.specs.declared.past.Past.{Past}
 use Rattle.realm_actor.specs.Acting.{Acting}
 use Rattle.realm_actor.specs.Settling.{Sweeps}
 use Rattle.realm_actor.specs.Standing.{Stands}

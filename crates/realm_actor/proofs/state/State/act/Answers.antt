@@ -1,11 +1,12 @@
 use Rattle.std.proofs.Common.{◌≡◌, true, sym, ap, subst, arith}
 use Rattle.std.specs.Prelude.{vec_capacity}
+use Rattle.std.proofs.lemmas.Bool.{not-true}
 use Rattle.realm_inbox.specs.declared.act.Act.TheVariants.{Said, Ping, Spoilt, Gone}
 use Rattle.realm_actor.proofs.Doing.{as_many}
 use Rattle.realm.specs.Sessions.{live, may_join}
 use Rattle.realm_actor.specs.Handling.{Acts, is_dropped}
 use Rattle.realm_actor.specs.declared.outcome.Outcome.TheVariants.{Dropped}
-use Rattle.realm_actor.proofs.Acting.{dropped_by, not_true}
+use Rattle.realm_actor.proofs.Acting.{dropped_by}
 use Rattle.realm_actor.proofs.state.State.act.Goals as goal
 
 pub join-requires-clause-own : goal.join-requires-clause-own
@@ -47,19 +48,19 @@ returns-in-Gone-clause-outcome g c =
     (dropped_by c.gone.result _ _ (b ≡ a) (live a.table.realm c.args.letter.conn) c.gone.ensures.outcome)
 
 pub returns-in-Join-clause-exact : goal.returns-in-Join-clause-exact
-returns-in-Join-clause-exact g c = subst (λ x. is_dropped c.args.self.now.table.realm c.args.letter.conn x ≡ true → c.join.result ≡ Dropped) (sym c.in-Join.is) (λ e. c.join.ensures.exact (not_true (may_join c.args.self.now.table.realm c.args.letter.conn) e))
+returns-in-Join-clause-exact g c = subst (λ x. is_dropped c.args.self.now.table.realm c.args.letter.conn x ≡ true → c.join.result ≡ Dropped) (sym c.in-Join.is) (λ e. c.join.ensures.exact (not-true (may_join c.args.self.now.table.realm c.args.letter.conn) e))
 
 pub returns-in-Said-clause-exact : goal.returns-in-Said-clause-exact
-returns-in-Said-clause-exact g c = subst (λ x. is_dropped c.args.self.now.table.realm c.args.letter.conn x ≡ true → c.said.result ≡ Dropped) (sym c.in-Said.is) (λ e. c.said.ensures.exact (not_true (live c.args.self.now.table.realm c.args.letter.conn) e))
+returns-in-Said-clause-exact g c = subst (λ x. is_dropped c.args.self.now.table.realm c.args.letter.conn x ≡ true → c.said.result ≡ Dropped) (sym c.in-Said.is) (λ e. c.said.ensures.exact (not-true (live c.args.self.now.table.realm c.args.letter.conn) e))
 
 pub returns-in-Ping-clause-exact : goal.returns-in-Ping-clause-exact
-returns-in-Ping-clause-exact g c = subst (λ x. is_dropped c.args.self.now.table.realm c.args.letter.conn x ≡ true → c.pinged.result ≡ Dropped) (sym c.in-Ping.is) (λ e. c.pinged.ensures.exact (not_true (live c.args.self.now.table.realm c.args.letter.conn) e))
+returns-in-Ping-clause-exact g c = subst (λ x. is_dropped c.args.self.now.table.realm c.args.letter.conn x ≡ true → c.pinged.result ≡ Dropped) (sym c.in-Ping.is) (λ e. c.pinged.ensures.exact (not-true (live c.args.self.now.table.realm c.args.letter.conn) e))
 
 pub returns-in-Spoilt-clause-exact : goal.returns-in-Spoilt-clause-exact
-returns-in-Spoilt-clause-exact g c = subst (λ x. is_dropped c.args.self.now.table.realm c.args.letter.conn x ≡ true → c.spoilt.result ≡ Dropped) (sym c.in-Spoilt.is) (λ e. c.spoilt.ensures.exact (not_true (live c.args.self.now.table.realm c.args.letter.conn) e))
+returns-in-Spoilt-clause-exact g c = subst (λ x. is_dropped c.args.self.now.table.realm c.args.letter.conn x ≡ true → c.spoilt.result ≡ Dropped) (sym c.in-Spoilt.is) (λ e. c.spoilt.ensures.exact (not-true (live c.args.self.now.table.realm c.args.letter.conn) e))
 
 pub returns-in-Gone-clause-exact : goal.returns-in-Gone-clause-exact
-returns-in-Gone-clause-exact g c = subst (λ x. is_dropped c.args.self.now.table.realm c.args.letter.conn x ≡ true → c.gone.result ≡ Dropped) (sym c.in-Gone.is) (λ e. c.gone.ensures.exact (not_true (live c.args.self.now.table.realm c.args.letter.conn) e))
+returns-in-Gone-clause-exact g c = subst (λ x. is_dropped c.args.self.now.table.realm c.args.letter.conn x ≡ true → c.gone.result ≡ Dropped) (sym c.in-Gone.is) (λ e. c.gone.ensures.exact (not-true (live c.args.self.now.table.realm c.args.letter.conn) e))
 
 pub returns-in-Said-clause-room : goal.returns-in-Said-clause-room
 returns-in-Said-clause-room g c = λ before.

@@ -1,5 +1,5 @@
 use Rattle.std.proofs.Common.{[], ◌∷◌, ◌++◌, sym, ap, ◌∙◌}
-use Rattle.realm_inbox.specs.Past.{items_of}
+use Rattle.ghost_state.specs.Past.{items_of}
 use Rattle.realm_inbox.proofs.Told.{posts_by, post_told}
 use Rattle.realm_inbox.proofs.ends.Seat.post.Goals as goal
 

@@ -1,7 +1,7 @@
 -- What a count without bytes stands for.
 use Rattle.std.specs.Prelude.{ℕ, suc}
-use Rattle.outbox_queue.specs.declared.count.Trail.{Trail}
-use Rattle.outbox_queue.specs.declared.count.Trail.TheVariants.{Begun, Longer'}
+use Rattle.ghost_state.specs.declared.count.Trail.{Trail}
+use Rattle.ghost_state.specs.declared.count.Trail.TheVariants.{Begun, Longer'}
 
 -- how many links the trail has
 abbrev pub links : Trail → ℕ

@@ -1,6 +1,6 @@
 //! A list that only contracts see.
 ghost use Rattle.std.specs.Prelude.{◌≡◌, [], ◌∷◌, ◌++◌};
-ghost use Rattle.realm_inbox.specs.Past.{items_of};
+ghost use Rattle.ghost_state.specs.Past.{items_of};
 
 use std::mem;
 use std::snapshot::Snapshot;

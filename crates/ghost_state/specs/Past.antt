@@ -1,8 +1,8 @@
 -- The members of a list that takes no bytes.
 use Rattle.std.specs.Prelude.{List, [], ◌∷◌, ◌++◌}
-use Rattle.realm_inbox.specs.declared.past.Trail.{Trail}
-use Rattle.realm_inbox.specs.declared.past.Trail.TheVariants.{Begun, Longer'}
-use Rattle.realm_inbox.specs.declared.past.Past.{Past}
+use Rattle.ghost_state.specs.declared.past.Trail.{Trail}
+use Rattle.ghost_state.specs.declared.past.Trail.TheVariants.{Begun, Longer'}
+use Rattle.ghost_state.specs.declared.past.Past.{Past}
 
 module _ {T : Type 0} where
   abbrev pub members : Trail T → List T

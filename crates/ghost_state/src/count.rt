@@ -20,7 +20,7 @@ pub struct Count {
 
 impl Model for Count {
     ghost use Rattle.std.specs.Prelude.{ℕ};
-    ghost use Rattle.outbox_queue.specs.Counts.{links};
+    ghost use Rattle.ghost_state.specs.Count.{links};
 
     ghost Value = { ℕ };
 
