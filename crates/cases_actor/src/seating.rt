@@ -28,22 +28,6 @@ pub struct Entered {
     pub wire: Wire,
 }
 
-// The poster of the connection at a seat, or the seat, where it isn't that of the connection.
-fn poster_at(
-    door: &Door<Wire>,
-    alloc: Global,
-    at: Seat<Wire>,
-    conn: Conn,
-) -> Result<Poster<Wire>, Seat<Wire>> {
-    if at.number() != seat(conn) {
-        return Err(at);
-    }
-    match door.poster(alloc, at, conn) {
-        Ok(poster) => Ok(poster),
-        Err((_, at)) => Err(at),
-    }
-}
-
 // Posts a Join of the poster's connection.
 fn post_join<R: Wait>(
     rt: &R,
@@ -98,7 +82,7 @@ impl Seating {
         let Some(at) = self.take_seat(seat(conn)) else {
             return Ok(false);
         };
-        match poster_at(&self.door, alloc, at, conn) {
+        match self.door.poster_at(alloc, at, conn) {
             Ok(poster) => {
                 self.posters.push(poster)?;
                 Ok(true)

@@ -20,22 +20,6 @@ pub struct Room {
     pub inbox: Option<Inbox<Wire>>,
 }
 
-/// The poster of a connection at a seat, or the seat, where it isn't that of the connection.
-pub fn poster_at(
-    door: &Door<Wire>,
-    alloc: Global,
-    at: Seat<Wire>,
-    conn: Conn,
-) -> Result<Poster<Wire>, Seat<Wire>> {
-    if at.number() != seat(conn) {
-        return Err(at);
-    }
-    match door.poster(alloc, at, conn) {
-        Ok(poster) => Ok(poster),
-        Err((_, at)) => Err(at),
-    }
-}
-
 /// Posts an act that is no Join.
 pub fn post<R: Wait>(rt: &R, poster: &mut Poster<Wire>, act: Act<Wire>) -> Result<(), Act<Wire>>
     requires { is_join act ≡ false }
@@ -80,7 +64,7 @@ impl Room {
         let Some(door) = &self.door else {
             return Ok(false);
         };
-        match poster_at(door, alloc, at, conn) {
+        match door.poster_at(alloc, at, conn) {
             Ok(poster) => {
                 self.posters.push(poster)?;
                 Ok(true)

@@ -2,7 +2,7 @@
 ghost use Rattle.std.specs.Prelude.{◌≡◌, ◌≤◌, false, IfOk};
 ghost use Rattle.realm_inbox.specs.Joins.{is_join};
 
-use crate::room::{Room, post, poster_at};
+use crate::room::{Room, post};
 use crate::tally::{Received, Tally};
 use crate::wire::Wire;
 use crate::work::{Work, start};
@@ -60,7 +60,7 @@ struct Both {
 fn work_of(room: &mut Room, alloc: Global, conn: Conn, count: u64) -> Option<Numbered> {
     let at = room.take_seat(seat(conn))?;
     let door = room.door.as_ref()?;
-    let poster = poster_at(door, alloc, at, conn).ok()?;
+    let poster = door.poster_at(alloc, at, conn).ok()?;
     Some(Numbered {
         poster,
         count,

@@ -18,7 +18,7 @@ use Rattle.crossbeam_queue.specs.contracts.array_queue.Turns as Turns
 use Rattle.crossbeam_queue.specs.contracts.array_queue.TurnsTableRuleOptionDoingUnit.TheImpl as turns
 use Rattle.crossbeam_utils.proofs.sync.parker.RuledParker.TheSendSync as parker
 use Rattle.crossbeam_utils.proofs.sync.parker.RuledUnparker.TheSendSync as unparker
-use Rattle.ghost_state.proofs.count.Trail.TheLaws.TheKnot.{crosses as counts}
+use Rattle.ghost_state.proofs.Crossing.{count_send}
 use Rattle.outbox_queue.specs.contracts.drain.Drain as Drain
 use Rattle.outbox_queue.specs.contracts.drain.Drain.TheInside as drain
 use Rattle.outbox_queue.specs.contracts.ends.AddingEnd as AddingEnd
@@ -48,7 +48,7 @@ module _ (T H : RattleType) (owed : Ghosts H.Denot T.Denot) where
   queue = Slotted.the_row (Option.the_row item) (Doing.the_row item view) (Turns.the_row InStep.the_row) Global.the_row (turns.ghosts item view InStep.the_row (in_step.ghosts T H owed in_step.no_dict) turns.no_dict) global.ghosts
 
   stamped_send : IsSend T → IsSend item
-  stamped_send t = view_send _ _ _ _ _ (declared_send (stamped.the_type T H owed) (as_row_send (row_field T) t, (search (crosses, sendable) depth 60, (search (counts, crosses, sendable) depth 60, (search (crosses, sendable) depth 60, tt)))))
+  stamped_send t = view_send _ _ _ _ _ (declared_send (stamped.the_type T H owed) (as_row_send (row_field T) t, (search (crosses, sendable) depth 60, (search (count_send, crosses, sendable) depth 60, (search (crosses, sendable) depth 60, tt)))))
 
   queue_send : IsSend T → IsSend queue
   queue_send t = slotted.the_send _ _ _ _ (turns.ghosts item view InStep.the_row (in_step.ghosts T H owed in_step.no_dict) turns.no_dict) global.ghosts (option_send _ (stamped_send t)) heap.send heap.frees
@@ -58,11 +58,11 @@ module _ (T H : RattleType) (owed : Ghosts H.Denot T.Denot) where
 
   adding_send : IsSend T → IsSend (AddingEnd.the_row T H owed)
   adding_send t =
-      view_send _ _ _ _ _ (declared_send (adding.the_type T H owed) (as_row_send (Arc.the_field queue Global.the_row global.ghosts) (heap.Arc-send queue (queue_send t) (queue_sync t)), (as_row_send (Seat.the_field (Option.the_row item) (Doing.the_row item view)) (seat.the_send (Option.the_row item) (Doing.the_row item view) (option_send item (stamped_send t))), (search sendable, (search (counts, crosses, sendable) depth 60, (search (counts, crosses, sendable) depth 60, tt))))))
+      view_send _ _ _ _ _ (declared_send (adding.the_type T H owed) (as_row_send (Arc.the_field queue Global.the_row global.ghosts) (heap.Arc-send queue (queue_send t) (queue_sync t)), (as_row_send (Seat.the_field (Option.the_row item) (Doing.the_row item view)) (seat.the_send (Option.the_row item) (Doing.the_row item view) (option_send item (stamped_send t))), (search sendable, (search (count_send, crosses, sendable) depth 60, (search (count_send, crosses, sendable) depth 60, tt))))))
 
   taking_send : IsSend T → IsSend (TakingEnd.the_row T H owed)
   taking_send t =
-      view_send _ _ _ _ _ (declared_send (taking.the_type T H owed) (as_row_send (Arc.the_field queue Global.the_row global.ghosts) (heap.Arc-send queue (queue_send t) (queue_sync t)), (as_row_send (Seat.the_field (Option.the_row item) (Doing.the_row item view)) (seat.the_send (Option.the_row item) (Doing.the_row item view) (option_send item (stamped_send t))), (search sendable, (search (counts, crosses, sendable) depth 60, tt)))))
+      view_send _ _ _ _ _ (declared_send (taking.the_type T H owed) (as_row_send (Arc.the_field queue Global.the_row global.ghosts) (heap.Arc-send queue (queue_send t) (queue_sync t)), (as_row_send (Seat.the_field (Option.the_row item) (Doing.the_row item view)) (seat.the_send (Option.the_row item) (Doing.the_row item view) (option_send item (stamped_send t))), (search sendable, (search (count_send, crosses, sendable) depth 60, tt)))))
 
   pub outbox_send : IsSend T → IsSend (Outbox.the_row T H owed)
   outbox_send t = view_send _ _ _ _ _ (declared_send (outbox.the_type T H owed) (as_row_send (AddingEnd.the_field T H owed) (adding_send t), (search sendable, (search (crosses, sendable) depth 60, (search (unparker.the_field_send, unparker.the_send, crosses, heap.send, heap.sync, heap.frees, sendable) depth 60, tt)))))

@@ -6,6 +6,7 @@ use Rattle.std.specs.List.{list_any, filter}
 use Rattle.std.proofs.lemmas.Bool.{eqb-true, eq-eqb, or_right, or_left, not-true, and_parts, or_cases}
 use Rattle.std.proofs.lemmas.List.Folds.{list_any-append}
 use Rattle.std.proofs.Math.Bool.{and-false}
+use Rattle.wamp_ids.proofs.Same.{same_pattern-true}
 use Rattle.wamp_ids.specs.Pattern.{PatternText, matches, same_pattern}
 use Rattle.realm.specs.declared.entry.Entry.{Entry}
 use Rattle.realm.specs.declared.entry.Entry.TheVariants.{Join, Said, Ping, Spoilt, Gone, Cut, Closed}
@@ -23,7 +24,6 @@ use Rattle.realm.specs.Subscriptions.{holds, opened, held, number, number_among,
 use Rattle.realm.specs.Publications.{Made, published, retained}
 use Rattle.realm.specs.Yield.{yield, owed, reply, events, retained_events_of, publication_of, sent_events, asked_events, welcome, publish_reply, subscribe_reply, unsubscribe_reply, names_topic, admits_who}
 use Rattle.realm.specs.Laws.{is_subscribed, at_once, further, IsSubscribed, EventsWhileSubscribed}
-use Rattle.realm.proofs.Numbers.{same_pattern-true}
 use Rattle.realm.proofs.Joined.{live-joined}
 
 abbrev has : List ℕ → ℕ → Bool

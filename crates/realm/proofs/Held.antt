@@ -3,12 +3,12 @@ use Rattle.std.proofs.Common.{◌≡◌, ℕ, ◌+◌, ◌≤◌, ◌<◌, Bool,
 use Rattle.std.specs.List.{filter}
 use Rattle.std.proofs.lemmas.Bool.{eqb-true, eq-eqb, and_parts}
 use Rattle.std.proofs.lemmas.List.Folds.{list_any-append}
+use Rattle.wamp_ids.proofs.Same.{same_pattern-refl, same_pattern-true}
 use Rattle.wamp_ids.specs.Pattern.{PatternText, same_pattern}
 use Rattle.subscription_index.specs.Held.{Row, IsStrictlyAscending, keys}
 use Rattle.subscription_index.specs.Members.{has_row, rows_of, has_named, same_named, IsBelowAll, AscendsByNumber}
 use Rattle.subscription_index.proofs.Holders.{has_named-rows_of, ascends-rows_of, named_decide}
 use Rattle.realm.specs.Subscriptions.{held_among, number_among, numbered}
-use Rattle.realm.proofs.Numbers.{same_pattern-true, same_pattern-refl}
 
 -- numbers ascend
 below-append : (n : ℕ) (xs : List (ℕ × PatternText)) (x : ℕ × PatternText) → n < x.0 → IsBelowAll n xs → IsBelowAll n (xs ++ x ∷ [])

@@ -4,6 +4,7 @@ use Rattle.std.specs.declared.option.Option.{Option}
 use Rattle.std.proofs.lemmas.Bool.{eq-eqb}
 use Rattle.std.proofs.lemmas.Bool.Decides.{nat_tests}
 use Rattle.std.specs.List.{list_any}
+use Rattle.wamp_ids.proofs.Same.{same_pattern-true}
 use Rattle.wamp_ids.specs.Pattern.{PatternText, same_pattern}
 use Rattle.realm.specs.declared.entry.Entry.{Entry}
 use Rattle.realm.specs.declared.entry.Entry.TheVariants.{Said}
@@ -11,7 +12,7 @@ use Rattle.session.specs.declared.said.Said.TheVariants.{Subscribe}
 use Rattle.realm.specs.History.{History, ◌▷◌, Begins, same, longer}
 use Rattle.realm.specs.Sessions.{joined}
 use Rattle.realm.specs.Subscriptions.{holds, opened, number, number_among, if_new, subscribed}
-use Rattle.realm.proofs.Numbers.{same_pattern-true, number_among-le}
+use Rattle.realm.proofs.Numbers.{number_among-le}
 
 -- the pattern that was opened with this number
 abbrev opened_as : List PatternText → ℕ → Option PatternText

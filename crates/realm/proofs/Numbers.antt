@@ -1,47 +1,16 @@
 -- How many subscriptions were opened, and their numbers.
-use Rattle.std.proofs.Common.{◌≡◌, ℕ, suc, ◌+◌, ◌≤◌, Bool, true, false, cond, not, ◌&&◌, ◌||◌, eqb, List, [], ◌∷◌, ◌++◌, length, refl, ap, ◌∙◌, Ok, Err, arith, ◌⊎◌, inl, inr, ⊎_elim}
+use Rattle.std.proofs.Common.{◌≡◌, ℕ, suc, ◌+◌, ◌≤◌, Bool, true, false, cond, not, ◌&&◌, ◌||◌, eqb, List, [], ◌∷◌, ◌++◌, length, refl, Ok, Err, arith, ◌⊎◌, ⊎_elim}
 use Rattle.std.specs.declared.result.Result.{Result}
 use Rattle.std.specs.List.{list_any}
-use Rattle.std.specs.Str.{bytes_eq}
-use Rattle.std.proofs.lemmas.Slice.Eq.{bytes_eq-Decides}
 use Rattle.std.proofs.lemmas.Bool.{and_parts, or_cases}
-use Rattle.wamp_ids.specs.Pattern.{PatternText, same_policy, same_pattern}
-use Rattle.wamp_ids.specs.declared.pattern.Policy.{Policy}
-use Rattle.wamp_ids.specs.declared.pattern.Policy.TheVariants.{Exact, Prefix, Wildcard}
+use Rattle.wamp_ids.proofs.Same.{same_pattern-refl, same_pattern-true}
+use Rattle.wamp_ids.specs.Pattern.{PatternText, same_pattern}
 use Rattle.realm.specs.declared.entry.Entry.TheVariants.{Said}
 use Rattle.session.specs.declared.said.Said.TheVariants.{Subscribe, Unsubscribe}
 use Rattle.session.specs.declared.item.Reason.{Reason}
 use Rattle.realm.specs.History.{History, begun, ◌▷◌}
 use Rattle.realm.specs.Sessions.{joined, ends}
 use Rattle.realm.specs.Subscriptions.{holds, opened, number, number_among, if_new, is_of, subscribed}
-
-pub bytes_eq-refl : (xs : List ℕ) → bytes_eq xs xs ≡ true
-bytes_eq-refl xs = (bytes_eq-Decides xs xs).1 refl
-
-same_policy-refl : (p : Policy) → same_policy p p ≡ true
-same_policy-refl Exact = refl
-same_policy-refl Prefix = refl
-same_policy-refl Wildcard = refl
-
-same_policy-true : (p q : Policy) → same_policy p q ≡ true → p ≡ q
-same_policy-true Exact Exact e = refl
-same_policy-true Exact Prefix e = absurd (cc)
-same_policy-true Exact Wildcard e = absurd (cc)
-same_policy-true Prefix Exact e = absurd (cc)
-same_policy-true Prefix Prefix e = refl
-same_policy-true Prefix Wildcard e = absurd (cc)
-same_policy-true Wildcard Exact e = absurd (cc)
-same_policy-true Wildcard Prefix e = absurd (cc)
-same_policy-true Wildcard Wildcard e = refl
-
-pub same_pattern-refl : (p : PatternText) → same_pattern p p ≡ true
-same_pattern-refl p = rw (same_policy-refl p.policy) (bytes_eq-refl p.text)
-
-pub same_pattern-true : (p q : PatternText) → same_pattern p q ≡ true → p ≡ q
-same_pattern-true p q e =
-    let both = and_parts (same_policy p.policy q.policy) (bytes_eq p.text q.text) e in
-    let text_same : p.text ≡ q.text = (bytes_eq-Decides p.text q.text).0 both.1 in
-    ap (λ x. record { policy = x; text = p.text }) (same_policy-true p.policy q.policy both.0) ∙ ap (λ t. record { policy = q.policy; text = t }) text_same
 
 -- somebody has it
 pub record Somebody (P : ℕ → Bool) : Type 0 where

@@ -1,5 +1,5 @@
 -- One entry more: what it changes of the model, kind by kind.
-use Rattle.std.proofs.Common.{◌≡◌, ℕ, Bool, true, false, cond, not, ◌&&◌, eqb, List, refl, None}
+use Rattle.std.proofs.Common.{◌≡◌, ℕ, cond, not, ◌&&◌, eqb, List, refl, None}
 use Rattle.std.specs.declared.option.Option.{Option}
 use Rattle.std.proofs.Math.Bool.{and-true, and-false}
 use Rattle.message_tree.specs.Data.{Entries}

@@ -4,6 +4,7 @@ use Rattle.std.specs.declared.option.Option.{Option}
 use Rattle.std.specs.List.{list_any}
 use Rattle.std.proofs.lemmas.Bool.{eqb-true, eq-eqb, ltb-true, and_parts}
 use Rattle.message_tree.specs.Data.{Entries}
+use Rattle.wamp_ids.proofs.Same.{same_pattern-refl, same_pattern-true}
 use Rattle.wamp_ids.specs.Pattern.{PatternText, same_pattern}
 use Rattle.subscription_index.specs.Held.{Held, IsIndex, number_held, number_of, count_of, insert_row, subscribed_by, joined_or_opened, subscribed as answered}
 use Rattle.subscription_index.specs.Members.{has_row, rows_of}
@@ -18,7 +19,7 @@ use Rattle.realm.specs.History.{History, ◌▷◌}
 use Rattle.realm.specs.Sessions.{joined, IsHistory}
 use Rattle.realm.specs.Subscriptions.{holds, opened, held_among, has_room, number_among, number, subscribed, if_new, is_of}
 use Rattle.realm.specs.Agreeing.{Agrees}
-use Rattle.realm.proofs.Numbers.{same_pattern-true, same_pattern-refl, list_any-true, held-number}
+use Rattle.realm.proofs.Numbers.{list_any-true, held-number}
 use Rattle.realm.proofs.Following.{holder-joined, any-here}
 use Rattle.realm.proofs.Held.{rows-held}
 

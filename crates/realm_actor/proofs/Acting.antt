@@ -1,6 +1,5 @@
 -- An act was dropped.
-use Rattle.std.proofs.Common.{◌≡◌, refl, ap, Bool, true, false, not}
-use Rattle.std.proofs.lemmas.Bool.{not-true}
+use Rattle.std.proofs.Common.{◌≡◌, ap, Bool, true, false, not}
 use Rattle.realm_actor.specs.declared.outcome.Outcome.{Outcome}
 use Rattle.realm_actor.specs.declared.outcome.Outcome.TheVariants.{Applied, Dropped, NoMemory}
 use Rattle.realm_actor.specs.Handling.{MatchOutcome}

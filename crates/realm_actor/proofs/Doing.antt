@@ -1,27 +1,25 @@
 -- What the handling of an act does.
-use Rattle.std.proofs.Common.{◌≡◌, ◌≢◌, ◌⊎◌, ℕ, zero, suc, ◌+◌, ◌<◌, ◌≤◌, Bool, true, false, cond, not, eqb, List, [], ◌∷◌, ◌++◌, length, get_or, refl, sym, ap, ◌∙◌, subst, inl, inr, ⊎_elim, arith}
+use Rattle.std.proofs.Common.{◌≡◌, ◌≢◌, ◌⊎◌, ℕ, zero, suc, ◌<◌, Bool, true, false, not, eqb, List, [], ◌∷◌, length, get_or, refl, sym, ap, ◌∙◌, subst, inl, inr, ⊎_elim, arith}
 use Rattle.std.specs.Prelude.{Option, Some, None, ⊤, slice_get, MatchOption, option_map}
 use Rattle.std.specs.List.{insert}
 use Rattle.std.proofs.lemmas.Bool.{eqb-true, eq-eqb, or_cases, or_left}
-use Rattle.realm.specs.declared.entry.Entry.{Entry}
 use Rattle.realm.specs.History.{History}
 use Rattle.realm.specs.Sessions.{live, joined, may_join}
 use Rattle.realm.proofs.Ended.{no_more}
 use Rattle.realm_actor.specs.declared.row.Row.{Row}
-use Rattle.realm_actor.specs.declared.row.Held.{Held}
 use Rattle.realm_inbox.specs.declared.joining.Joining.{Joining}
 use Rattle.realm_inbox.specs.declared.act.Act.{Act}
 use Rattle.realm_inbox.specs.declared.act.Act.TheVariants.{Join, Said, Ping, Spoilt, Gone}
 use Rattle.realm_actor.specs.declared.outcome.Outcome.{Outcome}
 use Rattle.realm_actor.specs.declared.outcome.Outcome.TheVariants.{Applied, Dropped, NoMemory}
 use Rattle.realm_actor.specs.Following.{Box, Follows}
-use Rattle.realm_actor.specs.Rows.{Rose, box_in, RowDue, Each, Ascending}
-use Rattle.realm_actor.specs.Tables.{has_joined, IsOpen, HasRow, Went, BoxWent, RowWent, EachWent, EachMarked, Sound}
-use Rattle.realm_actor.specs.Cutting.{Accepted, NoneFull, IsFull}
-use Rattle.realm_actor.specs.Handling.{MatchOutcome, Applies, Loses, cut, not_live, nothing_drawn, Brings, Unmarked, EachUnmarked, Acts, Does, is_dropped, WithRow, entry_of}
-use Rattle.realm_actor.specs.Naming.{is_named, named_conns, is_in, finds_in, finds_of, outbox_of, NoMarks, Names}
+use Rattle.realm_actor.specs.Rows.{box_in, Each}
+use Rattle.realm_actor.specs.Tables.{has_joined, IsOpen, Went, BoxWent, EachWent, EachMarked, Sound}
+use Rattle.realm_actor.specs.Cutting.{NoneFull, IsFull}
+use Rattle.realm_actor.specs.Handling.{MatchOutcome, Applies, Loses, cut, not_live, nothing_drawn, Brings, EachUnmarked, Acts, Does, is_dropped, WithRow, entry_of}
+use Rattle.realm_actor.specs.Naming.{named_conns, is_in, finds_in, finds_of, outbox_of, NoMarks, Names}
 use Rattle.realm_actor.specs.Standing.{Stands}
-use Rattle.realm_actor.proofs.Standing.{read, within, same_place}
+use Rattle.realm_actor.proofs.Standing.{read, within}
 use Rattle.realm_actor.proofs.Marks.{unmarked_after}
 use Rattle.realm_actor.proofs.Named.{EachMoved, EachWent-same, accepted_went, moved_went, moved_marked, moved_on, moved_by, names_moved, found, same_after, insert_other, insert_here}
 

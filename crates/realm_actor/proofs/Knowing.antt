@@ -11,7 +11,7 @@ use Rattle.realm_actor.specs.declared.row.Row.{Row}
 use Rattle.realm_actor.specs.declared.table.Table.{Table}
 use Rattle.realm_actor.specs.Following.{Box}
 use Rattle.realm_actor.specs.Rows.{Rose, box_in, Each, NoneRose, Ascending}
-use Rattle.realm_actor.specs.Tables.{Went, BoxWent, RowWent, EachWent, RowMarked, EachMarked}
+use Rattle.realm_actor.specs.Tables.{BoxWent, RowWent, EachWent, RowMarked, EachMarked}
 use Rattle.realm_actor.specs.Cutting.{IsFull, NoneFull}
 use Rattle.realm_actor.specs.Naming.{NoMarks}
 use Rattle.realm_actor.specs.Handling.{EachUnmarked}

@@ -1,17 +1,17 @@
 -- Whom a post names.
 use Rattle.std.proofs.Common.{◌≡◌, ◌≢◌, ◌⊎◌, ℕ, zero, suc, ◌+◌, ◌<◌, ◌≤◌, Bool, true, false, cond, ◌||◌, eqb, List, [], ◌∷◌, ◌++◌, length, get_or, refl, sym, ap, ◌∙◌, subst, inl, inr, ⊎_elim, append-nil, append_assoc, arith}
-use Rattle.std.specs.Prelude.{Option, Some, None, ⊤, slice_get, option_map}
-use Rattle.std.specs.List.{insert, list_any}
+use Rattle.std.specs.Prelude.{Option, Some, None, slice_get, option_map}
+use Rattle.std.specs.List.{insert}
 use Rattle.std.proofs.lemmas.Bool.{eqb-true, eq-eqb, or_cases, or_left, or_right}
 use Rattle.std.proofs.Math.Bool.{or_assoc}
 use Rattle.realm.specs.declared.entry.Entry.{Entry}
-use Rattle.realm.specs.History.{History, ◌▷◌}
+use Rattle.realm.specs.History.{History}
 use Rattle.realm_actor.specs.declared.row.Row.{Row}
 use Rattle.realm_actor.specs.Following.{Box}
 use Rattle.realm_actor.specs.Rows.{Rose, box_in, Each, Ascending}
-use Rattle.realm_actor.specs.Tables.{Went, BoxWent, RowWent, EachWent, EachMarked, Sound}
+use Rattle.realm_actor.specs.Tables.{Went, BoxWent, RowWent, EachWent, EachMarked}
 use Rattle.realm_actor.specs.Cutting.{Cuts, none, one_more, Accepted}
-use Rattle.realm_actor.specs.Handling.{Unmarked, EachUnmarked}
+use Rattle.realm_actor.specs.Handling.{EachUnmarked}
 use Rattle.realm_actor.specs.Naming.{is_named, named_conns, is_in, finds_in, finds_of, outbox_of, NoMarks, Names, Ascends}
 use Rattle.realm_actor.proofs.Standing.{read, within, same_place, below_or}
 

@@ -28,7 +28,6 @@ use Rattle.crossbeam_channel.specs.contracts.flavors.array.ruled.Receiving as Re
 use Rattle.crossbeam_channel.specs.contracts.flavors.array.ruled.Sending as Sending
 use Rattle.crossbeam_utils.proofs.sync.parker.RuledParker.TheSendSync as parker
 use Rattle.crossbeam_utils.proofs.sync.parker.RuledUnparker.TheSendSync as unparker
-use Rattle.ghost_state.proofs.Crossing.{past_send}
 use Rattle.message_tree.proofs.Crossing.{octets_send, text_send}
 use Rattle.message_tree.specs.contracts.owned.Octets as Octets
 use Rattle.outbox_queue.proofs.Crossing.{outbox_send}

@@ -1,5 +1,5 @@
 //! The ends of an inbox.
-ghost use Rattle.std.specs.Prelude.{◌≡◌, ◌≤◌, ◌+◌, [], ◌∷◌, ◌++◌, true, if◌then◌else◌, IfSome, IfOk, MatchOption, MatchResult};
+ghost use Rattle.std.specs.Prelude.{◌≡◌, ◌≢◌, ◌≤◌, ◌+◌, [], ◌∷◌, ◌++◌, true, if◌then◌else◌, IfSome, IfOk, IfErr, MatchOption, MatchResult};
 ghost use Rattle.crossbeam_channel.specs.Claims.{view, IsSeatAt};
 ghost use Rattle.crossbeam_channel.specs.Ends.{sends_on, receives_on};
 ghost use Rattle.wamp_ids.specs.Numbers.{seat_of};
@@ -19,7 +19,7 @@ use ghost_state::Past;
 use std::alloc::{AllocError, Global};
 use std::snapshot::Snapshot;
 use std::sync::{Arc, Wait};
-use wamp_ids::Conn;
+use wamp_ids::{Conn, seat};
 
 pub(crate) type Sending<S> = RuledSender<Post<S>, View<S>, InTurn>;
 
@@ -245,6 +245,27 @@ impl<S: Shut> Door<S> {
         ensures same { MatchResult result (λ p. inbox_of_poster p ≡ inbox_of_seat seat) (λ _. ⊥) }
     {
         Ok(Poster { conn, seat })
+    }
+
+    /// A poster of the connection at the seat, or the seat, where its number isn't [`wamp_ids::seat`] of the connection: what
+    /// [`Door::poster`] demands is tested here.
+    ///
+    /// # Errors
+    /// Only that.
+    pub fn poster_at(&self, alloc: Global, at: Seat<S>, conn: Conn) -> Result<Poster<S>, Seat<S>>
+        ensures conn { IfOk result (λ p. poster_conn p ≡ conn) }
+        ensures posted { IfOk result (λ p. posted p ≡ posted_at at) }
+        ensures same { IfOk result (λ p. inbox_of_poster p ≡ inbox_of_seat at) }
+        ensures seat { IfErr result (λ s. s ≡ at) }
+        ensures which { MatchResult result (λ _. seat_of conn ≡ seat_number at) (λ _. seat_of conn ≢ seat_number at) }
+    {
+        if at.number() != seat(conn) {
+            return Err(at);
+        }
+        match self.poster(alloc, at, conn) {
+            Ok(poster) => Ok(poster),
+            Err((_, at)) => Err(at),
+        }
     }
 
     /// Posts a stop, and waits while the inbox is full. False where the inbox is gone; nothing was posted then.

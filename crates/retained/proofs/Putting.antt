@@ -13,10 +13,11 @@ use Rattle.std.specs.Ordering.{nat_cmp, is_eq, is_lt, ordering_reverse}
 use Rattle.std.proofs.lemmas.Cmp.{nat_list_cmp_total}
 use Rattle.std.specs.Str.{bytes_eq}
 use Rattle.std.proofs.Math.Bool.{or-false}
+use Rattle.wamp_ids.proofs.Same.{bytes_eq-refl}
 use Rattle.session.specs.declared.item.Publication.{Publication}
 use Rattle.retained.specs.Retained.{without_topic, is_before, put_by_topic, has_topic, has_room, set_topic, IsBeforeAll, AreByTopic}
 use Rattle.retained.specs.Places.{FirstAreBefore, IsAt, GoesAt}
-use Rattle.retained.proofs.Retaining.{bytes_eq-itself, before-differs, before-differs-back, before-not_back, IsBeforeAll-more, put-front}
+use Rattle.retained.proofs.Retaining.{before-differs, before-differs-back, before-not_back, IsBeforeAll-more, put-front}
 
 -- a topic before all is that of none
 without-all : (t : List ℕ) (ps : List Publication) → IsBeforeAll t ps → without_topic t ps ≡ ps
@@ -41,7 +42,7 @@ set-place [] i p all small is = absurd (omega arith)
 set-place (x ∷ xs) zero p all small is =
     let same : x.topic ≡ p.topic = is x in
     let before : IsBeforeAll p.topic xs = subst (λ t. IsBeforeAll t xs) same all.0 in
-    let equal : bytes_eq x.topic p.topic ≡ true = ap (λ t. bytes_eq t p.topic) same ∙ bytes_eq-itself p.topic in
+    let equal : bytes_eq x.topic p.topic ≡ true = ap (λ t. bytes_eq t p.topic) same ∙ bytes_eq-refl p.topic in
     rw equal (rw (without-all p.topic xs before) (sym (put-front p xs before)))
 set-place (x ∷ xs) (suc i) p all small is =
     let e : is_before x.topic p.topic ≡ true = subst (λ t. is_before x.topic t ≡ true) (is x) (at-before x.topic xs i x all.0 (omega arith)) in
@@ -52,7 +53,7 @@ set-at ps i p all at = set-place ps i p all at.within at.is
 
 has-place : (ps : List Publication) (i : ℕ) (t : List ℕ) → i < length ps → ((d : Publication) → (get_or ps i d).topic ≡ t) → has_topic t ps ≡ true
 has-place [] i t small is = absurd (omega arith)
-has-place (x ∷ xs) zero t small is = rw (is x) (rw (bytes_eq-itself t))
+has-place (x ∷ xs) zero t small is = rw (is x) (rw (bytes_eq-refl t))
 has-place (x ∷ xs) (suc i) t small is = either (bytes_eq x.topic t) (has_topic t xs) (has-place xs i t (omega arith) is)
   where
     either : (a b : Bool) → b ≡ true → a || b ≡ true

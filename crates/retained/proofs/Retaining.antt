@@ -28,9 +28,6 @@ compare a b = slice_cmp nat_cmp a b
 flip : (a b : List ℕ) → compare a b ≡ Less → compare b a ≡ Greater
 flip a b e = nat_list_cmp_total.antisymm b a ∙ ap ordering_reverse e
 
-pub bytes_eq-itself : (a : List ℕ) → bytes_eq a a ≡ true
-bytes_eq-itself a = (bytes_eq-Decides a a).1 refl
-
 pub before-differs : (a b : List ℕ) → is_before a b ≡ true → bytes_eq a b ≡ false
 before-differs a b e = sym (is_eq-slice_cmp a b) ∙ ap is_eq (less (compare a b) e)
 

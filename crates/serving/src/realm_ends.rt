@@ -1,8 +1,4 @@
 //! What the accepting thread has of a realm.
-ghost use Rattle.std.specs.Prelude.{◌≡◌};
-ghost use Rattle.wamp_ids.specs.Numbers.{seat_of};
-ghost use Rattle.realm_inbox.specs.Shown.{poster_conn, seat_number};
-
 use crate::actor_work::ActorWork;
 use crate::work::start;
 use crossbeam_channel::Receiver;
@@ -62,7 +58,7 @@ impl<S: Shut> RealmEnds<S> {
     /// The poster of a connection at its seat, which is free no longer. None where it isn't free.
     pub fn take_poster(&mut self, alloc: Global, conn: Conn) -> Option<Poster<S>> {
         let at = self.take_seat(seat(conn))?;
-        match poster_at(&self.door, alloc, at, conn) {
+        match self.door.poster_at(alloc, at, conn) {
             Ok(poster) => Some(poster),
             Err(at) => {
                 self.put_seat(at);
@@ -96,21 +92,5 @@ impl<S: Shut> RealmEnds<S> {
         if let Some(actor) = self.actor.take() {
             actor.join(rt);
         }
-    }
-}
-
-// The poster of the connection at the seat, or the seat, where it isn't that of the connection.
-fn poster_at<S: Shut>(
-    door: &Door<S>,
-    alloc: Global,
-    at: Seat<S>,
-    conn: Conn,
-) -> Result<Poster<S>, Seat<S>> {
-    if at.number() != seat(conn) {
-        return Err(at);
-    }
-    match door.poster(alloc, at, conn) {
-        Ok(poster) => Ok(poster),
-        Err((_, at)) => Err(at),
     }
 }

@@ -1,4 +1,4 @@
-use Rattle.std.proofs.Common.{◌≡◌, map, ap, sym, subst, length, arith}
+use Rattle.std.proofs.Common.{map, ap, sym, subst, arith}
 use Rattle.std.specs.Prelude.{IfOk, vec_capacity}
 use Rattle.ghost_state.specs.Past.{items_of}
 use Rattle.realm_inbox.specs.Seats.{said}

@@ -1,4 +1,4 @@
-use Rattle.std.proofs.Common.{◌≡◌, map, ap, sym, subst, length, arith}
+use Rattle.std.proofs.Common.{map, ap, sym, subst, length, arith}
 use Rattle.std.specs.Prelude.{vec_capacity}
 use Rattle.realm.specs.Sessions.{live}
 use Rattle.ghost_state.specs.Past.{items_of}
