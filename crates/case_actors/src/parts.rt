@@ -1,15 +1,8 @@
 //! The parts of a line.
 ghost use Rattle.std.specs.Prelude.{◌≤◌, IfSome};
 
+use case_text::part;
 use wamp_ids::Conn;
-
-/// The first word, and what is behind it.
-pub fn part(text: &str) -> (&str, &str) {
-    match text.split_once(' ') {
-        Some(parts) => parts,
-        None => (text, ""),
-    }
-}
 
 /// The connection that a text begins with, and what is behind it.
 pub fn conn_and_rest(text: &str) -> Option<(Conn, &str)> {

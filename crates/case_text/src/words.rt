@@ -7,6 +7,14 @@ pub fn line_of(alloc: Global, text: &str) -> io::Result<String> {
     Ok(format!(in alloc; "{text}\n")?)
 }
 
+/// The first word, and what is behind it.
+pub fn part(text: &str) -> (&str, &str) {
+    match text.split_once(' ') {
+        Some(parts) => parts,
+        None => (text, ""),
+    }
+}
+
 /// What a word stands for: nothing where it is `-`.
 pub fn part_of(word: &str) -> &str {
     match word {

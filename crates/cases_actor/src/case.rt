@@ -1,10 +1,10 @@
 //! The words of the table.
-use crate::acts::act_of;
 use crate::replaying::Replaying;
 use crate::room::Room;
 use crate::threads::publish_all;
-use case_actors::{capacity, conn_and_rest, part};
-use case_text::{line_of, number_of};
+use case_actors::{act_of, capacity, conn_and_rest};
+use case_items::grant_of;
+use case_text::{line_of, number_of, part};
 use message_tree::Text;
 use std::alloc::Global;
 use std::sync::Wait;
@@ -55,10 +55,7 @@ impl Case {
     }
 
     fn grant(&mut self, alloc: Global, text: &str) -> io::Result<String> {
-        let (authid, role) = part(text);
-        let authid = String::from_str(alloc, authid)?;
-        let role = String::from_str(alloc, role)?;
-        self.grants.push((authid, role))?;
+        self.grants.push(grant_of(alloc, text)?)?;
         Ok(String::new(alloc))
     }
 

@@ -2,10 +2,9 @@
 ghost use Rattle.std.specs.Prelude.{◌≡◌, false, IfOk, IfSome};
 ghost use Rattle.realm_inbox.specs.Joins.{is_join};
 
-use crate::acts::act_of;
 use crate::seating::post_act;
 use crate::work::Work;
-use case_actors::Wire;
+use case_actors::{Wire, act_of};
 use case_items::item_text;
 use outbox_queue::{Drain, Waited};
 use realm_inbox::{Act, Poster, RealmHistory};

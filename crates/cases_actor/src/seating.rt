@@ -2,8 +2,7 @@
 ghost use Rattle.std.specs.Prelude.{◌≡◌, ◌≤◌, ◌<◌, false, length, IfSome};
 ghost use Rattle.realm_inbox.specs.Joins.{is_join};
 
-use crate::acts::{Entrance, entrance_of};
-use case_actors::Wire;
+use case_actors::{Entrance, Wire, entrance_of};
 use message_tree::Text;
 use outbox_queue::Drain;
 use realm_inbox::{Act, Door, Poster, Posting, RealmHistory, Seat};
@@ -39,11 +38,9 @@ fn post_join<R: Wait>(
     requires least { 1 ≤ cap }
     requires most { cap ≤ 65536 }
 {
-    let Entrance {
-        joining,
-        drain,
-        wire,
-    } = entrance_of(alloc, poster.conn(), cap, authid)?;
+    let transport = Wire::new(alloc)?;
+    let wire = transport.again()?;
+    let Entrance { joining, drain } = entrance_of(alloc, poster.conn(), authid, cap, transport)?;
     let _ = poster.post(rt, Act::Join(joining));
     Ok(Entered { drain, wire })
 }

@@ -1,11 +1,11 @@
 //! Connections that publish in threads of their own, over one inbox and a running actor.
 ghost use Rattle.std.specs.Prelude.{◌≤◌};
 
-use crate::acts::act_of;
 use crate::expecting::Expecting;
 use crate::publishing::{Publisher, Taken, Writer};
 use crate::room::Room;
 use crate::work::start;
+use case_actors::act_of;
 use case_text::line_of;
 use realm_actor::Outcome;
 use std::alloc::{AllocError, Global};

@@ -6,7 +6,7 @@ use crate::room::{Room, post};
 use crate::tally::Received;
 use crate::threads::pass_all;
 use crate::wire::Wire;
-use case_text::{crossing, line_of, may_be_sent};
+use case_text::{crossing, line_of, may_be_sent, part};
 use realm_inbox::{Act, Door, Inbox, Poster, Seat};
 use std::alloc::Global;
 use std::io;
@@ -18,14 +18,6 @@ use wamp_ids::Conn;
 #[derive(Drop)]
 pub struct Case {
     room: Option<Room>,
-}
-
-// The first word, and what is behind it.
-fn part(text: &str) -> (&str, &str) {
-    match text.split_once(' ') {
-        Some(parts) => parts,
-        None => (text, ""),
-    }
 }
 
 fn conn_of(text: &str) -> Option<Conn> {

@@ -1,9 +1,8 @@
 //! The words of the table.
-use crate::acts::act_of;
 use crate::room::Room;
-use case_actors::{capacity, conn_and_rest, part};
+use case_actors::{act_of, capacity, conn_and_rest};
 use case_items::item_text;
-use case_text::line_of;
+use case_text::{line_of, part};
 use session::Item;
 use std::alloc::Global;
 use std::io;

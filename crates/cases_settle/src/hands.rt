@@ -5,9 +5,8 @@ ghost use Rattle.realm_actor.specs.Acting.{Acting as AnActing};
 ghost use Rattle.cases_settle.specs.Sides.{IsSide};
 ghost use Rattle.case_actors.specs.declared.wire.Wire.{Wire as AWire};
 
-use crate::acts::Entrance;
 use crate::side::{Acting, Side, enter, post, settle, stop};
-use case_actors::Wire;
+use case_actors::{Entrance, Wire};
 use realm_actor::Outcome;
 use realm_inbox::Act;
 use session::Item;

@@ -2,8 +2,8 @@
 //!
 //! - `# TEXT` begins a case, and is printed as it stands.
 //! - `actor` makes an actor of a realm `r.one`. Its words are counted from 0.
-//! - `join CONN CAP` posts a Join that brings an outbox in which so many items may wait; `said CONN JSON` and `gone CONN` post another
-//!   act, `stop` a stop. The actor handles each at once. What is told: what became of it, whom it cut, and whose transports were shut
+//! - `join CONN CAP` posts a Join that brings an outbox in which so many items may wait; `said CONN JSON`, `ping CONN OCTETS`, `spoilt
+//!   CONN` and `gone CONN` post another act, `stop` a stop. The actor handles each at once. What is told: what became of it, whom it cut, and whose transports were shut
 //!   since the last post.
 //! - `take CONN` takes the next item of the outbox that the connection's last applied Join brought; `holds CONN` tells whether the actor
 //!   holds it. `settle CONN` puts it together with its drain, and tells the items that are left.
@@ -11,7 +11,6 @@
 //! Posts are made by hand, and of the connections 1 and 2 alone, so that it is known which outbox a drain is the other end of.
 #![tactic(auto)]
 
-mod acts;
 mod case;
 mod hands;
 mod room;

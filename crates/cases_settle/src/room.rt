@@ -2,10 +2,9 @@
 ghost use Rattle.std.specs.Prelude.{◌≡◌, ◌≤◌, [], false, IfOk};
 ghost use Rattle.realm_inbox.specs.Joins.{is_join};
 
-use crate::acts::entrance_of;
 use crate::hands::Hands;
 use crate::side::Acting;
-use case_actors::{Counted, Watching, Wire};
+use case_actors::{Counted, Watching, Wire, entrance_of};
 use case_text::line_of;
 use realm::RealmConfig;
 use realm_actor::{Actor, Outcome};
@@ -57,7 +56,7 @@ impl Room {
         requires most { cap ≤ 65536 }
     {
         let transport = self.watch(alloc, conn)?;
-        let entrance = entrance_of(alloc, conn, cap, transport)?;
+        let entrance = entrance_of(alloc, conn, None, cap, transport)?;
         Ok(self.hands.join(rt, alloc, conn, entrance))
     }
 

@@ -12,8 +12,7 @@ ghost use Rattle.realm_actor.specs.declared.outcome.Outcome.TheVariants.{Applied
 ghost use Rattle.cases_settle.specs.Sides.{IsSide, Pairs, Stays, StaysHeld};
 ghost use Rattle.case_actors.specs.declared.wire.Wire.{Wire as AWire};
 
-use crate::acts::Entrance;
-use case_actors::{Counted, Wire};
+use case_actors::{Counted, Entrance, Wire};
 use outbox_queue::{Drain, Next};
 use realm_actor::{Actor, Outcome};
 use realm_inbox::{Act, Letter, Past, Post, RealmHistory};

@@ -3,9 +3,9 @@ ghost use Rattle.std.specs.Prelude.{◌≤◌, IfSome};
 use crate::churning::churn;
 use crate::entries::{entry_of, step_of};
 use crate::telling::{given_text, outcome_text, run_text};
-use crate::words::{conn, number, part};
-use case_items::unless_refused;
-use case_text::{Table, line_of};
+use crate::words::{conn, number};
+use case_items::{grant_of, unless_refused};
+use case_text::{Table, line_of, part};
 use realm_core::{Entry, RealmConfig, Step, World};
 use std::alloc::{AllocError, Global};
 use std::{io, mem};
@@ -53,10 +53,7 @@ impl Table for Case {
 
 impl Case {
     fn grant(&mut self, alloc: Global, text: &str) -> io::Result<String> {
-        let (authid, role) = part(text);
-        let authid = String::from_str(alloc, authid)?;
-        let role = String::from_str(alloc, role)?;
-        self.grants.push((authid, role))?;
+        self.grants.push(grant_of(alloc, text)?)?;
         Ok(String::new(alloc))
     }
 

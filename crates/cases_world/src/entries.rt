@@ -1,6 +1,7 @@
 //! Entries and steps, as a line has them.
-use crate::words::{conn, conn_and_word, number, part};
+use crate::words::{conn, conn_and_word, number};
 use case_items::said_of;
+use case_text::part;
 use message_tree::{Octets, Text};
 use realm_core::{Entry, Step};
 use std::alloc::Global;

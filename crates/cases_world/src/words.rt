@@ -1,13 +1,6 @@
 //! The words of a line.
+use case_text::part;
 use wamp_ids::Conn;
-
-/// The first word, and what is behind it.
-pub fn part(text: &str) -> (&str, &str) {
-    match text.split_once(' ') {
-        Some(parts) => parts,
-        None => (text, ""),
-    }
-}
 
 pub fn number(text: &str) -> Option<u64> {
     text.parse::<u64>().ok()

@@ -1,60 +1,95 @@
--- What a client said was applied, or lost.
-use Rattle.std.proofs.Common.{◌≤◌, length, ◌≡◌, ℕ, zero, Bool, true, false, cond, List, [], ◌∷◌, ◌++◌, refl, sym, ap, ◌∙◌, subst, append_assoc}
-use Rattle.session.specs.declared.said.Said as spoken
+-- An act was applied, or lost.
+use Rattle.std.proofs.Common.{◌≤◌, length, ◌≡◌, ℕ, Bool, true, false, cond, not, List, [], ◌∷◌, ◌++◌, refl, sym, ap, ◌∙◌, subst, append_assoc}
 use Rattle.realm.specs.declared.entry.Entry.{Entry}
 use Rattle.realm.specs.declared.entry.Entry.TheVariants as entry
-use Rattle.realm.specs.Words.{says_with_word}
 use Rattle.std.specs.Prelude.{Some}
+use Rattle.std.proofs.lemmas.Bool.{true≢false}
 use Rattle.std.specs.List.{insert}
 use Rattle.realm.specs.History.{History, ◌▷◌}
-use Rattle.realm.specs.Sessions.{live, joined, may_join}
+use Rattle.realm.specs.Sessions.{conn_of, live, joined, may_come, may_join}
 use Rattle.realm.proofs.Ended.{no_more}
 use Rattle.realm.proofs.Joined.{live-joined}
 use Rattle.realm_inbox.specs.declared.joining.Joining.{Joining}
 use Rattle.realm_actor.specs.Rows.{box_in}
 use Rattle.realm_actor.specs.Tables.{EachMarked, EachWent, Sound}
+use Rattle.realm_inbox.specs.declared.act.Act.{Act}
 use Rattle.realm_inbox.specs.declared.act.Act.TheVariants.{Said, Join, Ping, Spoilt, Gone}
+use Rattle.realm_inbox.specs.Joins.{is_join}
 use Rattle.realm_actor.specs.declared.outcome.Outcome.{Outcome}
 use Rattle.realm_actor.specs.declared.outcome.Outcome.TheVariants.{Applied, Dropped, NoMemory}
 use Rattle.realm_actor.specs.declared.row.Row.{Row}
 use Rattle.realm_actor.specs.Cutting.{Accepted, Cuts, IsCutOf, NoneFull}
-use Rattle.realm_actor.specs.Handling.{MatchOutcome, Applies, Loses, cut, not_live, nothing_drawn}
+use Rattle.realm_actor.specs.Handling.{MatchOutcome, Applies, Loses, WithRow, draws, entry_of, is_dropped, cut, not_live, nothing_drawn}
 
 pub by_outcome : (r : Outcome) (A B D E : Type 0) → (A → D) → (B → E) → (C : Type 0) → MatchOutcome r A ⊥ B → MatchOutcome r D C E
 by_outcome Applied A B D E f g C m = f m
 by_outcome Dropped A B D E f g C m = absurd m
 by_outcome NoMemory A B D E f g C m = g m
 
-same_word : (b : Bool) (w : ℕ) → b ≡ true → cond b w 0 ≡ w
-same_word true w e = refl
-same_word false w e = absurd (cc)
+-- an act that is no Join
 
-no_word : (b : Bool) → cond {A = ℕ} b 0 0 ≡ zero
-no_word true = refl
-no_word false = refl
+module _ {S : Type 0} where
+  pub no_join : (act : Act S) → ((joining : Joining S) → act ≡ Join joining → ⊥) → is_join act ≡ false
+  no_join (Join joining) other = absurd (other joining refl)
+  no_join (Said said) other = refl
+  no_join (Ping payload) other = refl
+  no_join Spoilt other = refl
+  no_join Gone other = refl
 
-module _ {S : Type 0} (c : ℕ) (said : spoken.Said) (h l : History) (rows news : List (Row S)) (before after : List ℕ) where
-  pub applies_plain : says_with_word said ≡ false → (drawn : List ℕ) × Accepted h rows (entry.Said c 0 said) drawn l news × (after ≡ before ++ drawn) → Applies c (Said said) h rows before l news after
-  applies_plain quiet a = record {
+  pub no_joining : (act : Act S) → is_join act ≡ false → (joining : Joining S) → act ≡ Join joining → ⊥
+  no_joining act other joining is = true≢false (sym (ap is_join is) ∙ other)
+
+  pub dropped-live : (h : History) (c : ℕ) (act : Act S) → is_join act ≡ false → is_dropped h c act ≡ not (live h c)
+  dropped-live h c (Join joining) other = absurd (cc)
+  dropped-live h c (Said said) other = refl
+  dropped-live h c (Ping payload) other = refl
+  dropped-live h c Spoilt other = refl
+  dropped-live h c Gone other = refl
+
+  pub conn_of-entry_of : (c : ℕ) (act : Act S) (w : ℕ) → conn_of (entry_of c act w) ≡ c
+  conn_of-entry_of c (Join joining) w = refl
+  conn_of-entry_of c (Said said) w = refl
+  conn_of-entry_of c (Ping payload) w = refl
+  conn_of-entry_of c Spoilt w = refl
+  conn_of-entry_of c Gone w = refl
+
+  pub may_come-entry_of : (h : History) (c : ℕ) (act : Act S) (w : ℕ) → is_join act ≡ false → live h c ≡ true → may_come h (entry_of c act w) ≡ true
+  may_come-entry_of h c (Join joining) w other lives = absurd (cc)
+  may_come-entry_of h c (Said said) w other lives = lives
+  may_come-entry_of h c (Ping payload) w other lives = lives
+  may_come-entry_of h c Spoilt w other lives = lives
+  may_come-entry_of h c Gone w other lives = lives
+
+  stays : (c : ℕ) (act : Act S) (rows : List (Row S)) → is_join act ≡ false → WithRow c act rows rows
+  stays c (Join joining) rows other = absurd (cc)
+  stays c (Said said) rows other = refl
+  stays c (Ping payload) rows other = refl
+  stays c Spoilt rows other = refl
+  stays c Gone rows other = refl
+
+module _ {S : Type 0} (c : ℕ) (act : Act S) (h l : History) (rows news : List (Row S)) (before after : List ℕ) (e : Entry) (other : is_join act ≡ false) where
+  pub applies_plain : draws act ≡ false → e ≡ entry_of c act 0 → (drawn : List ℕ) × Accepted h rows e drawn l news × (after ≡ before ++ drawn) → Applies c act h rows before l news after
+  applies_plain quiet is a = record {
     word = 0;
     drawn = a.0;
     rows = rows;
-    brought = refl;
-    accepted = subst (λ w. Accepted h rows (entry.Said c w said) a.0 l news) (sym (no_word (says_with_word said))) a.1;
+    brought = stays c act rows other;
+    accepted = subst (λ x. Accepted h rows x a.0 l news) is a.1;
     words = a.2 ∙ ap (λ b. before ++ cond b (0 ∷ a.0) a.0) (sym quiet);
   }
 
-  pub applies_word : (w : ℕ) (start : List ℕ) → start ≡ before ++ w ∷ [] → says_with_word said ≡ true
-      → (drawn : List ℕ) × Accepted h rows (entry.Said c w said) drawn l news × (after ≡ start ++ drawn) → Applies c (Said said) h rows before l news after
-  applies_word w start is told a = record {
+  pub applies_word : (w : ℕ) (start : List ℕ) → start ≡ before ++ w ∷ [] → draws act ≡ true → e ≡ entry_of c act w
+      → (drawn : List ℕ) × Accepted h rows e drawn l news × (after ≡ start ++ drawn) → Applies c act h rows before l news after
+  applies_word w start begun told is a = record {
     word = w;
     drawn = a.0;
     rows = rows;
-    brought = refl;
-    accepted = subst (λ x. Accepted h rows (entry.Said c x said) a.0 l news) (sym (same_word (says_with_word said) w told)) a.1;
-    words = a.2 ∙ ap (λ s. s ++ a.0) is ∙ append_assoc before (w ∷ []) a.0 ∙ ap (λ b. before ++ cond b (w ∷ a.0) a.0) (sym told);
+    brought = stays c act rows other;
+    accepted = subst (λ x. Accepted h rows x a.0 l news) is a.1;
+    words = a.2 ∙ ap (λ s. s ++ a.0) begun ∙ append_assoc before (w ∷ []) a.0 ∙ ap (λ b. before ++ cond b (w ∷ a.0) a.0) (sym told);
   }
 
+module _ {S : Type 0} (c : ℕ) (h l : History) (rows news : List (Row S)) (before after : List ℕ) where
   pub loses_by : (lost : List ℕ) (start : List ℕ) → start ≡ before ++ lost → length lost ≤ 1 → (word : ℕ) × (drawn : List ℕ) × (e : Entry) × (marked : List (Row S)) × IsCutOf c word e × EachMarked c rows marked × Accepted h marked e drawn l news × (after ≡ start ++ word ∷ drawn) → Loses c h rows before l news after
   loses_by lost start is few b = cut lost b.0 b.1 b.2 b.3 few b.4 b.5 b.6 (b.7 ∙ ap (λ s. s ++ b.0 ∷ b.1) is)
 
@@ -100,18 +135,3 @@ module _ {S : Type 0} (c : ℕ) (h : History) where
     };
     words = words ∙ ap (λ s. s ++ drawn) is ∙ append_assoc before (word ∷ []) drawn;
   }
-
--- the other acts
-
-module _ {S : Type 0} (c : ℕ) (h l : History) (rows news : List (Row S)) (before after : List ℕ) where
-  pub applies_ping : (payload : List ℕ) → (drawn : List ℕ) × Accepted h rows (entry.Ping c payload) drawn l news × (after ≡ before ++ drawn) → Applies c (Ping payload) h rows before l news after
-  applies_ping payload a = record { word = 0; drawn = a.0; rows = rows; brought = refl; accepted = a.1; words = a.2 }
-
-  pub applies_spoilt : (w : ℕ) (start : List ℕ) → start ≡ before ++ w ∷ [] → (drawn : List ℕ) × Accepted h rows (entry.Spoilt c w) drawn l news × (after ≡ start ++ drawn) → Applies c Spoilt h rows before l news after
-  applies_spoilt w start is a = record { word = w; drawn = a.0; rows = rows; brought = refl; accepted = a.1; words = a.2 ∙ ap (λ s. s ++ a.0) is ∙ append_assoc before (w ∷ []) a.0 }
-
-  pub applies_gone : (w : ℕ) (start : List ℕ) → start ≡ before ++ w ∷ [] → (drawn : List ℕ) × Accepted h rows (entry.Gone c w) drawn l news × (after ≡ start ++ drawn) → Applies c Gone h rows before l news after
-  applies_gone w start is a = record { word = w; drawn = a.0; rows = rows; brought = refl; accepted = a.1; words = a.2 ∙ ap (λ s. s ++ a.0) is ∙ append_assoc before (w ∷ []) a.0 }
-
-  pub loses_act : (lost : List ℕ) (start : List ℕ) → start ≡ before ++ lost → length lost ≤ 1 → (word : ℕ) × (drawn : List ℕ) × (e : Entry) × (marked : List (Row S)) × IsCutOf c word e × EachMarked c rows marked × Accepted h marked e drawn l news × (after ≡ start ++ word ∷ drawn) → Loses c h rows before l news after
-  loses_act lost start is few b = cut lost b.0 b.1 b.2 b.3 few b.4 b.5 b.6 (b.7 ∙ ap (λ s. s ++ b.0 ∷ b.1) is)

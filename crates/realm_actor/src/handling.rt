@@ -37,11 +37,8 @@ impl<S: Shut, W: IdSource> State<S, W> {
             before: _,
         } = letter;
         match act {
-            Act::Join(joining) => return self.join(rt, alloc, conn, joining),
-            Act::Said(said) => return self.said(rt, alloc, conn, said),
-            Act::Ping(payload) => return self.pinged(rt, alloc, conn, payload),
-            Act::Spoilt => return self.spoilt(rt, alloc, conn),
-            Act::Gone => return self.gone(rt, alloc, conn),
+            Act::Join(joining) => self.join(rt, alloc, conn, joining),
+            other => self.enter(rt, alloc, conn, other),
         }
     }
 

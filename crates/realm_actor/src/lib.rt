@@ -17,6 +17,7 @@
 mod actor;
 mod closing;
 mod cutting;
+mod entering;
 mod handling;
 pub mod laws;
 mod naming;
@@ -25,7 +26,6 @@ mod places;
 mod pushing;
 mod row;
 mod running;
-mod saying;
 mod settling;
 mod state;
 mod table;

@@ -1,9 +1,11 @@
-//! Acts, as a line has them.
+//! Acts, as a line has them, and what a Join brings.
 ghost use Rattle.std.specs.Prelude.{◌≡◌, ◌≤◌, false, IfOk, IfSome};
 ghost use Rattle.realm_inbox.specs.Joins.{is_join};
 
-use case_actors::Wire;
+use crate::wire::Wire;
 use case_items::said_of;
+use case_text::octets_of;
+use message_tree::{Octets, Text};
 use outbox_queue::{Drain, pair};
 use realm_inbox::{Act, Joining, RealmHistory};
 use session::Item;
@@ -18,8 +20,14 @@ pub struct Entrance {
     pub drain: Drain<Item, RealmHistory>,
 }
 
-/// What a connection brings to join with this transport, and with an outbox in which so many items may wait.
-pub fn entrance_of(alloc: Global, conn: Conn, cap: usize, transport: Wire) -> io::Result<Entrance>
+/// What a connection brings to join: the authid that it asks for, an outbox in which so many items may wait, and this transport.
+pub fn entrance_of(
+    alloc: Global,
+    conn: Conn,
+    authid: Option<Text>,
+    cap: usize,
+    transport: Wire,
+) -> io::Result<Entrance>
     requires least { 1 ≤ cap }
     requires most { cap ≤ 65536 }
     ensures own { IfOk result (λ e. e.joining.outbox.conn ≡ conn) }
@@ -28,11 +36,20 @@ pub fn entrance_of(alloc: Global, conn: Conn, cap: usize, transport: Wire) -> io
 {
     let (outbox, drain) = pair::<Item, RealmHistory>(alloc, conn.value(), cap)?;
     let joining = Joining {
-        authid: None,
+        authid,
         outbox,
         transport,
     };
     Ok(Entrance { joining, drain })
+}
+
+fn said(alloc: Global, text: &str) -> io::Result<Option<Act<Wire>>>
+    ensures { IfOk result (λ found. IfSome found (λ act. is_join act ≡ false)) }
+{
+    match said_of(alloc, text)? {
+        Some(said) => Ok(Some(Act::Said(said))),
+        None => Ok(None),
+    }
 }
 
 /// The act that a word and what is behind it name, unless it is a Join.
@@ -40,10 +57,12 @@ pub fn act_of(alloc: Global, word: &str, text: &str) -> io::Result<Option<Act<Wi
     ensures { IfOk result (λ found. IfSome found (λ act. is_join act ≡ false)) }
 {
     match word {
-        "said" => match said_of(alloc, text)? {
-            Some(said) => Ok(Some(Act::Said(said))),
-            None => Ok(None),
-        },
+        "said" => said(alloc, text),
+        "ping" => {
+            let octets = octets_of(alloc, text)?;
+            Ok(Some(Act::Ping(Octets::from_vec(octets))))
+        }
+        "spoilt" => Ok(Some(Act::Spoilt)),
         "gone" => Ok(Some(Act::Gone)),
         _ => Ok(None),
     }
