@@ -4,8 +4,9 @@ use crate::loopback::Loopback;
 use crate::script::Script;
 use crate::steps::{Cue, Deed, Step};
 use crate::told::{tell, tell_last};
+use case_items::grant_of;
 use case_text::{line_of, number_of, octets_of};
-use serving::{Acceptor, Config, Ids, serve_on};
+use serving::{Acceptor, Config, Ids, copy_grants, serve_on};
 use std::alloc::Global;
 use std::collections::VecDeque;
 use std::io::{self, Read, Write};
@@ -29,6 +30,7 @@ pub struct Case {
     outbox: usize,
     // How many of the last octets of each client are told, where not all are.
     last: Option<u64>,
+    grants: Vec<(String, String)>,
 }
 
 impl Case {
@@ -38,6 +40,7 @@ impl Case {
             came: 0,
             outbox: OUTBOX,
             last: None,
+            grants: Vec::new(alloc),
         }
     }
 
@@ -50,7 +53,7 @@ impl Case {
         }
         Ok(Config {
             realms,
-            grants: Vec::new(alloc),
+            grants: copy_grants(alloc, &self.grants)?,
             outbox: self.outbox,
             ids: Ids::Count,
         })
@@ -67,6 +70,7 @@ impl Case {
                 return line_of(alloc, line);
             }
             "outbox" => self.outbox = number as usize,
+            "grant" => self.grants.push(grant_of(alloc, rest)?)?,
             "last" => self.last = Some(number),
             "client" => self.come(alloc, rest, false)?,
             "standing" => self.come(alloc, rest, true)?,

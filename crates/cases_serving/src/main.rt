@@ -1,7 +1,7 @@
 //! Cases of `serving`, as lines of standard input; what each gives is printed.
 //!
 //! - `# TEXT` begins a case, and is printed as it stands. Its broker has the realms `r.one` and `r.two`, and counts ids. `outbox N`: so many
-//!   items may wait for a session's writer, in place of 256.
+//!   items may wait for a session's writer, in place of 256. `grant AUTHID AUTHROLE`: one more grant.
 //! - What is accepted, in order: `client TEXT`, a stream whose client sends these octets, where `\7f` is an octet; `standing TEXT`, one
 //!   whose sink stands still when it is first written an EVENT, until it is freed or the broker shuts the stream; `clients N`, so many that
 //!   send nothing; `guests N TEXT`, so many that send these octets, each of which comes once the stream of the one before it has ended;

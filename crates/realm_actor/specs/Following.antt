@@ -20,7 +20,7 @@ pub record Follows (h : History) (due : List Item) (o : Box) : Type 0 where
   pub closed : o.is_closed ≡ true → due ≡ []
 
 -- p is o after items were offered to it: it is the same queue, what was added only grows, not at all where o was found full before,
--- and it is found full only with its capacity waiting
+-- and it is found full only where at least its capacity was added
 pub record Goes (o p : Box) : Type 0 where
   pub queue : p.queue ≡ o.queue
   pub capacity : p.capacity ≡ o.capacity

@@ -18,7 +18,7 @@ IsOpen b None = ⊤
 IsOpen b (Some o) = o.is_closed ≡ not b
 
 -- p is o after an entry: the same queue; what was added only grows, not at all where o was found full before; it is found
--- full only with its capacity waiting; and a closed one stays closed
+-- full only where at least its capacity was added; and a closed one stays closed
 pub record Went (o p : Box) : Type 0 where
   pub queue : p.queue ≡ o.queue
   pub capacity : p.capacity ≡ o.capacity

@@ -90,7 +90,8 @@ TakesWhatIsDue w =
     (c n : ℕ) (p : Publication) (with_topic retained : Bool) (before after : List Item)
     → taken_by w c ≡ before ++ Event n p with_topic retained ∷ after → WasDue w.history c n p before (Event n p with_topic retained)
 
--- What each session's writer took is a beginning of what the realm's history owes that session; all that is owed was added, unless the session was cut.
+-- What each session's writer took is a beginning of what the realm's history owes that session; all that is owed was added or waits to be pushed,
+-- unless the session was found full.
 pub record Delivers (w : Course) : Type 0 where
   pub is_history : IsHistory w.history
   pub taken : TakenBeginsOwed w

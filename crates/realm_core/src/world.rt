@@ -89,7 +89,7 @@ impl World {
     }
 
     /// What holds of every world: what each session's writer took is a beginning of what the realm's
-    /// history owes that session, and all that is owed was added, unless the session was found full.
+    /// history owes that session, and all that is owed was added or waits to be pushed, unless the session was found full.
     pub fn shows(&self)
         ensures { Delivers self.now }
     {

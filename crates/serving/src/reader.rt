@@ -148,7 +148,9 @@ fn begin<
     O: Sink + Drop + Send + 'static,
     S: Shut + Send + 'static,
 >(rt: R, session: Session<O, S>, conn: Conn) -> Option<Begun<S>>
-    ensures { IfSome result (λ b. b.joining.outbox.conn ≡ conn) }
+    ensures own { IfSome result (λ b. b.joining.outbox.conn ≡ conn) }
+    ensures authid { IfSome result (λ b. b.joining.authid ≡ session.opened.authid) }
+    ensures frames { IfSome result (λ b. (b.opened.early ≡ session.opened.early) × (b.opened.deframer ≡ session.opened.deframer) × (b.opened.serializer ≡ session.opened.serializer)) }
 {
     let Session {
         alloc,
@@ -185,7 +187,10 @@ fn joining<S: Shut>(
     conn: Conn,
     transport: &S,
 ) -> Option<(Joining<S>, Drain<Item, RealmHistory>)>
-    ensures { IfSome result (λ r. r.0.outbox.conn ≡ conn) }
+    ensures own { IfSome result (λ r. r.0.outbox.conn ≡ conn) }
+    ensures authid { IfSome result (λ r. r.0.authid ≡ authid) }
+    ensures drain { IfSome result (λ r. r.1.conn ≡ conn) }
+    ensures pair { IfSome result (λ r. r.0.outbox.queue ≡ r.1.queue) }
 {
     let (outbox, drain) = pair::<Item, RealmHistory>(alloc, conn.value(), plan.outbox).ok()?;
     let joining = Joining {

@@ -1,4 +1,6 @@
-//! `wampd`: a publish-subscribe broker for WAMP.
+//! `wampd`: a publish-subscribe broker for WAMP. The command line asks for help, a replay or a running broker.
+//!
+//! It stands on `broker_server` and `rawsocket`. Contracts say that help is printed whole, and which exit status a fault has.
 #![tactic(auto)]
 
 ghost use Rattle.std.specs.Prelude.{◌≡◌, ◌≢◌, ◌<◌, ◌≤◌, ◌+◌, ◌++◌, Err, IfErr, OnOk};
@@ -103,6 +105,7 @@ fn print<S: Sink>(output: &mut S, text: &[u8]) -> Result<(), Fault>
     ensures fine { OnOk result (S.failures output.new ≡ S.failures output.old) }
     ensures told { IfErr result (λ fault. fault ≢ Fault.WriteFault → S.failures output.new ≡ S.failures output.old) }
     ensures cause { result ≡ Err Fault.WriteFault → S.failures output.old < S.failures output.new }
+    ensures which { IfErr result (λ fault. fault ≢ Fault.WriteFault → fault ≡ Fault.TooManyTurns) }
     ensures writes { S.calls output.new ≤ S.calls output.old + 4294967296 }
 {
     let mut turns = Turns::new();
