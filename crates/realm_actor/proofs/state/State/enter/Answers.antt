@@ -1,11 +1,29 @@
-use Rattle.std.proofs.Common.{◌≡◌, [], ◌∷◌, sym, ap, ◌∙◌, not, true, arith, append-nil}
-use Rattle.std.proofs.lemmas.Bool.{not_from_true, not_from_false, not-true}
+use Rattle.std.proofs.Common.{◌≡◌, [], ◌∷◌, sym, ap, ◌∙◌, not, true, refl, arith, append-nil}
 use Rattle.std.specs.Prelude.{vec_capacity}
-use Rattle.realm.specs.Sessions.{conn_of, live, may_come}
 use Rattle.realm_actor.proofs.Doing.{as_many}
 use Rattle.realm_actor.proofs.Spoken.{by_outcome, applies_plain, applies_word, loses_by, no_joining, dropped-live, conn_of-entry_of, may_come-entry_of}
 use Rattle.realm_actor.proofs.state.State.enter.Goals as goal
-pub returns-then-not-is_live-clause-outcome : goal.returns-then-not-is_live-clause-outcome
-returns-then-not-is_live-clause-outcome g c =
-    let h = c.args.self.now.table.realm in
-    (refl, dropped-live h c.args.conn c.args.act c.requires.other ∙ ap not (sym c.is_live.ensures ∙ c.if-not-is_live.true))
+
+pub returns-then-not-draws-clause-outcome : goal.returns-then-not-draws-clause-outcome
+returns-then-not-draws-clause-outcome g c =
+    let a = c.args.self.now in
+    let b = c.take_in.new.self in
+    let before = g.W.IdSource.given a.words in
+    let after = g.W.IdSource.given b.words in
+    by_outcome c.take_in.result _ _ _ _
+    (applies_plain c.args.conn c.args.act a.table.realm b.table.realm a.table.rows.items b.table.rows.items before after c.entry_of.result c.requires.other (sym c.if-not-draws.ensures) c.entry_of.ensures)
+    (loses_by c.args.conn a.table.realm b.table.realm a.table.rows.items b.table.rows.items before after [] before (sym (append-nil before)) (omega arith))
+    _ c.take_in.ensures.outcome
+
+pub returns-clause-outcome : goal.returns-clause-outcome
+returns-clause-outcome g c =
+    let a = c.args.self.now in
+    let b = c.take_in-2.new.self in
+    let before = g.W.IdSource.given a.words in
+    let after = g.W.IdSource.given b.words in
+    let start = g.W.IdSource.given c.next_word-word.new.self in
+    let word = c.next_word-word.result in
+    by_outcome c.take_in-2.result _ _ _ _
+    (applies_word c.args.conn c.args.act a.table.realm b.table.realm a.table.rows.items b.table.rows.items before after c.entry_of-2.result c.requires.other word start c.next_word-word.ensures (sym c.if-not-draws.ensures) c.entry_of-2.ensures)
+    (loses_by c.args.conn a.table.realm b.table.realm a.table.rows.items b.table.rows.items before after (word ∷ []) start c.next_word-word.ensures (omega arith))
+    _ c.take_in-2.ensures.outcome
