@@ -1,11 +1,10 @@
 -- A publication put in its place.
-use Rattle.std.proofs.Common.{◌≡◌, ℕ, zero, suc, ◌<◌, ◌≤◌, Bool, true, false, ◌||◌, List, [], ◌∷◌, length, get_or, set, refl, sym, ap, ◌∙◌, subst, arith, add-one, ltb, Ok, Err, is_ok}
+use Rattle.std.proofs.Common.{◌≡◌, ℕ, zero, suc, ◌<◌, ◌≤◌, true, false, ◌||◌, List, [], ◌∷◌, length, get_or, set, refl, sym, ap, ◌∙◌, subst, arith, add-one, ltb, Ok, Err, is_ok}
 use Rattle.std.specs.Prelude.{MatchResult}
 use Rattle.std.specs.declared.result.Result.{Result}
 use Rattle.std.proofs.lemmas.Bool.{le-ltb, lt-ltb, or_left, or_right}
 use Rattle.std.proofs.lemmas.List.Sorted.{searchable_from_sorted}
 use Rattle.std.proofs.lemmas.Map.Text.{is_eq-slice_cmp}
-use Rattle.std.proofs.lemmas.Slice.Eq.{bytes_eq-Decides}
 use Rattle.std.specs.Cmp.Lexicographic.{slice_cmp}
 use Rattle.std.specs.List.{insert}
 use Rattle.std.specs.List.Sorted.{IsSearchInRange, IsBinarySearchResult}
@@ -13,7 +12,7 @@ use Rattle.std.specs.Ordering.{nat_cmp, is_eq, is_lt, ordering_reverse}
 use Rattle.std.proofs.lemmas.Cmp.{nat_list_cmp_total}
 use Rattle.std.specs.Str.{bytes_eq}
 use Rattle.std.proofs.Math.Bool.{or-false}
-use Rattle.wamp_ids.proofs.Same.{bytes_eq-refl}
+use Rattle.wamp_ids.proofs.Same.{bytes_eq-true, bytes_eq-refl}
 use Rattle.session.specs.declared.item.Publication.{Publication}
 use Rattle.retained.specs.Retained.{without_topic, is_before, put_by_topic, has_topic, has_room, set_topic, IsBeforeAll, AreByTopic}
 use Rattle.retained.specs.Places.{FirstAreBefore, IsAt, GoesAt}
@@ -54,11 +53,7 @@ set-at ps i p all at = set-place ps i p all at.within at.is
 has-place : (ps : List Publication) (i : ℕ) (t : List ℕ) → i < length ps → ((d : Publication) → (get_or ps i d).topic ≡ t) → has_topic t ps ≡ true
 has-place [] i t small is = absurd (omega arith)
 has-place (x ∷ xs) zero t small is = rw (is x) (rw (bytes_eq-refl t))
-has-place (x ∷ xs) (suc i) t small is = either (bytes_eq x.topic t) (has_topic t xs) (has-place xs i t (omega arith) is)
-  where
-    either : (a b : Bool) → b ≡ true → a || b ≡ true
-    either true b e = refl
-    either false b e = e
+has-place (x ∷ xs) (suc i) t small is = or_right (bytes_eq x.topic t) (has_topic t xs) (has-place xs i t (omega arith) is)
 
 pub has-at : (ps : List Publication) (i : ℕ) (t : List ℕ) → IsAt ps i t → has_topic t ps ≡ true
 has-at ps i t at = has-place ps i t at.within at.is
@@ -104,7 +99,7 @@ pub found-place : (ps : List Publication) (t : List ℕ) (r : Result ℕ ℕ) �
     → MatchResult r (λ i. IsAt ps i t) (λ i. GoesAt ps i t)
 found-place ps t (Ok i) all range equal = record {
   within = range;
-  is = λ d. (bytes_eq-Decides (get_or ps i d).topic t).0 (sym (is_eq-slice_cmp (get_or ps i d).topic t) ∙ ap is_eq (equal d));
+  is = λ d. bytes_eq-true (get_or ps i d).topic t (sym (is_eq-slice_cmp (get_or ps i d).topic t) ∙ ap is_eq (equal d));
 }
 found-place ps t (Err i) all range parted =
     let sides = parted (searchable_from_sorted nat_list_cmp_total (λ p. p.topic) ps t (λ k d low small. rw add-one (in-order ps k d all (omega arith)))) in

@@ -4,7 +4,6 @@ use Rattle.std.proofs.Math.Bool.{or_assoc, or_comm}
 use Rattle.std.proofs.lemmas.Bool.{true≢false, or_parts}
 use Rattle.std.proofs.lemmas.Cmp.{nat_list_cmp_total}
 use Rattle.std.proofs.lemmas.Map.Text.{is_eq-slice_cmp}
-use Rattle.std.proofs.lemmas.Slice.Eq.{bytes_eq-Decides}
 use Rattle.std.specs.Prelude.{⊤, nat_lt}
 use Rattle.std.specs.List.{filter}
 use Rattle.std.specs.Ordering.{nat_cmp, is_lt, is_eq, ordering_reverse}
@@ -12,6 +11,7 @@ use Rattle.std.specs.declared.cmp.Ordering.{Ordering}
 use Rattle.std.specs.declared.cmp.Ordering.TheVariants.{Less, Equal, Greater}
 use Rattle.std.specs.Cmp.Lexicographic.{slice_cmp}
 use Rattle.std.specs.Str.{bytes_eq}
+use Rattle.wamp_ids.proofs.Same.{bytes_eq-true}
 use Rattle.session.specs.declared.item.Publication.{Publication}
 use Rattle.retained.specs.Retained.{of_topic, without_topic, last_of_each, is_before, put_by_topic, by_topic, retained_of, has_topic, may_be_retained, has_room, set_topic, IsBeforeAll, AreByTopic}
 
@@ -103,10 +103,7 @@ put-front p (q ∷ qs) all = rw all.0
 -- ---- a filter of what is in order
 
 filter-put : (f : Publication → Bool) (p : Publication) (qs : List Publication) → AreByTopic qs → filter f (put_by_topic p qs) ≡ cond (f p) (put_by_topic p (filter f qs)) (filter f qs)
-filter-put f p [] all = by (f p)
-  where
-    by : (b : Bool) → cond b (p ∷ []) [] ≡ cond b (p ∷ []) []
-    by b = refl
+filter-put f p [] all = refl
 filter-put f p (q ∷ qs) all = elim (is_before p.topic q.topic) as (λ b. is_before p.topic q.topic ≡ b → filter f (cond b (p ∷ q ∷ qs) (q ∷ put_by_topic p qs)) ≡ cond (f p) (put_by_topic p (filter f (q ∷ qs))) (filter f (q ∷ qs))) [
   | true ↦ λ e.
       let front = put-front p (filter f (q ∷ qs)) (IsBeforeAll-filter f p.topic (q ∷ qs) (e, IsBeforeAll-more p.topic q.topic qs e all.0)) in
@@ -187,7 +184,7 @@ has-without_other : (s t : List ℕ) (ps : List Publication) → bytes_eq s t �
 has-without_other s t [] e = refl
 has-without_other s t (p ∷ ps) e = elim (bytes_eq p.topic s) as (λ b. bytes_eq p.topic s ≡ b → has_topic t (cond (not b) (p ∷ without_topic s ps) (without_topic s ps)) ≡ bytes_eq p.topic t || has_topic t ps) [
   | true ↦ λ is.
-      let same : p.topic ≡ s = (bytes_eq-Decides p.topic s).0 is in
+      let same : p.topic ≡ s = bytes_eq-true p.topic s is in
       let other : bytes_eq p.topic t ≡ false = ap (λ q. bytes_eq q t) same ∙ e in
       rw other (has-without_other s t ps e)
   | false ↦ λ is. ap (λ b. bytes_eq p.topic t || b) (has-without_other s t ps e)
@@ -232,7 +229,7 @@ of-without_other : (s t : List ℕ) (ps : List Publication) → bytes_eq s t ≡
 of-without_other s t [] e = refl
 of-without_other s t (p ∷ ps) e = elim (bytes_eq p.topic s) as (λ b. bytes_eq p.topic s ≡ b → of_topic t (cond (not b) (p ∷ without_topic s ps) (without_topic s ps)) ≡ cond (bytes_eq p.topic t) (p ∷ of_topic t ps) (of_topic t ps)) [
   | true ↦ λ is.
-      let same : p.topic ≡ s = (bytes_eq-Decides p.topic s).0 is in
+      let same : p.topic ≡ s = bytes_eq-true p.topic s is in
       let other : bytes_eq p.topic t ≡ false = ap (λ q. bytes_eq q t) same ∙ e in
       rw other (of-without_other s t ps e)
   | false ↦ λ is. ap (λ r. cond (bytes_eq p.topic t) (p ∷ r) r) (of-without_other s t ps e)
@@ -242,7 +239,7 @@ of-last : (t : List ℕ) (kept : List Publication) → of_topic t (last_of_each 
 of-last t [] = refl
 of-last t (p ∷ older) = elim (bytes_eq p.topic t) as (λ b. bytes_eq p.topic t ≡ b → cond b (p ∷ of_topic t (without_topic p.topic (last_of_each older))) (of_topic t (without_topic p.topic (last_of_each older))) ≡ take 1 (cond b (p ∷ of_topic t older) (of_topic t older))) [
   | true ↦ λ e.
-      let same : p.topic ≡ t = (bytes_eq-Decides p.topic t).0 e in
+      let same : p.topic ≡ t = bytes_eq-true p.topic t e in
       ap (λ r. p ∷ r) (ap (λ s. of_topic t (without_topic s (last_of_each older))) same ∙ of-without t (last_of_each older))
   | false ↦ λ e. of-without_other p.topic t (last_of_each older) e ∙ of-last t older
 ] refl
