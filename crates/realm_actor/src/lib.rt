@@ -15,9 +15,9 @@
 #![tactic(auto)]
 
 mod actor;
+mod acts;
 mod closing;
 mod cutting;
-mod entering;
 mod handling;
 pub mod laws;
 mod naming;
