@@ -1,9 +1,9 @@
 -- Each EVENT is of a publication that admits its session.
-use Rattle.std.proofs.Common.{◌≡◌, ◌≢◌, ℕ, ℤ, Bool, true, false, cond, not, ◌&&◌, eqb, List, [], ◌∷◌, ◌++◌, map, refl, sym, ap, ◌∙◌, None, Some, Ok, Err}
+use Rattle.std.proofs.Common.{◌≡◌, ◌≢◌, ℕ, ℤ, Bool, true, false, cond, ◌&&◌, eqb, List, [], ◌∷◌, ◌++◌, map, refl, sym, ap, ◌∙◌, None, Some, Ok, Err}
 use Rattle.std.specs.declared.option.Option.{Option}
 use Rattle.std.specs.declared.result.Result.{Result}
 use Rattle.std.specs.List.{filter}
-use Rattle.std.proofs.lemmas.Bool.{and_parts}
+use Rattle.std.proofs.lemmas.Bool.{and_parts, not-true}
 use Rattle.wamp_ids.specs.Pattern.{PatternText, matches}
 use Rattle.eligibility.specs.declared.who.Who.{Who}
 use Rattle.eligibility.specs.Audience.{has_number, is_free_of, allows, admits as eligible}
@@ -138,12 +138,8 @@ passes p w is =
 pub excluded : ExcludedIsNotReached
 excluded h e c w is =
     each-weaker (λ p. admits_who p (who h c) ≡ true) (λ p. (numbers : List ℤ) → p.lists.exclude ≡ Some numbers → has_number w.id numbers ≡ false) (yield h e c)
-    (λ p admits numbers given. named (has_number w.id numbers) ((rw given at (passes p w (ap (admits_who p) (sym is) ∙ admits)).free)))
+    (λ p admits numbers given. not-true (has_number w.id numbers) ((rw given at (passes p w (ap (admits_who p) (sym is) ∙ admits)).free)))
     (admitted h e c)
-  where
-    named : (b : Bool) → not b ≡ true → b ≡ false
-    named true n = absurd (cc)
-    named false n = refl
 
 pub empty : EmptyEligibleReachesNobody
 empty h e c =

@@ -5,6 +5,7 @@ use Rattle.std.specs.declared.result.Result.{Result}
 use Rattle.std.specs.List.{list_all}
 use Rattle.std.specs.Result.{result_ok}
 use Rattle.std.proofs.lemmas.Bool.{eqb-true}
+use Rattle.std.proofs.Math.Bool.{and-true, and-false}
 use Rattle.wamp_ids.specs.Numbers.{seat_of, id_of_word}
 use Rattle.subscription_index.proofs.Members.{has_row-left}
 use Rattle.subscription_index.proofs.Indexes.{left_over}
@@ -47,16 +48,8 @@ agrees-ended h e c s agrees come grants ending = record {
 }
   where
     swap : (a b x y : Bool) → a ≡ b → not a && (x && y) ≡ (x && not b) && y
-    swap true true x y same = at x
-      where
-        at : (z : Bool) → false ≡ (z && false) && y
-        at true = refl
-        at false = refl
-    swap false false x y same = at x
-      where
-        at : (z : Bool) → z && y ≡ (z && true) && y
-        at true = refl
-        at false = refl
+    swap true true x y same = ap (λ b. b && y) (sym (and-false x))
+    swap false false x y same = ap (λ b. b && y) (sym (and-true x))
     swap true false x y same = absurd (cc)
     swap false true x y same = absurd (cc)
 

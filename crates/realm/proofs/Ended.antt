@@ -1,24 +1,21 @@
 -- A connection whose session has ended stays without one.
-use Rattle.std.proofs.Common.{◌≡◌, ℕ, Bool, true, false, cond, not, ◌&&◌, ◌||◌, eqb, ltb, List, [], ◌∷◌, refl, sym, ap, ◌∙◌, None, Some, arith}
+use Rattle.std.proofs.Common.{◌≡◌, ℕ, Bool, true, false, not, ◌&&◌, ◌||◌, eqb, ltb, List, [], ◌∷◌, refl, sym, ap, ◌∙◌, None, Some, arith}
 use Rattle.std.specs.declared.option.Option.{Option}
-use Rattle.std.specs.List.{list_any, list_all}
-use Rattle.std.proofs.lemmas.Bool.{eqb-true, eq-eqb, or_right}
+use Rattle.std.specs.List.{list_all}
+use Rattle.std.proofs.lemmas.Bool.{eqb-true, eq-eqb, ne_eqb, and_parts, and_right, or_right}
 use Rattle.std.proofs.lemmas.Bool.Decides.{nat_tests}
 use Rattle.wamp_ids.specs.Numbers.{seat_of}
 use Rattle.wamp_ids.specs.Pattern.{PatternText}
 use Rattle.realm.specs.declared.entry.Entry.{Entry}
 use Rattle.realm.specs.declared.entry.Entry.TheVariants.{Join, Said, Ping, Spoilt, Gone, Cut, Closed}
 use Rattle.session.specs.declared.said.Said.TheVariants.{Subscribe}
-use Rattle.eligibility.specs.declared.who.Who.{Who}
 use Rattle.session.specs.declared.item.Publication.{Publication}
 use Rattle.realm.specs.History.{History, ◌▷◌, Begins, same, longer}
 use Rattle.realm.specs.Sessions.{who, live, ends, joined, conn_of, may_join, may_come, IsHistory, is_last_word}
 use Rattle.realm.specs.Subscriptions.{held}
-use Rattle.realm.proofs.Joined.{live-joined}
+use Rattle.realm.proofs.Choices.{clash, cond-same}
+use Rattle.realm.proofs.Joined.{has, live-joined}
 use Rattle.realm.specs.Yield.{yield, events, publication_of, sent_events}
-
-abbrev pub has : List ℕ → ℕ → Bool
-has xs c = list_any (λ x. eqb x c) xs
 
 -- c has joined, and is not live
 pub record IsOver (h : History) (c : ℕ) : Type 0 where
@@ -33,13 +30,6 @@ pub no_more : (xs : List ℕ) (c : ℕ) → has xs c ≡ true → list_all (λ d
 no_more [] c here = absurd (cc)
 no_more (x ∷ xs) c here = at (eqb x c) refl here (no_more xs c)
   where
-    first : (b : Bool) → b && list_all (λ d. not (eqb (seat_of d) (seat_of c)) || ltb d c) xs ≡ false → b && list_all (λ d. not (eqb (seat_of d) (seat_of c)) || ltb d c) xs ≡ false
-    first b e = e
-
-    later : (b : Bool) → list_all (λ d. not (eqb (seat_of d) (seat_of c)) || ltb d c) xs ≡ false → b && list_all (λ d. not (eqb (seat_of d) (seat_of c)) || ltb d c) xs ≡ false
-    later true e = e
-    later false e = refl
-
     at : (b : Bool) → eqb x c ≡ b → b || has xs c ≡ true → (has xs c ≡ true → list_all (λ d. not (eqb (seat_of d) (seat_of c)) || ltb d c) xs ≡ false)
         → (not (eqb (seat_of x) (seat_of c)) || ltb x c) && list_all (λ d. not (eqb (seat_of d) (seat_of c)) || ltb d c) xs ≡ false
     at true is some rest =
@@ -47,22 +37,14 @@ no_more (x ∷ xs) c here = at (eqb x c) refl here (no_more xs c)
         let seat : eqb (seat_of x) (seat_of c) ≡ true = eq-eqb (seat_of x) (seat_of c) (ap seat_of same_conn) in
         let small : ltb x c ≡ false = grind (arith, nat_tests) in
         rw (seat, small)
-    at false is some rest = later (not (eqb (seat_of x) (seat_of c)) || ltb x c) (rest some)
+    at false is some rest = and_right (not (eqb (seat_of x) (seat_of c)) || ltb x c) (list_all (λ d. not (eqb (seat_of d) (seat_of c)) || ltb d c) xs) (rest some)
 
 other : (h : History) (d c : ℕ) → IsOver h c → live h d ≡ true → eqb d c ≡ false
-other h d c over is_live = at (eqb d c) refl
-  where
-    at : (b : Bool) → eqb d c ≡ b → b ≡ false
-    at true is = let same_conn : d ≡ c = eqb-true d c is in let gone : live h d ≡ false = rw same_conn (ended-live h c over.ended) in absurd (cc)
-    at false is = refl
+other h d c over is_live = ne_eqb d c (λ same_conn. clash (live h d) is_live (ap (live h) same_conn ∙ ended-live h c over.ended))
 
 -- an entry of another connection leaves it so, and one of its own can't come
 over-entry : (h : History) (c : ℕ) (f : Entry) → IsOver h c → may_come h f ≡ true → eqb (conn_of f) c ≡ false
-over-entry h c (Join d word authid) over come = at (eqb d c) refl
-  where
-    at : (b : Bool) → eqb d c ≡ b → b ≡ false
-    at true is = let same_conn : d ≡ c = eqb-true d c is in let never : may_join h d ≡ false = rw same_conn (no_more (joined h) c over.joined) in absurd (cc)
-    at false is = refl
+over-entry h c (Join d word authid) over come = ne_eqb d c (λ same_conn. clash (may_join h d) come (ap (may_join h) same_conn ∙ no_more (joined h) c over.joined))
 over-entry h c (Said d word said) over come = other h d c over come
 over-entry h c (Ping d payload) over come = other h d c over come
 over-entry h c (Spoilt d word) over come = other h d c over come
@@ -70,24 +52,16 @@ over-entry h c (Gone d word) over come = other h d c over come
 over-entry h c (Cut d word) over come = other h d c over come
 over-entry h c (Closed d word) over come = other h d c over come
 
-none_if : (b : Bool) → cond {A = Option Who} b None None ≡ None
-none_if true = refl
-none_if false = refl
-
 over-next : (k : History) (c : ℕ) (f : Entry) → IsOver k c → may_come k f ≡ true → IsOver (k ▷ f) c
 unfolding who
 over-next k c (Join d word authid) over come =
     let elsewhere : eqb d c ≡ false = over-entry k c (Join d word authid) over come in
     record { joined = or_right (eqb d c) (has (joined k) c) over.joined; ended = rw elsewhere over.ended }
-over-next k c f over come = record { joined = over.joined; ended = rw over.ended (none_if (ends f c)) }
-
-and-first : (a b : Bool) → a && b ≡ true → a ≡ true
-and-first true b e = refl
-and-first false b e = e
+over-next k c f over come = record { joined = over.joined; ended = rw over.ended (cond-same (ends f c) None) }
 
 pub ends-conn : (e : Entry) (c : ℕ) → ends e c ≡ true → eqb (conn_of e) c ≡ true
 ends-conn (Join d word authid) c ending = absurd (cc)
-ends-conn (Said d word said) c ending = and-first (eqb d c) (is_last_word said) ending
+ends-conn (Said d word said) c ending = (and_parts (eqb d c) (is_last_word said) ending).0
 ends-conn (Ping d payload) c ending = absurd (cc)
 ends-conn (Spoilt d word) c ending = ending
 ends-conn (Gone d word) c ending = ending

@@ -1,18 +1,21 @@
 -- What of the posts entered the history, and in which order.
-use Rattle.std.proofs.Common.{◌≡◌, ℕ, Bool, true, false, cond, not, eqb, ◌&&◌, ◌||◌, List, [], ◌∷◌, ◌++◌, refl, sym, ap, subst, ◌∙◌, append-nil, append_assoc, None, is_some}
+use Rattle.std.proofs.Common.{◌≡◌, ℕ, Bool, true, false, cond, not, eqb, ◌&&◌, ◌||◌, List, [], ◌∷◌, ◌++◌, refl, sym, ap, subst, ◌∙◌, append-nil, append_assoc, is_some}
 use Rattle.std.specs.declared.option.Option.{Option}
 use Rattle.std.specs.List.{list_any}
-use Rattle.std.proofs.lemmas.Bool.{eqb-true, and_left}
+use Rattle.std.proofs.lemmas.Bool.{eqb-true, and_right, false_from_ne_true, false≢true}
 use Rattle.std.proofs.lemmas.List.Folds.{list_any-append}
 use Rattle.std.proofs.lemmas.List.Elements.{filter-append}
+use Rattle.std.proofs.Math.Bool.{or-true}
 use Rattle.eligibility.specs.declared.who.Who.{Who}
 use Rattle.realm.specs.declared.entry.Entry.{Entry}
-use Rattle.realm.specs.declared.entry.Entry.TheVariants.{Join, Said, Ping, Spoilt, Gone, Cut, Closed}
+use Rattle.realm.specs.declared.entry.Entry.TheVariants.{Join, Cut, Closed}
 use Rattle.realm.specs.Granting.{Grants}
 use Rattle.realm.specs.History.{History, begun, ◌▷◌}
 use Rattle.realm.specs.Sessions.{conn_of, who, live, ends, may_come}
 use Rattle.realm.specs.Laws.{BeginsList}
 use Rattle.realm.specs.PostedOrder.{is_join, is_cut_or_closed, posts_of, said_by, AreSome, none, left_out, taken_in, joins_first_alone}
+use Rattle.realm.proofs.Choices.{some-before, taken-away}
+use Rattle.realm.proofs.Joined.{live-elsewhere}
 
 -- an entry of c
 abbrev own : ℕ → Entry → List Entry
@@ -30,6 +33,9 @@ pub record Ordered (h : History) (handled : List Entry) : Type 0 where
 
 posts_of-last : (c : ℕ) (es : List Entry) (e : Entry) → posts_of c (es ++ e ∷ []) ≡ posts_of c es ++ own c e
 posts_of-last c es e = filter-append (λ x. eqb (conn_of x) c) es (e ∷ [])
+
+joins-last : (c : ℕ) (es : List Entry) (e : Entry) → joins_first_alone (posts_of c (es ++ e ∷ [])) ≡ true → joins_first_alone (posts_of c es ++ own c e) ≡ true
+joins-last c es e joins = ap joins_first_alone (sym (posts_of-last c es e)) ∙ joins
 
 some-none : (ys : List Entry) → AreSome [] ys
 some-none [] = none
@@ -78,31 +84,16 @@ begins-nil (x ∷ xs) ys b nil = let e : ◌≡◌ {A = List Entry} [] (x ∷ (x
 begins-more : (xs ys zs : List Entry) → BeginsList xs ys → BeginsList xs (ys ++ zs)
 begins-more xs ys zs b = (b.0 ++ zs, ap (λ l. l ++ zs) b.1 ∙ append_assoc xs b.0 zs)
 
--- an entry of another connection leaves c's session
-none_if : (b : Bool) (o : Option Who) → b ≡ false → cond b None o ≡ o
-none_if true o e = absurd (cc)
-none_if false o e = refl
-
-who-elsewhere : (h : History) (e : Entry) (c : ℕ) → eqb (conn_of e) c ≡ false → who (h ▷ e) c ≡ who h c
-unfolding who
-who-elsewhere h (Join d word authid) c elsewhere = rw elsewhere refl
-who-elsewhere h (Said d word said) c elsewhere = none_if (ends (Said d word said) c) (who h c) (and_left (eqb d c) _ elsewhere)
-who-elsewhere h (Ping d payload) c elsewhere = refl
-who-elsewhere h (Spoilt d word) c elsewhere = none_if (eqb d c) (who h c) elsewhere
-who-elsewhere h (Gone d word) c elsewhere = none_if (eqb d c) (who h c) elsewhere
-who-elsewhere h (Closed d word) c elsewhere = none_if (eqb d c) (who h c) elsewhere
-who-elsewhere h (Cut d word) c elsewhere = none_if (eqb d c) (who h c) elsewhere
-
 -- a Cut or a Closed ends its session
-none_since : (b : Bool) (o : Option Who) → b ≡ true → is_some (cond b None o) ≡ false
-none_since true o e = refl
-none_since false o e = absurd (cc)
-
 dead-after : (h : History) (e : Entry) (c : ℕ) → is_cut_or_closed e ≡ true → eqb (conn_of e) c ≡ true → live (h ▷ e) c ≡ false
 unfolding who
-dead-after h (Closed d word) c is here = none_since (eqb d c) (who h c) here
-dead-after h (Cut d word) c is here = none_since (eqb d c) (who h c) here
+dead-after h (Closed d word) c is here = taken-away (eqb d c) (who h c) here
+dead-after h (Cut d word) c is here = taken-away (eqb d c) (who h c) here
 dead-after h e c is here = absurd (cc)
+
+-- a Cut or a Closed is said by nobody
+pub said-kept : (c : ℕ) (h : History) (e : Entry) → is_cut_or_closed e ≡ true → said_by c (h ▷ e) ≡ said_by c h
+said-kept c h e is = ap (λ b. said_by c h ++ cond b (e ∷ []) []) (and_right (eqb (conn_of e) c) (not (is_cut_or_closed e)) (ap not is)) ∙ append-nil (said_by c h)
 
 -- a live session said its Join
 said-joined : (h : History) (c : ℕ) → live h c ≡ true → list_any is_join (said_by c h) ≡ true
@@ -112,18 +103,10 @@ said-joined (h ▷ Join d word authid) c is_live = list_any-append is_join (said
   where
     at : (b : Bool) (o : Option Who) → (live h c ≡ true → list_any is_join (said_by c h) ≡ true) → is_some (cond b o (who h c)) ≡ true
         → list_any is_join (said_by c h) || list_any is_join (cond (b && true) (Join d word authid ∷ []) []) ≡ true
-    at true o before is = ortrue (list_any is_join (said_by c h))
-      where
-        ortrue : (b : Bool) → b || true ≡ true
-        ortrue true = refl
-        ortrue false = refl
+    at true o before is = or-true (list_any is_join (said_by c h))
     at false o before is = ap (λ b. b || false) (before is)
 said-joined (h ▷ e) c is_live =
-    list_any-append is_join (said_by c h) (own_said c e) ∙ ap (λ b. b || list_any is_join (own_said c e)) (said-joined h c (before (ends e c) (who h c) is_live))
-  where
-    before : (b : Bool) (o : Option Who) → is_some (cond b None o) ≡ true → is_some o ≡ true
-    before true o e = absurd (cc)
-    before false o e = e
+    list_any-append is_join (said_by c h) (own_said c e) ∙ ap (λ b. b || list_any is_join (own_said c e)) (said-joined h c (some-before (ends e c) (who h c) is_live))
 
 join-said : (e : Entry) → is_join e ≡ true → is_cut_or_closed e ≡ false
 join-said (Join c word authid) join = refl
@@ -141,13 +124,10 @@ order-begun grants = record { some = λ c. none; begins = λ c joins. ([], refl)
 pub order-accepted : (h : History) (handled : List Entry) (e : Entry) → Ordered h handled → may_come h e ≡ true → Ordered (h ▷ e) (handled ++ e ∷ [])
 order-accepted h handled e before come = record {
   some = λ c. subst (AreSome (said_by c (h ▷ e))) (sym (posts_of-last c handled e)) (some-one (said_by c h) (posts_of c handled) e (eqb (conn_of e) c) (not (is_cut_or_closed e)) (before.some c));
-  begins = λ c joins. subst (BeginsList (said_by c (h ▷ e))) (sym (posts_of-last c handled e)) (begins c (eqb (conn_of e) c) refl (now c joins));
-  all = λ c joins is_live. all c (eqb (conn_of e) c) refl (now c joins) is_live ∙ sym (posts_of-last c handled e);
+  begins = λ c joins. subst (BeginsList (said_by c (h ▷ e))) (sym (posts_of-last c handled e)) (begins c (eqb (conn_of e) c) refl (joins-last c handled e joins));
+  all = λ c joins is_live. all c (eqb (conn_of e) c) refl (joins-last c handled e joins) is_live ∙ sym (posts_of-last c handled e);
 }
   where
-    now : (c : ℕ) → joins_first_alone (posts_of c (handled ++ e ∷ [])) ≡ true → joins_first_alone (posts_of c handled ++ own c e) ≡ true
-    now c joins = ap joins_first_alone (sym (posts_of-last c handled e)) ∙ joins
-
     -- an entry of c: all of its posts entered so far
     same : (c : ℕ) → eqb (conn_of e) c ≡ true → joins_first_alone (posts_of c handled ++ e ∷ []) ≡ true → said_by c h ≡ posts_of c handled
     same c here joins = at (is_join e) refl
@@ -174,7 +154,7 @@ order-accepted h handled e before come = record {
     all : (c : ℕ) (b : Bool) → eqb (conn_of e) c ≡ b → joins_first_alone (posts_of c handled ++ cond b (e ∷ []) []) ≡ true → live (h ▷ e) c ≡ true
         → said_by c h ++ cond (b && not (is_cut_or_closed e)) (e ∷ []) [] ≡ posts_of c handled ++ cond b (e ∷ []) []
     all c false elsewhere joins is_live =
-        ap (λ l. l ++ []) (before.all c (joins-before (posts_of c handled) [] joins) (sym (ap is_some (who-elsewhere h e c elsewhere)) ∙ is_live))
+        ap (λ l. l ++ []) (before.all c (joins-before (posts_of c handled) [] joins) (sym (live-elsewhere h e c elsewhere) ∙ is_live))
     all c true here joins is_live = at (is_cut_or_closed e) refl
       where
         at : (k : Bool) → is_cut_or_closed e ≡ k → said_by c h ++ cond (not k) (e ∷ []) [] ≡ posts_of c handled ++ e ∷ []
@@ -186,13 +166,10 @@ pub order-unused : (h : History) (handled : List Entry) (e : Entry) → Ordered 
     → ((c : ℕ) → eqb (conn_of e) c ≡ true → joins_first_alone (posts_of c handled ++ e ∷ []) ≡ true → live h c ≡ false) → Ordered h (handled ++ e ∷ [])
 order-unused h handled e before dead = record {
   some = λ c. subst (AreSome (said_by c h)) (sym (posts_of-last c handled e)) (some-more (said_by c h) (posts_of c handled) (own c e) (before.some c));
-  begins = λ c joins. subst (BeginsList (said_by c h)) (sym (posts_of-last c handled e)) (begins-more (said_by c h) (posts_of c handled) (own c e) (before.begins c (joins-before (posts_of c handled) (own c e) (now c joins))));
-  all = λ c joins is_live. all c (eqb (conn_of e) c) refl (now c joins) is_live ∙ sym (posts_of-last c handled e);
+  begins = λ c joins. subst (BeginsList (said_by c h)) (sym (posts_of-last c handled e)) (begins-more (said_by c h) (posts_of c handled) (own c e) (before.begins c (joins-before (posts_of c handled) (own c e) (joins-last c handled e joins))));
+  all = λ c joins is_live. all c (eqb (conn_of e) c) refl (joins-last c handled e joins) is_live ∙ sym (posts_of-last c handled e);
 }
   where
-    now : (c : ℕ) → joins_first_alone (posts_of c (handled ++ e ∷ [])) ≡ true → joins_first_alone (posts_of c handled ++ own c e) ≡ true
-    now c joins = ap joins_first_alone (sym (posts_of-last c handled e)) ∙ joins
-
     all : (c : ℕ) (b : Bool) → eqb (conn_of e) c ≡ b → joins_first_alone (posts_of c handled ++ cond b (e ∷ []) []) ≡ true → live h c ≡ true → said_by c h ≡ posts_of c handled ++ cond b (e ∷ []) []
     all c false elsewhere joins is_live = before.all c (joins-before (posts_of c handled) [] joins) is_live ∙ sym (append-nil (posts_of c handled))
     all c true here joins is_live = let gone : live h c ≡ false = dead c here joins in absurd (cc)
@@ -201,14 +178,10 @@ pub order-dropped : (h : History) (handled : List Entry) (e : Entry) → Ordered
 order-dropped h handled e before refused = order-unused h handled e before (λ c here joins. at c here joins (is_join e) refl)
   where
     at : (c : ℕ) → eqb (conn_of e) c ≡ true → joins_first_alone (posts_of c handled ++ e ∷ []) ≡ true → (b : Bool) → is_join e ≡ b → live h c ≡ false
-    at c here joins true join = of (live h c) refl
+    at c here joins true join = false_from_ne_true (live h c) (λ is. false≢true (ap (list_any is_join) (sym silent) ∙ said-joined h c is))
       where
         silent : said_by c h ≡ []
         silent = begins-nil (said_by c h) (posts_of c handled) (before.begins c (joins-before (posts_of c handled) (e ∷ []) joins)) (first-join (posts_of c handled) e join joins)
-
-        of : (b : Bool) → live h c ≡ b → b ≡ false
-        of true is = let said : list_any is_join [] ≡ true = ap (list_any is_join) (sym silent) ∙ said-joined h c is in absurd (cc)
-        of false is = refl
     at c here joins false other =
         let conn : conn_of e ≡ c = eqb-true (conn_of e) c here in
         ap (live h) (sym conn) ∙ sym (come-live h e other) ∙ refused
@@ -224,15 +197,11 @@ order-cut h handled c word before = record {
 }
   where
     same : (d : ℕ) → said_by d (h ▷ Cut c word) ≡ said_by d h
-    same d = at (eqb c d)
-      where
-        at : (b : Bool) → said_by d h ++ cond (b && false) (Cut c word ∷ []) [] ≡ said_by d h
-        at true = append-nil (said_by d h)
-        at false = append-nil (said_by d h)
+    same d = said-kept d h (Cut c word) refl
 
     still : (d : ℕ) (b : Bool) → eqb c d ≡ b → live (h ▷ Cut c word) d ≡ true → live h d ≡ true
     still d true here is_live = let dead : live (h ▷ Cut c word) d ≡ false = dead-after h (Cut c word) d refl here in absurd (cc)
-    still d false elsewhere is_live = sym (ap is_some (who-elsewhere h (Cut c word) d elsewhere)) ∙ is_live
+    still d false elsewhere is_live = sym (live-elsewhere h (Cut c word) d elsewhere) ∙ is_live
 
 -- the entry is lost, and its session is cut
 pub order-lost-cut : (h : History) (handled : List Entry) (e : Entry) (word : Option ℕ) → Ordered h handled → Ordered (h ▷ Cut (conn_of e) word) (handled ++ e ∷ [])

@@ -24,10 +24,7 @@ use Rattle.realm.specs.Subscriptions.{holds, opened, held, number, number_among,
 use Rattle.realm.specs.Publications.{Made, published, retained}
 use Rattle.realm.specs.Yield.{yield, owed, reply, events, retained_events_of, publication_of, sent_events, asked_events, welcome, publish_reply, subscribe_reply, unsubscribe_reply, names_topic, admits_who}
 use Rattle.realm.specs.Laws.{is_subscribed, at_once, further, IsSubscribed, EventsWhileSubscribed}
-use Rattle.realm.proofs.Joined.{live-joined}
-
-abbrev has : List ℕ → ℕ → Bool
-has xs c = list_any (λ x. eqb x c) xs
+use Rattle.realm.proofs.Joined.{has, live-joined}
 
 -- who holds something has joined
 pub holder-joined : (h : History) (c : ℕ) (p : PatternText) → IsHistory h → holds h c p ≡ true → has (joined h) c ≡ true

@@ -9,14 +9,11 @@ use Rattle.realm.specs.Sessions.{conn_of}
 use Rattle.realm.specs.Yield.{yield, reply, events}
 use Rattle.realm.specs.Given.{items_for, StartsAbove, IsAscending, GivesEach, GivesExactly}
 use Rattle.realm.specs.Gifts.{all_for, put_before}
+use Rattle.realm.proofs.Choices.{cond-same}
 
 -- items for one connection
 pub items_for-all : (c d : ℕ) (items : List Item) → items_for d (all_for c items) ≡ cond (eqb c d) items []
-items_for-all c d [] = at (eqb c d)
-  where
-    at : (b : Bool) → ◌≡◌ {A = List Item} [] (cond b [] [])
-    at true = refl
-    at false = refl
+items_for-all c d [] = sym (cond-same (eqb c d) [])
 items_for-all c d (i ∷ items) = at (eqb c d) (items_for-all c d items)
   where
     at : (b : Bool) → items_for d (all_for c items) ≡ cond b items [] → cond b (i ∷ items_for d (all_for c items)) (items_for d (all_for c items)) ≡ cond b (i ∷ items) []
@@ -44,11 +41,7 @@ gives-own h e given own is no_others = record {
 -- an entry whose own connection gets its reply, and nobody anything else
 pub gives-reply : (h : History) (e : Entry) (given : List (ℕ × Item)) → given ≡ all_for (conn_of e) (reply h e) → ((c : ℕ) → events h e c ≡ []) → GivesExactly h e given
 gives-reply h e given is no_events =
-    gives-own h e given [] (is ∙ ap (all_for (conn_of e)) (sym (append-nil (reply h e)))) (λ c. no_events c ∙ at (eqb (conn_of e) c))
-  where
-    at : (b : Bool) → ◌≡◌ {A = List Item} [] (cond b [] [])
-    at true = refl
-    at false = refl
+    gives-own h e given [] (is ∙ ap (all_for (conn_of e)) (sym (append-nil (reply h e)))) (λ c. no_events c ∙ sym (cond-same {A = List Item} (eqb (conn_of e) c) []))
 
 -- one item before those of a connection
 items_for-put : (c d : ℕ) (i : Item) (xs : List (ℕ × Item)) → items_for d (put_before c i xs) ≡ cond (eqb c d) (i ∷ []) [] ++ items_for d xs

@@ -1,5 +1,5 @@
 -- The EVENTs of a publication, subscription by subscription.
-use Rattle.std.proofs.Common.{◌≡◌, ℕ, ◌≤◌, Bool, true, false, cond, ◌||◌, ◌&&◌, eqb, ltb, List, [], ◌∷◌, ◌++◌, map, refl, ap, ◌∙◌, None, Some, arith}
+use Rattle.std.proofs.Common.{◌≡◌, ℕ, ◌≤◌, Bool, true, false, cond, ◌||◌, ◌&&◌, eqb, ltb, List, [], ◌∷◌, ◌++◌, map, refl, sym, ap, ◌∙◌, None, Some, arith}
 use Rattle.std.specs.declared.option.Option.{Option}
 use Rattle.std.specs.List.{filter}
 use Rattle.std.proofs.lemmas.Bool.{eqb-true, or_right}
@@ -17,9 +17,10 @@ use Rattle.realm.specs.Yield.{events_of, names_topic, admits_who}
 use Rattle.realm.specs.Live.{session_of}
 use Rattle.realm.specs.Given.{items_for, StartsAbove, IsAscending, GivesEach}
 use Rattle.realm.specs.Gifts.{all_for, event_by, event_at, events_at, all_events}
+use Rattle.realm.proofs.Choices.{cond-same}
 use Rattle.realm.proofs.ForEach.{items_for-all}
 
-items_for-append : (c : ℕ) (xs ys : List (ℕ × Item)) → items_for c (xs ++ ys) ≡ items_for c xs ++ items_for c ys
+pub items_for-append : (c : ℕ) (xs ys : List (ℕ × Item)) → items_for c (xs ++ ys) ≡ items_for c xs ++ items_for c ys
 items_for-append c [] ys = refl
 items_for-append c (x ∷ xs) ys = at (eqb x.0 c) (items_for-append c xs ys)
   where
@@ -53,11 +54,7 @@ module _ (ws : List Who) (rows : List Row) (p : Publication) where
   event s = Event s.0 p (names_topic s.1.policy) false
 
   each-for : (rs : List Row) (c : ℕ) → AllFound rows rs → items_for c (events_at ws rows p (keys (filter m rs))) ≡ events_of p (session_of ws c) (rows_of c rs)
-  each-for [] c found = at (admits_who p (session_of ws c))
-    where
-      at : (b : Bool) → ◌≡◌ {A = List Item} [] (cond b [] [])
-      at true = refl
-      at false = refl
+  each-for [] c found = sym (cond-same (admits_who p (session_of ws c)) [])
   each-for (r ∷ rs) c found = at (each-for rs c found.1) (m r) refl (eqb r.0.0 c) refl
     where
       one : event_at ws rows p r.0 ≡ cond (admits_who p (session_of ws r.0.0)) (event (r.0.1, r.1) ∷ []) []

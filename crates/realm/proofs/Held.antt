@@ -1,8 +1,9 @@
 -- What is held, with its numbers, as a list in order.
 use Rattle.std.proofs.Common.{◌≡◌, ℕ, ◌+◌, ◌≤◌, ◌<◌, Bool, true, false, cond, ◌&&◌, ◌||◌, eqb, List, [], ◌∷◌, ◌++◌, length, refl, sym, ap, ◌∙◌, arith}
 use Rattle.std.specs.List.{filter}
-use Rattle.std.proofs.lemmas.Bool.{eqb-true, eq-eqb, and_parts}
+use Rattle.std.proofs.lemmas.Bool.{eqb-true, eq-eqb, and_parts, or_left}
 use Rattle.std.proofs.lemmas.List.Folds.{list_any-append}
+use Rattle.std.proofs.Math.Bool.{and-false, or-true}
 use Rattle.wamp_ids.proofs.Same.{same_pattern-refl, same_pattern-true}
 use Rattle.wamp_ids.specs.Pattern.{PatternText, same_pattern}
 use Rattle.subscription_index.specs.Held.{Row, IsStrictlyAscending, keys}
@@ -65,11 +66,7 @@ same_named-true a b is =
 
 module _ (f : ℕ × PatternText → Bool) (s : ℕ × PatternText) where
   pub has_named-filter : (xs : List (ℕ × PatternText)) → has_named (filter f xs) s ≡ f s && has_named xs s
-  has_named-filter [] = at (f s)
-    where
-      at : (b : Bool) → false ≡ b && false
-      at true = refl
-      at false = refl
+  has_named-filter [] = sym (and-false (f s))
   has_named-filter (x ∷ xs) = at (f x) refl (same_named x s) refl (f s) refl (has_named-filter xs)
     where
       at : (kept : Bool) → f x ≡ kept → (here : Bool) → same_named x s ≡ here → (asked : Bool) → f s ≡ asked → has_named (filter f xs) s ≡ asked && has_named xs s
@@ -89,24 +86,16 @@ has_named-numbered : (os : List PatternText) (p : PatternText) → 1 ≤ number_
 has_named-numbered [] p some = absurd (omega arith)
 has_named-numbered (q ∷ older) p some = at (same_pattern q p) refl some (has_named-numbered older p)
   where
-    or_last : (a : Bool) → a || (true || false) ≡ true
-    or_last true = refl
-    or_last false = refl
-
-    or_first : (a b : Bool) → a ≡ true → a || b ≡ true
-    or_first true b e = refl
-    or_first false b e = absurd (cc)
-
     at : (b : Bool) → same_pattern q p ≡ b → 1 ≤ cond b (length older + 1) (number_among older p)
         → (1 ≤ number_among older p → has_named (numbered older) (number_among older p, p) ≡ true)
         → has_named (numbered older ++ (length older + 1, q) ∷ []) (cond b (length older + 1) (number_among older p), p) ≡ true
     at true is some_here rest =
         let e : q ≡ p = same_pattern-true q p is in
         rw (← e) (list_any-append (λ x. same_named x (length older + 1, q)) (numbered older) ((length older + 1, q) ∷ [])
-        ∙ rw (one-itself (length older + 1) q) (or_last (has_named (numbered older) (length older + 1, q))))
+        ∙ rw (one-itself (length older + 1) q) (or-true (has_named (numbered older) (length older + 1, q))))
     at false is some_here rest =
         list_any-append (λ x. same_named x (number_among older p, p)) (numbered older) ((length older + 1, q) ∷ [])
-        ∙ or_first (has_named (numbered older) (number_among older p, p)) (has_named ((length older + 1, q) ∷ []) (number_among older p, p)) (rest some_here)
+        ∙ or_left (has_named (numbered older) (number_among older p, p)) (has_named ((length older + 1, q) ∷ []) (number_among older p, p)) (rest some_here)
 
 -- the rows of c are what it holds
 pub rows-held : (rows : List Row) (os : List PatternText) (holds : PatternText → Bool) (c : ℕ) → IsStrictlyAscending (keys rows)

@@ -1,5 +1,5 @@
 -- Who is live, and who has joined.
-use Rattle.std.proofs.Common.{◌≡◌, ℕ, Bool, true, false, cond, ◌||◌, eqb, List, refl, None, Some, is_some}
+use Rattle.std.proofs.Common.{◌≡◌, ℕ, Bool, true, false, cond, ◌||◌, eqb, List, refl, ap, None, Some, is_some}
 use Rattle.std.specs.declared.option.Option.{Option}
 use Rattle.std.specs.Option.{MatchOption}
 use Rattle.std.specs.Prelude.{⊤}
@@ -7,10 +7,15 @@ use Rattle.std.specs.Result.{result_ok}
 use Rattle.std.specs.List.{list_any}
 use Rattle.std.proofs.lemmas.Bool.{eqb-true}
 use Rattle.wamp_ids.specs.Numbers.{id_of_word}
-use Rattle.realm.specs.declared.entry.Entry.TheVariants.{Join}
+use Rattle.realm.specs.declared.entry.Entry.{Entry}
+use Rattle.realm.specs.declared.entry.Entry.TheVariants.{Join, Said, Ping}
 use Rattle.eligibility.specs.declared.who.Who.{Who}
 use Rattle.realm.specs.History.{History, begun, ◌▷◌, grants_of}
-use Rattle.realm.specs.Sessions.{who, live, ends, joined, has_id, admission_by, name_for, role_for}
+use Rattle.realm.specs.Sessions.{conn_of, who, live, ends, joined, has_id, admission_by, name_for, role_for}
+use Rattle.realm.proofs.Choices.{some-before}
+
+abbrev pub has : List ℕ → ℕ → Bool
+has xs c = list_any (λ x. eqb x c) xs
 
 -- the session of c is one of c
 IsOf-admission : (taken : Bool) (c word : ℕ) (name : List ℕ) (role : Option (List ℕ)) → MatchOption (result_ok (admission_by taken c word name role)) ⊤ (λ w. w.conn ≡ c)
@@ -47,11 +52,22 @@ Live-from_live h c is_live = at (who h c) refl (who-conn h c) is_live
     at None is own some = absurd (cc)
     at (Some w) is own some = record { session = w; is = is; conn = own }
 
--- who is live has joined
-is_some-ended : (b : Bool) (o : Option Who) → is_some (cond b None o) ≡ true → is_some o ≡ true
-is_some-ended true o e = absurd (cc)
-is_some-ended false o e = e
+-- an entry of another connection leaves c's session
+not-ending : (e : Entry) (c : ℕ) → eqb (conn_of e) c ≡ false → ends e c ≡ false
+not-ending (Join d word authid) c elsewhere = refl
+not-ending (Said d word said) c elsewhere = rw elsewhere refl
+not-ending (Ping d payload) c elsewhere = refl
+not-ending e c elsewhere = elsewhere
 
+who-elsewhere : (h : History) (e : Entry) (c : ℕ) → eqb (conn_of e) c ≡ false → who (h ▷ e) c ≡ who h c
+unfolding who
+who-elsewhere h (Join d word authid) c elsewhere = rw elsewhere refl
+who-elsewhere h e c elsewhere = ap (λ b. cond b None (who h c)) (not-ending e c elsewhere)
+
+pub live-elsewhere : (h : History) (e : Entry) (c : ℕ) → eqb (conn_of e) c ≡ false → live (h ▷ e) c ≡ live h c
+live-elsewhere h e c elsewhere = ap is_some (who-elsewhere h e c elsewhere)
+
+-- who is live has joined
 pub live-joined : (h : History) (c : ℕ) → live h c ≡ true → list_any (λ x. eqb x c) (joined h) ≡ true
 unfolding who
 live-joined (begun grants) c is_live = absurd (cc)
@@ -60,4 +76,4 @@ live-joined (h ▷ Join d word authid) c is_live = at _ (eqb d c) (live-joined h
     at : (o : Option Who) (b : Bool) → (is_some (who h c) ≡ true → list_any (λ x. eqb x c) (joined h) ≡ true) → is_some (cond b o (who h c)) ≡ true → b || list_any (λ x. eqb x c) (joined h) ≡ true
     at o true before is = refl
     at o false before is = before is
-live-joined (h ▷ e) c is_live = live-joined h c (is_some-ended (ends e c) (who h c) is_live)
+live-joined (h ▷ e) c is_live = live-joined h c (some-before (ends e c) (who h c) is_live)

@@ -3,27 +3,20 @@ use Rattle.std.proofs.Common.{◌≡◌, ℕ, suc, ◌+◌, ◌≤◌, Bool, tru
 use Rattle.std.specs.declared.option.Option.{Option}
 use Rattle.std.specs.Cmp.{both_ways}
 use Rattle.std.specs.List.{list_any}
-use Rattle.std.proofs.lemmas.Bool.{eqb-true, eq-eqb}
+use Rattle.std.proofs.lemmas.Bool.{eqb-true, eq-eqb, or_right}
 use Rattle.eligibility.specs.declared.who.Who.{Who}
 use Rattle.realm.specs.History.{History}
 use Rattle.realm.specs.Sessions.{who, live, has_id, id_in_use, joined}
 use Rattle.realm.specs.Live.{session_of, others, AreByConn}
+use Rattle.realm.proofs.Choices.{clash, cond-same}
 use Rattle.realm.proofs.Numbers.{list_any-true}
 use Rattle.realm.proofs.Joined.{live-joined}
 use Rattle.realm.proofs.Following.{any-here}
 use Rattle.realm.proofs.Ordered.{below-none}
 
-true_false : (a : Bool) → a ≡ true → a ≡ false → ⊥
-true_false true is is_not = cc
-true_false false is is_not = cc
-
 -- the sessions of others
 pub others-of : (c d : ℕ) (ws : List Who) → session_of (others c ws) d ≡ cond (eqb c d) None (session_of ws d)
-others-of c d [] = at (eqb c d)
-  where
-    at : (b : Bool) → ◌≡◌ {A = Option Who} None (cond b None None)
-    at true = refl
-    at false = refl
+others-of c d [] = sym (cond-same (eqb c d) None)
 others-of c d (w ∷ ws) = at (eqb w.conn c) refl (eqb w.conn d) refl (eqb c d) refl (others-of c d ws)
   where
     at : (own : Bool) → eqb w.conn c ≡ own → (asked : Bool) → eqb w.conn d ≡ asked → (same : Bool) → eqb c d ≡ same
@@ -32,9 +25,9 @@ others-of c d (w ∷ ws) = at (eqb w.conn c) refl (eqb w.conn d) refl (eqb c d) 
     at true is asked asked_is true same_is rest = rest
     at true is false asked_is false same_is rest = rest
     at true is true asked_is false same_is rest =
-        absurd (true_false (eqb c d) (sym (ap (λ x. eqb x d) (eqb-true w.conn c is)) ∙ asked_is) same_is)
+        clash (eqb c d) (sym (ap (λ x. eqb x d) (eqb-true w.conn c is)) ∙ asked_is) same_is
     at false is true asked_is true same_is rest =
-        absurd (true_false (eqb w.conn c) (eq-eqb w.conn c (eqb-true w.conn d asked_is ∙ sym (eqb-true c d same_is))) is)
+        clash (eqb w.conn c) (eq-eqb w.conn c (eqb-true w.conn d asked_is ∙ sym (eqb-true c d same_is))) is
     at false is false asked_is true same_is rest = rw asked_is rest
     at false is true asked_is false same_is rest = rw asked_is refl
     at false is false asked_is false same_is rest = rw asked_is rest
@@ -94,13 +87,9 @@ bears : (ws : List Who) (c n : ℕ) (w : Who) → session_of ws c ≡ Some w →
 bears [] c n w is id = absurd (cc)
 bears (v ∷ ws) c n w is id = at (eqb v.conn c) is (λ e. bears ws c n w e id)
   where
-    or_true : (b : Bool) → list_any (λ x. eqb x.id n) ws ≡ true → b || list_any (λ x. eqb x.id n) ws ≡ true
-    or_true true e = refl
-    or_true false e = e
-
     at : (own : Bool) → cond own (Some v) (session_of ws c) ≡ Some w → (session_of ws c ≡ Some w → list_any (λ x. eqb x.id n) ws ≡ true) → eqb v.id n || list_any (λ x. eqb x.id n) ws ≡ true
     at true e rest = let same : v ≡ w = cc in let here : eqb v.id n ≡ true = ap (λ x. eqb x.id n) same ∙ id in rw here refl
-    at false e rest = or_true (eqb v.id n) (rest e)
+    at false e rest = or_right (eqb v.id n) (list_any (λ x. eqb x.id n) ws) (rest e)
 
 -- equality of numbers goes both ways
 pub eqb-comm : (a b : ℕ) → eqb a b ≡ eqb b a

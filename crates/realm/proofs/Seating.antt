@@ -4,6 +4,7 @@ use Rattle.std.specs.declared.option.Option.{Option}
 use Rattle.std.proofs.lemmas.Bool.{eqb-true}
 use Rattle.std.proofs.lemmas.Bool.Decides.{nat_tests}
 use Rattle.std.proofs.lemmas.Grind.{get_or-set_at}
+use Rattle.std.proofs.Math.Bool.{and-true}
 use Rattle.wamp_ids.specs.Numbers.{seat_of}
 use Rattle.realm.specs.Live.{is_above, may_join_by}
 
@@ -14,11 +15,7 @@ other-place : (c d : ℕ) → eqb (seat_of d) (seat_of c) ≡ false → eqb (sea
 other-place c d other = grind (arith, nat_tests)
 
 above-next : (o : Option ℕ) (d c : ℕ) → is_above o d ≡ true → ltb d c ≡ (ltb d c && is_above o c)
-above-next None d c above = at (ltb d c)
-  where
-    at : (b : Bool) → b ≡ b && true
-    at true = refl
-    at false = refl
+above-next None d c above = sym (and-true (ltb d c))
 above-next (Some e) d c above = grind (arith, nat_tests)
 
 -- after a Join of d, one may join whose number is above d where the seat is the same, and who might have joined before

@@ -2,7 +2,7 @@
 use Rattle.std.proofs.Common.{◌≡◌, ℕ, suc, ◌+◌, ◌<◌, Bool, true, false, cond, ◌&&◌, ◌||◌, eqb, ltb, List, ◌∷◌, ◌++◌, length, refl, sym, ap, ◌∙◌, None, Some, Ok, Err, is_some, arith}
 use Rattle.std.specs.declared.option.Option.{Option}
 use Rattle.std.specs.List.{list_any}
-use Rattle.std.proofs.lemmas.Bool.{eqb-true, eq-eqb, ltb-true, and_parts}
+use Rattle.std.proofs.lemmas.Bool.{eqb-true, eq-eqb, ltb-true, and_parts, false_from_ne_true}
 use Rattle.message_tree.specs.Data.{Entries}
 use Rattle.wamp_ids.proofs.Same.{same_pattern-refl, same_pattern-true}
 use Rattle.wamp_ids.specs.Pattern.{PatternText, same_pattern}
@@ -19,6 +19,7 @@ use Rattle.realm.specs.History.{History, ◌▷◌}
 use Rattle.realm.specs.Sessions.{joined, IsHistory}
 use Rattle.realm.specs.Subscriptions.{holds, opened, held_among, has_room, number_among, number, subscribed, if_new, is_of}
 use Rattle.realm.specs.Agreeing.{Agrees}
+use Rattle.realm.proofs.Choices.{clash}
 use Rattle.realm.proofs.Numbers.{list_any-true, held-number}
 use Rattle.realm.proofs.Following.{holder-joined, any-here}
 use Rattle.realm.proofs.Held.{rows-held}
@@ -56,32 +57,15 @@ module _ (h : History) (v : Held) (t : Ties h v) (c : ℕ) (p : PatternText) whe
   somebody-holds d held = any-here (λ x. holds h x p) (joined h) d (holder-joined h d p t.is_history held) held
 
   nobody-holds : (d : ℕ) → somebody h p ≡ false → holds h d p ≡ false
-  nobody-holds d free = at (holds h d p) refl
-    where
-      at : (b : Bool) → holds h d p ≡ b → b ≡ false
-      at true is = let some : somebody h p ≡ true = somebody-holds d is in absurd (cc)
-      at false is = refl
+  nobody-holds d free = false_from_ne_true (holds h d p) (λ held. clash (somebody h p) (somebody-holds d held) free)
 
   not-held : number_held v.rows c p ≡ None → holds h c p ≡ false
-  not-held is = at (holds h c p) refl
-    where
-      at : (b : Bool) → holds h c p ≡ b → b ≡ false
-      at true held =
-          let there = holds-here c held in
-          let none = has_row-not_held v.rows c p is (number h p) in
-          absurd (let e = sym there ∙ none in cc)
-      at false held = refl
+  not-held is = false_from_ne_true (holds h c p) (λ held. clash (has_row v.rows ((c, number h p), p)) (holds-here c held) (has_row-not_held v.rows c p is (number h p)))
 
   no-one : number_of v.rows p ≡ None → somebody h p ≡ false
-  no-one is = at (somebody h p) refl
-    where
-      at : (b : Bool) → somebody h p ≡ b → b ≡ false
-      at true some =
-          let s = list_any-true (λ d. holds h d p) (joined h) some in
-          let there = holds-here s.one s.is in
-          let none = has_row-no_number v.rows p is s.one (number h p) in
-          absurd (let e = sym there ∙ none in cc)
-      at false some = refl
+  no-one is = false_from_ne_true (somebody h p) (λ some.
+      let s = list_any-true (λ d. holds h d p) (joined h) some in
+      clash (has_row v.rows ((s.one, number h p), p)) (holds-here s.one s.is) (has_row-no_number v.rows p is s.one (number h p)))
 
   some-one : (n : ℕ) → number_of v.rows p ≡ Some n → (somebody h p ≡ true) × (number h p ≡ n)
   some-one n is =

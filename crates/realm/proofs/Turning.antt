@@ -38,6 +38,7 @@ use Rattle.realm.specs.Gifts.{all_for, all_events, put_first}
 use Rattle.realm.specs.Moves.{admitted, IsJoined, HasLeft, HasBeenCut, refused, told, stored, IsPublished, IsSubscribed, held_by, wanted, retained_event, IsUnsubscribed, released}
 use Rattle.realm.specs.Agreeing.{Agrees}
 use Rattle.realm.specs.Turns.{Turned, Turns}
+use Rattle.realm.proofs.Choices.{cond-same}
 use Rattle.realm.proofs.ForEach.{gives-own, gives-reply, gives-put, gives-same}
 use Rattle.realm.proofs.Handing.{gives-events}
 use Rattle.realm.specs.Words.{is_silent}
@@ -75,11 +76,7 @@ told-each h s c first p agrees = at first
         (gives-events s.sessions s.index.rows p agrees.index.ascending)
 
     silent : (d : ℕ) → events_of p (who h d) (held h d) ≡ cond (eqb c d) [] [] ++ events_of p (who h d) (held h d)
-    silent d = one (eqb c d)
-      where
-        one : (b : Bool) → events_of p (who h d) (held h d) ≡ cond b [] [] ++ events_of p (who h d) (held h d)
-        one true = refl
-        one false = refl
+    silent d = ap (λ l. l ++ events_of p (who h d) (held h d)) (sym (cond-same {A = List Item} (eqb c d) []))
 
     at : (o : Option Item) → GivesEach (λ d. cond (eqb c d) (option_to_list o) [] ++ events_of p (who h d) (held h d)) (put_first c o (all_events s.sessions s.index.rows p))
     at None = gives-same (λ d. events_of p (who h d) (held h d)) (λ d. cond (eqb c d) [] [] ++ events_of p (who h d) (held h d)) _ silent plain
@@ -280,17 +277,13 @@ no-asked None reason num store o = refl
 no-asked (Some true) reason num store o = refl
 no-asked (Some false) reason num store o = refl
 
-none_if : (b : Bool) → ◌≡◌ {A = List Item} (cond b [] []) []
-none_if true = refl
-none_if false = refl
-
 turned-refused : (h : History) (s t : State) (c word request : ℕ) (options : Entries) (topic : List ℕ) (given : List (ℕ × Item)) (reason : Reason)
     → Agrees h s → live h c ≡ true → subscribed h c options topic ≡ Err reason → given ≡ all_for c (Error kind.Subscribe request reason ∷ []) → t ≡ s
     → Turned h (Said c word (Subscribe request options topic)) s t given
 turned-refused h s t c word request options topic given reason agrees come answer is same =
     let e = Said c word (Subscribe request options topic) in
     record {
-      gives = gives-reply h e given (rw answer is) (λ d. rw answer (ap (λ xs. cond (eqb c d) xs []) (no-asked (get_retained_of options) reason (number (h ▷ e)) (retained h) (who h d)) ∙ none_if (eqb c d)));
+      gives = gives-reply h e given (rw answer is) (λ d. rw answer (ap (λ xs. cond (eqb c d) xs []) (no-asked (get_retained_of options) reason (number (h ▷ e)) (retained h) (who h d)) ∙ cond-same (eqb c d) []));
       agrees = rw same (agrees-kept h e s s agrees come refl (subscribe h c word request options topic)
           (record { holds = refused-holds h c word request options topic reason answer; opened = refused-opened h c word request options topic reason answer }) refl refl refl refl
           (agrees.store ∙ ap retained_of (sym (subscribe-kept h c word request options topic))));
