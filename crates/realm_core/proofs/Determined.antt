@@ -1,8 +1,7 @@
 -- A world and a step have one outcome.
-use Rattle.std.proofs.Common.{◌≡◌, ℕ, ◌≤◌, ◌<◌, Bool, true, false, cond, eqb, List, [], ◌∷◌, ◌++◌, length, drop, get_or, refl, sym, ap, subst, ◌∙◌, arith, inl, inr}
+use Rattle.std.proofs.Common.{◌≡◌, ℕ, ◌≤◌, ◌<◌, Bool, true, false, List, [], ◌∷◌, ◌++◌, length, drop, get_or, refl, sym, ap, subst, ◌∙◌, arith, inl, inr}
 use Rattle.std.specs.Prelude.{◌⊎◌}
 use Rattle.std.specs.declared.option.Option.{Option}
-use Rattle.std.proofs.lemmas.Bool.{eqb-true, eq-eqb, ne_eqb, cases_order}
 use Rattle.session.specs.declared.item.Item.{Item}
 use Rattle.realm.specs.declared.entry.Entry.{Entry}
 use Rattle.realm.specs.declared.entry.Entry.TheVariants.{Cut}
@@ -12,52 +11,16 @@ use Rattle.realm_core.specs.declared.step.Stepped.{Stepped}
 use Rattle.realm_core.specs.declared.step.Stepped.TheVariants.{Posted, Accepted, Dropped, Lost, Pushed, FoundFull, Took, Left, Idle}
 use Rattle.realm.specs.History.{◌▷◌}
 use Rattle.realm.specs.Sessions.{conn_of, live, may_come}
-use Rattle.realm.specs.Given.{items_for, IsAscending}
+use Rattle.realm.proofs.Alike.{alike}
+use Rattle.realm.proofs.Choices.{clash}
 use Rattle.realm_core.specs.Worlds.{Course, waiting, was_full, is_in, may_leave, Enters, EntersIfLive, Posts, Accepts, Loses, Pushes, Takes, Leaves, Moves}
-
--- of an ascending list nothing is for a connection below its first
-none-below : (c : ℕ) (y : ℕ × Item) (ys : List (ℕ × Item)) → IsAscending (y ∷ ys) → c < y.0 → items_for c (y ∷ ys) ≡ []
-none-below c y [] ascending below =
-    ap (λ b. cond b (y.1 ∷ []) []) (ne_eqb y.0 c (λ e. let bad : ⊥ = omega arith in bad))
-none-below c y (z ∷ zs) ascending below =
-    let next : y.0 ≤ z.0 = ascending.0 in
-    let there : c < z.0 = omega arith in
-    ap (λ b. cond b (y.1 ∷ items_for c (z ∷ zs)) (items_for c (z ∷ zs))) (ne_eqb y.0 c (λ e. let bad : ⊥ = omega arith in bad))
-    ∙ none-below c z zs ascending.1 there
-
-first-for : (c : ℕ) (x : ℕ × Item) (xs : List (ℕ × Item)) → x.0 ≡ c → items_for c (x ∷ xs) ≡ x.1 ∷ items_for c xs
-first-for c x xs e = ap (λ b. cond b (x.1 ∷ items_for c xs) (items_for c xs)) (eq-eqb x.0 c e)
 
 pub not-nil : {X : Type 0} (x : X) (xs : List X) → x ∷ xs ≡ [] → ⊥
 not-nil x xs e = cc
 
--- two ascending lists that give each connection the same are the same
-pub same-lists : (xs ys : List (ℕ × Item)) → IsAscending xs → IsAscending ys → ((c : ℕ) → items_for c xs ≡ items_for c ys) → xs ≡ ys
-same-lists [] [] a b each = refl
-same-lists [] (y ∷ ys) a b each = absurd (not-nil y.1 (items_for y.0 ys) (sym (each y.0 ∙ first-for y.0 y ys refl)))
-same-lists (x ∷ xs) [] a b each = absurd (not-nil x.1 (items_for x.0 xs) (sym (first-for x.0 x xs refl) ∙ each x.0))
-same-lists (x ∷ xs) (y ∷ ys) a b each = elim (cases_order x.0 y.0) [
-  | inl e ↦
-      (let heads = sym (first-for x.0 x xs refl) ∙ each x.0 ∙ first-for x.0 y ys (sym e) in
-      let item : x.1 ≡ y.1 = ap (λ l. get_or l 0 x.1) heads in
-      let pair : x ≡ y = ap (λ n. (n, x.1)) e ∙ ap (λ i. (y.0, i)) item in
-      let rest : xs ≡ ys = same-lists xs ys a.1 b.1 (λ d. tails d (eqb x.0 d) refl (ap (drop 1) heads) e) in
-      ap (λ z. z ∷ xs) pair ∙ ap (λ l. y ∷ l) rest)
-  | inr less ↦ absurd (elim less [
-    | inl below ↦ not-nil x.1 (items_for x.0 xs) (sym (first-for x.0 x xs refl) ∙ each x.0 ∙ none-below x.0 y ys b below)
-    | inr above ↦ not-nil y.1 (items_for y.0 ys) (sym (first-for y.0 y ys refl) ∙ sym (each y.0) ∙ none-below y.0 x xs a above)
-  ])
-]
-  where
-    tails : (d : ℕ) (t : Bool) → eqb x.0 d ≡ t → items_for x.0 xs ≡ items_for x.0 ys → x.0 ≡ y.0 → items_for d xs ≡ items_for d ys
-    tails d true here same e = subst (λ n. items_for n xs ≡ items_for n ys) (eqb-true x.0 d here) same
-    tails d false there same e =
-        sym (ap (λ b. cond b (x.1 ∷ items_for d xs) (items_for d xs)) there) ∙ each d
-        ∙ ap (λ b. cond b (y.1 ∷ items_for d ys) (items_for d ys)) (ap (λ n. eqb n d) (sym e) ∙ there)
-
 enters-once : (w : Course) (e : Entry) (u v : Course) → Enters w e u → Enters w e v → u ≡ v
 enters-once w e u v a b =
-    let same : a.given ≡ b.given = same-lists a.given b.given a.exactly.ascending b.exactly.ascending (λ c. a.exactly.each c ∙ sym (b.exactly.each c)) in
+    let same : a.given ≡ b.given = alike a.given b.given a.exactly.ascending b.exactly.ascending (λ c. a.exactly.each c ∙ sym (b.exactly.each c)) in
     a.after ∙ ap (λ given. record w { history = w.history ▷ e; pushing = given }) same ∙ sym b.after
 
 if-once : (t : Bool) (w : Course) (e : Entry) (u v : Course) → EntersIfLive t w e u → EntersIfLive t w e v → u ≡ v
@@ -70,9 +33,6 @@ heads x y xs ys e = ap (λ l. get_or l 0 x) e
 
 pub rests : {X : Type 0} (x y : X) (xs ys : List X) → x ∷ xs ≡ y ∷ ys → xs ≡ ys
 rests x y xs ys e = ap (drop 1) e
-
-pub true-false : (b : Bool) → b ≡ true → b ≡ false → ⊥
-true-false b yes_is no_is = let bad : true ≡ false = sym yes_is ∙ no_is in cc
 
 posts-once : (w : Course) (e : Entry) (s t : Stepped) (u v : Course) → Posts w e s u → Posts w e t v → (s ≡ t) × (u ≡ v)
 posts-once w e Posted Posted u v a b = (refl, a.1 ∙ sym b.1)
@@ -89,11 +49,11 @@ accepts-once w Accepted Accepted u v (e, xs, front, come, enters) (f, ys, front2
     let rest : xs ≡ ys = rests e f xs ys (sym front ∙ front2) in
     (refl, enters-once (record w { inbox = ys }) f u v (subst (λ l. Enters (record w { inbox = l }) f u) rest (subst (λ x. Enters (record w { inbox = xs }) x u) entry enters)) enters2)
 accepts-once w Accepted Dropped u v (e, xs, front, come, enters) (f, ys, front2, refused, after) =
-    absurd (true-false (may_come w.history f) (subst (λ x. may_come w.history x ≡ true) (heads e f xs ys (sym front ∙ front2)) come) refused)
+    clash (may_come w.history f) (subst (λ x. may_come w.history x ≡ true) (heads e f xs ys (sym front ∙ front2)) come) refused
 accepts-once w Accepted Idle u v (e, xs, front, come, enters) b = absurd (not-nil e xs (sym front ∙ b.0))
 accepts-once w Accepted t u v a b = absurd b
 accepts-once w Dropped Accepted u v (e, xs, front, refused, after) (f, ys, front2, come, enters) =
-    absurd (true-false (may_come w.history e) (subst (λ x. may_come w.history x ≡ true) (sym (heads e f xs ys (sym front ∙ front2))) come) refused)
+    clash (may_come w.history e) (subst (λ x. may_come w.history x ≡ true) (sym (heads e f xs ys (sym front ∙ front2))) come) refused
 accepts-once w Dropped Dropped u v (e, xs, front, refused, after) (f, ys, front2, refused2, after2) =
     (refl, after ∙ ap (λ l. record w { inbox = l }) (rests e f xs ys (sym front ∙ front2)) ∙ sym after2)
 accepts-once w Dropped Idle u v (e, xs, front, refused, after) b = absurd (not-nil e xs (sym front ∙ b.0))
@@ -139,13 +99,13 @@ found-once : (w : Course) (c d : ℕ) (i j : Item) (xs ys : List (ℕ × Item)) 
     → ((was_full w d ≡ true) × (v ≡ record w { pushing = ys })) ⊎ ((was_full w d ≡ false) × (w.outbox_cap ≤ length (waiting w d)) × (v ≡ record w { pushing = ys; full = w.full ++ d ∷ [] }))
     → u ≡ v
 found-once w c d i j xs ys u v e (inl a) (inl b) = a.1 ∙ ap (λ l. record w { pushing = l }) (rests (c, i) (d, j) xs ys e) ∙ sym b.1
-found-once w c d i j xs ys u v e (inl a) (inr b) = absurd (true-false (was_full w d) (subst (λ n. was_full w n ≡ true) (conns c d i j xs ys e) a.0) b.0)
-found-once w c d i j xs ys u v e (inr a) (inl b) = absurd (true-false (was_full w c) (subst (λ n. was_full w n ≡ true) (sym (conns c d i j xs ys e)) b.0) a.0)
+found-once w c d i j xs ys u v e (inl a) (inr b) = clash (was_full w d) (subst (λ n. was_full w n ≡ true) (conns c d i j xs ys e) a.0) b.0
+found-once w c d i j xs ys u v e (inr a) (inl b) = clash (was_full w c) (subst (λ n. was_full w n ≡ true) (sym (conns c d i j xs ys e)) b.0) a.0
 found-once w c d i j xs ys u v e (inr a) (inr b) = a.2 ∙ marked-once w c d i j xs ys e ∙ sym b.2
 
 room-or-full : (w : Course) (c d : ℕ) (i j : Item) (xs ys : List (ℕ × Item)) (v : Course) → (c, i) ∷ xs ≡ (d, j) ∷ ys → was_full w c ≡ false → length (waiting w c) < w.outbox_cap
     → ((was_full w d ≡ true) × (v ≡ record w { pushing = ys })) ⊎ ((was_full w d ≡ false) × (w.outbox_cap ≤ length (waiting w d)) × (v ≡ record w { pushing = ys; full = w.full ++ d ∷ [] })) → ⊥
-room-or-full w c d i j xs ys v e free room (inl b) = true-false (was_full w d) b.0 (subst (λ n. was_full w n ≡ false) (conns c d i j xs ys e) free)
+room-or-full w c d i j xs ys v e free room (inl b) = clash (was_full w d) b.0 (subst (λ n. was_full w n ≡ false) (conns c d i j xs ys e) free)
 room-or-full w c d i j xs ys v e free room (inr b) =
     let same : length (waiting w c) ≡ length (waiting w d) = ap (λ n. length (waiting w n)) (conns c d i j xs ys e) in
     let x = b.1 in
@@ -182,7 +142,7 @@ takes-once w c Idle t u v a b = absurd b
 takes-once w c s t u v a b = absurd a
 
 none-in : (c : ℕ) (cs : List ℕ) → is_in c cs ≡ true → cs ≡ [] → ⊥
-none-in c cs here none = true-false (is_in c cs) here (ap (is_in c) none)
+none-in c cs here none = clash (is_in c cs) here (ap (is_in c) none)
 
 leaves-once : (w : Course) (word : Option ℕ) (s t : Stepped) (u v : Course) → Leaves w word s u → Leaves w word t v → (s ≡ t) × (u ≡ v)
 leaves-once w word Left Left u v (c, least, enters) (d, least2, enters2) =

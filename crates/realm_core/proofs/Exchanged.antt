@@ -13,8 +13,9 @@ use Rattle.realm_core.specs.Worlds.{unless_any, marked, may_enter, may_leave, Is
 use Rattle.realm.specs.declared.entry.Entry.{Entry}
 use Rattle.realm_core.specs.declared.exchange.Exchange.TheInside.{Inside}
 use Rattle.realm_core.specs.Outboxes.{Outboxes, outbox_of}
+use Rattle.realm.proofs.Handing.{items_for-append}
 use Rattle.realm_core.proofs.Reached.{unless-front, unless-in, in-filter}
-use Rattle.realm_core.proofs.ItemLists.{if_for, items_for-append}
+use Rattle.realm_core.proofs.ItemLists.{if_for}
 use Rattle.realm_core.proofs.Queued.{between, between-is}
 
 -- what was seen

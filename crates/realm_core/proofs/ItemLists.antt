@@ -4,6 +4,7 @@ use Rattle.std.proofs.lemmas.Bool.{eq-eqb, ne_eqb, or_parts, or_left, or_right}
 use Rattle.std.proofs.lemmas.List.Folds.{list_any-append}
 use Rattle.session.specs.declared.item.Item.{Item}
 use Rattle.realm.specs.Given.{items_for}
+use Rattle.realm.proofs.Handing.{items_for-append}
 use Rattle.realm_core.specs.Worlds.{is_in}
 
 -- the item, if it is for this connection
@@ -16,15 +17,6 @@ items_for-cons c d i xs = at (eqb d c)
     at : (b : Bool) → cond b (i ∷ items_for c xs) (items_for c xs) ≡ cond b (i ∷ []) [] ++ items_for c xs
     at true = refl
     at false = refl
-
-pub items_for-append : (c : ℕ) (xs ys : List (ℕ × Item)) → items_for c (xs ++ ys) ≡ items_for c xs ++ items_for c ys
-items_for-append c [] ys = refl
-items_for-append c (x ∷ xs) ys = at (eqb x.0 c) (items_for-append c xs ys)
-  where
-    at : (b : Bool) → items_for c (xs ++ ys) ≡ items_for c xs ++ items_for c ys
-        → cond b (x.1 ∷ items_for c (xs ++ ys)) (items_for c (xs ++ ys)) ≡ cond b (x.1 ∷ items_for c xs) (items_for c xs) ++ items_for c ys
-    at true e = ap (λ l. x.1 ∷ l) e
-    at false e = e
 
 pub items_for-last : (c d : ℕ) (i : Item) (xs : List (ℕ × Item)) → items_for c (xs ++ (d, i) ∷ []) ≡ items_for c xs ++ if_for c d i
 items_for-last c d i xs = items_for-append c xs ((d, i) ∷ [])

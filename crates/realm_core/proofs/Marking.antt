@@ -1,9 +1,9 @@
 -- Who was found full, and who is marked, after each kind of change.
-use Rattle.std.proofs.Common.{◌≡◌, ℕ, Bool, true, false, cond, eqb, ◌||◌, List, [], ◌∷◌, ◌++◌, refl, sym, ap, subst, ◌∙◌, Option, None, Some, is_some, inl, inr}
+use Rattle.std.proofs.Common.{◌≡◌, ℕ, Bool, true, false, cond, eqb, ◌||◌, List, [], ◌∷◌, ◌++◌, refl, sym, ap, subst, ◌∙◌, Option, is_some, inl, inr}
 use Rattle.std.specs.Prelude.{◌⊎◌}
 use Rattle.std.specs.List.{list_any, filter}
 use Rattle.std.specs.Result.{result_ok}
-use Rattle.std.proofs.lemmas.Bool.{eqb-true, eq-eqb, or_cases, or_left, or_right}
+use Rattle.std.proofs.lemmas.Bool.{eqb-true, eq-eqb, or_cases, or_left, or_right, false_from_ne_true}
 use Rattle.std.proofs.lemmas.List.Folds.{list_any-append}
 use Rattle.std.proofs.lemmas.List.Elements.{filter-append}
 use Rattle.std.proofs.Math.Bool.{and-false}
@@ -15,14 +15,11 @@ use Rattle.realm.specs.History.{History, ◌▷◌}
 use Rattle.realm.specs.Sessions.{who, live, ends, joined, conn_of, admission, may_join, may_come}
 use Rattle.realm.specs.Yield.{yield}
 use Rattle.realm.specs.Given.{items_for, GivesExactly}
+use Rattle.realm.proofs.Choices.{clash, not-some, some-before}
 use Rattle.realm.proofs.Joined.{live-joined}
 use Rattle.realm.proofs.Ended.{no_more, no_events}
 use Rattle.realm_core.specs.Worlds.{is_in}
 use Rattle.realm_core.specs.Marks.{conns_of, MarksAgree, NoneJoinsAgain}
-
-true-false : (b : Bool) → b ≡ true → b ≡ false → ⊥
-true-false true is is_not = cc
-true-false false is is_not = cc
 
 -- who has an item isn't left out
 has-item : (c : ℕ) (xs : List (ℕ × Item)) → is_in c (conns_of xs) ≡ true → items_for c xs ≡ [] → ⊥
@@ -33,14 +30,10 @@ has-item c (x ∷ xs) here none = at (eqb x.0 c) here none (has-item c xs)
     at true some empty rest = cc
     at false some empty rest = rest some empty
 
-not-live : (o : Option Who) → is_some o ≡ false → o ≡ None
-not-live None is = refl
-not-live (Some w) is = absurd (cc)
-
 -- an entry of another gives nothing to who isn't live
 nothing-to : (h : History) (e : Entry) (c : ℕ) → live h c ≡ false → eqb (conn_of e) c ≡ false → yield h e c ≡ []
 unfolding yield
-nothing-to h e c dead elsewhere = rw (elsewhere, no_events h e c (not-live (who h c) dead) elsewhere) refl
+nothing-to h e c dead elsewhere = rw (elsewhere, no_events h e c (not-some (who h c) dead) elsewhere) refl
 
 -- whoever gets an item of an entry is live, or the entry is its own
 gets : (h : History) (e : Entry) (given : List (ℕ × Item)) (c : ℕ) → GivesExactly h e given → is_in c (conns_of given) ≡ true → (live h c ≡ true) ⊎ (conn_of e ≡ c)
@@ -68,20 +61,12 @@ lived h (Join d word authid) c come is = at (result_ok (admission h d word authi
     at : (o : Option Who) (b : Bool) → eqb d c ≡ b → is_some (cond b o (who h c)) ≡ true → (live h c ≡ true) ⊎ (may_join h c ≡ true)
     at o true same after = inr (ap (may_join h) (sym (eqb-true d c same)) ∙ come)
     at o false other after = inl after
-lived h e c come is = at (ends e c) is
-  where
-    at : (b : Bool) → is_some (cond {A = Option Who} b None (who h c)) ≡ true → (live h c ≡ true) ⊎ (may_join h c ≡ true)
-    at true after = absurd (cc)
-    at false after = inl after
+lived h e c come is = inl (some-before (ends e c) (who h c) is)
 
 -- a Cut makes nobody live
 lived-cut : (h : History) (d c : ℕ) (word : Option ℕ) → live (h ▷ Cut d word) c ≡ true → live h c ≡ true
 unfolding who
-lived-cut h d c word is = at (eqb d c) is
-  where
-    at : (b : Bool) → is_some (cond {A = Option Who} b None (who h c)) ≡ true → live h c ≡ true
-    at true after = absurd (cc)
-    at false after = after
+lived-cut h d c word is = some-before (eqb d c) (who h c) is
 
 -- those of a list that pass
 pub in-passing : (p : ℕ → Bool) (c : ℕ) (xs : List ℕ) → p c ≡ true → is_in c (filter p xs) ≡ is_in c xs
@@ -90,7 +75,7 @@ in-passing p c (x ∷ xs) passes = at (p x) refl (eqb x c) refl (in-passing p c 
   where
     at : (b : Bool) → p x ≡ b → (own : Bool) → eqb x c ≡ own → is_in c (filter p xs) ≡ is_in c xs → is_in c (cond b (x ∷ filter p xs) (filter p xs)) ≡ own || is_in c xs
     at true is own own_is rest = ap (λ b. b || is_in c (filter p xs)) own_is ∙ ap (λ b. own || b) rest
-    at false is true own_is rest = absurd (true-false (p x) (ap p (eqb-true x c own_is) ∙ passes) is)
+    at false is true own_is rest = clash (p x) (ap p (eqb-true x c own_is) ∙ passes) is
     at false is false own_is rest = rest
 
 none-passes : (p : ℕ → Bool) (xs : List ℕ) → ((c : ℕ) → is_in c xs ≡ true → p c ≡ false) → filter p xs ≡ []
@@ -106,31 +91,23 @@ stronger p q (x ∷ xs) implies = at (p x) refl (q x) refl (stronger p q xs impl
   where
     at : (b : Bool) → p x ≡ b → (d : Bool) → q x ≡ d → filter q (filter p xs) ≡ filter q xs → filter q (cond b (x ∷ filter p xs) (filter p xs)) ≡ cond d (x ∷ filter q xs) (filter q xs)
     at true is d d_is rest = ap (λ b. cond b (x ∷ filter q (filter p xs)) (filter q (filter p xs))) d_is ∙ ap (λ l. cond d (x ∷ l) l) rest
-    at false is true d_is rest = absurd (true-false (p x) (implies x d_is) is)
+    at false is true d_is rest = clash (p x) (implies x d_is) is
     at false is false d_is rest = rest
 
 -- where none that was found full is live, whoever is live or might join was not found full
 fresh : (h : History) (full : List ℕ) (c : ℕ) → filter (live h) full ≡ [] → NoneJoinsAgain h full → (live h c ≡ true) ⊎ (may_join h c ≡ true) → is_in c full ≡ false
 fresh h full c none again known = elim known [
   | inl is ↦ sym (in-passing (live h) c full is) ∙ ap (is_in c) none
-  | inr may ↦ at (is_in c full) refl may
+  | inr may ↦ false_from_ne_true (is_in c full) (λ here. clash (may_join h c) may (again c here))
 ]
-  where
-    at : (b : Bool) → is_in c full ≡ b → may_join h c ≡ true → is_in c full ≡ false
-    at true here may = absurd (true-false (may_join h c) may (again c here))
-    at false there may = there
 
 -- an entry is accepted: nobody is marked then
 pub marks-accepted : (h : History) (e : Entry) (given : List (ℕ × Item)) (full : List ℕ)
     → filter (live h) full ≡ [] → NoneJoinsAgain h full → may_come h e ≡ true → GivesExactly h e given → MarksAgree (h ▷ e) given full []
 marks-accepted h e given full none again come gives = record {
-  still_live = none-passes (live (h ▷ e)) full (λ c here. at c here (live (h ▷ e) c) refl);
+  still_live = none-passes (live (h ▷ e)) full (λ c here. false_from_ne_true (live (h ▷ e) c) (λ is. clash (is_in c full) here (fresh h full c none again (lived h e c come is))));
   pushed = λ c there. fresh h full c none again (gets-comes h e given c come gives there);
 }
-  where
-    at : (c : ℕ) → is_in c full ≡ true → (b : Bool) → live (h ▷ e) c ≡ b → live (h ▷ e) c ≡ false
-    at c here true is = absurd (true-false (is_in c full) here (fresh h full c none again (lived h e c come is)))
-    at c here false is = is
 
 -- a session is cut
 pub marks-cut : (h : History) (d : ℕ) (word : Option ℕ) (before given : List (ℕ × Item)) (full marks : List ℕ)

@@ -15,9 +15,10 @@ use Rattle.realm_core.specs.Worlds.{Course, new_world, waiting, was_full, is_in,
 use Rattle.realm_core.specs.Runs.{taken_with, Advances}
 use Rattle.realm_core.specs.Rest.{IsAtRest, IsGiving, IsFirstOf, GivesLast}
 use Rattle.realm.specs.Granting.{Grants}
+use Rattle.realm.proofs.Choices.{clash}
 use Rattle.realm_core.proofs.ItemLists.{if_for, items_for-last}
 use Rattle.realm_core.proofs.Queued.{between-is}
-use Rattle.realm_core.proofs.Determined.{not-nil, heads, rests, true-false, pushed-once}
+use Rattle.realm_core.proofs.Determined.{not-nil, heads, rests, pushed-once}
 
 posted-is : (w : Course) (e : Entry) (s : Stepped) (u : Course) → IsAtRest w → Posts w e s u → u ≡ record w { posted = w.posted ++ e ∷ []; inbox = w.inbox ++ e ∷ [] }
 posted-is w e Posted u rest m = m.1
@@ -41,7 +42,7 @@ accepted-is w e Accepted v front come (f, xs, front2, come2, enters) =
     let rest : xs ≡ [] = rests f e xs [] (sym front2 ∙ front) in
     subst (λ x. Enters (record w { inbox = [] }) x v) entry (subst (λ l. Enters (record w { inbox = l }) f v) rest enters)
 accepted-is w e Dropped v front come (f, xs, front2, refused, after) =
-    absurd (true-false (may_come w.history e) come (subst (λ x. may_come w.history x ≡ false) (heads f e xs [] (sym front2 ∙ front)) refused))
+    clash (may_come w.history e) come (subst (λ x. may_come w.history x ≡ false) (heads f e xs [] (sym front2 ∙ front)) refused)
 accepted-is w e Idle v front come m = absurd (not-nil e [] (sym front ∙ m.0))
 accepted-is w e s v front come m = absurd m
 
@@ -70,7 +71,7 @@ pushed-is : (w : Course) (c : ℕ) (item : Item) (rest : List (ℕ × Item)) (s 
     → w.pushing ≡ (c, item) ∷ rest → Pushes w s u → u ≡ record w { pushing = rest; added = w.added ++ (c, item) ∷ [] }
 pushed-is w c item rest Pushed u room full none is (d, j, xs, front, free, fits, after) = after ∙ pushed-once w d c j item xs rest (sym front ∙ is)
 pushed-is w c item rest FoundFull u room full none is (d, j, xs, front, found) = absurd (elim found [
-  | inl before ↦ true-false (was_full w d) before.0 (ap (is_in d) full)
+  | inl before ↦ clash (was_full w d) before.0 (ap (is_in d) full)
   | inr now ↦ (let empty : length (waiting w d) ≡ 0 = ap length (none d) in let holds = now.1 in let bad : ⊥ = omega arith in bad)
 ])
 pushed-is w c item rest Idle u room full none is m = absurd (not-nil (c, item) rest (sym is ∙ m.0))
