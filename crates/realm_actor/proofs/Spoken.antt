@@ -1,5 +1,6 @@
 -- What a client said was applied, or lost.
-use Rattle.std.proofs.Common.{◌≤◌, length, ◌≡◌, ℕ, zero, Bool, true, false, cond, List, [], ◌∷◌, ◌++◌, refl, sym, ap, ◌∙◌, subst, append_assoc}
+use Rattle.std.proofs.Common.{◌≤◌, length, ◌≡◌, ℕ, true, false, cond, List, [], ◌∷◌, ◌++◌, refl, sym, ap, ◌∙◌, subst, append_assoc}
+use Rattle.std.proofs.lemmas.Bool.{cond-true, false_from_ne_true}
 use Rattle.session.specs.declared.said.Said as spoken
 use Rattle.realm.specs.declared.entry.Entry.{Entry}
 use Rattle.realm.specs.declared.entry.Entry.TheVariants as entry
@@ -7,9 +8,9 @@ use Rattle.realm.specs.Words.{says_with_word}
 use Rattle.std.specs.Prelude.{Some}
 use Rattle.std.specs.List.{insert}
 use Rattle.realm.specs.History.{History, ◌▷◌}
-use Rattle.realm.specs.Sessions.{live, joined, may_join}
-use Rattle.realm.proofs.Ended.{no_more}
+use Rattle.realm.specs.Sessions.{live, may_join}
 use Rattle.realm.proofs.Joined.{live-joined}
+use Rattle.realm.proofs.Choices.{cond-same}
 use Rattle.realm_inbox.specs.declared.joining.Joining.{Joining}
 use Rattle.realm_actor.specs.Rows.{box_in}
 use Rattle.realm_actor.specs.Tables.{EachMarked, EachWent, Sound}
@@ -19,19 +20,12 @@ use Rattle.realm_actor.specs.declared.outcome.Outcome.TheVariants.{Applied, Drop
 use Rattle.realm_actor.specs.declared.row.Row.{Row}
 use Rattle.realm_actor.specs.Cutting.{Accepted, Cuts, IsCutOf, NoneFull}
 use Rattle.realm_actor.specs.Handling.{MatchOutcome, Applies, Loses, cut, not_live, nothing_drawn}
+use Rattle.realm_actor.proofs.Entering.{not_joined}
 
 pub by_outcome : (r : Outcome) (A B D E : Type 0) → (A → D) → (B → E) → (C : Type 0) → MatchOutcome r A ⊥ B → MatchOutcome r D C E
 by_outcome Applied A B D E f g C m = f m
 by_outcome Dropped A B D E f g C m = absurd m
 by_outcome NoMemory A B D E f g C m = g m
-
-same_word : (b : Bool) (w : ℕ) → b ≡ true → cond b w 0 ≡ w
-same_word true w e = refl
-same_word false w e = absurd (cc)
-
-no_word : (b : Bool) → cond {A = ℕ} b 0 0 ≡ zero
-no_word true = refl
-no_word false = refl
 
 module _ {S : Type 0} (c : ℕ) (said : spoken.Said) (h l : History) (rows news : List (Row S)) (before after : List ℕ) where
   pub applies_plain : says_with_word said ≡ false → (drawn : List ℕ) × Accepted h rows (entry.Said c 0 said) drawn l news × (after ≡ before ++ drawn) → Applies c (Said said) h rows before l news after
@@ -40,7 +34,7 @@ module _ {S : Type 0} (c : ℕ) (said : spoken.Said) (h l : History) (rows news 
     drawn = a.0;
     rows = rows;
     brought = refl;
-    accepted = subst (λ w. Accepted h rows (entry.Said c w said) a.0 l news) (sym (no_word (says_with_word said))) a.1;
+    accepted = subst (λ w. Accepted h rows (entry.Said c w said) a.0 l news) (sym (cond-same (says_with_word said) 0)) a.1;
     words = a.2 ∙ ap (λ b. before ++ cond b (0 ∷ a.0) a.0) (sym quiet);
   }
 
@@ -51,21 +45,14 @@ module _ {S : Type 0} (c : ℕ) (said : spoken.Said) (h l : History) (rows news 
     drawn = a.0;
     rows = rows;
     brought = refl;
-    accepted = subst (λ x. Accepted h rows (entry.Said c x said) a.0 l news) (sym (same_word (says_with_word said) w told)) a.1;
+    accepted = subst (λ x. Accepted h rows (entry.Said c x said) a.0 l news) (sym (cond-true (says_with_word said) w 0 told)) a.1;
     words = a.2 ∙ ap (λ s. s ++ a.0) is ∙ append_assoc before (w ∷ []) a.0 ∙ ap (λ b. before ++ cond b (w ∷ a.0) a.0) (sym told);
   }
-
-  pub loses_by : (lost : List ℕ) (start : List ℕ) → start ≡ before ++ lost → length lost ≤ 1 → (word : ℕ) × (drawn : List ℕ) × (e : Entry) × (marked : List (Row S)) × IsCutOf c word e × EachMarked c rows marked × Accepted h marked e drawn l news × (after ≡ start ++ word ∷ drawn) → Loses c h rows before l news after
-  loses_by lost start is few b = cut lost b.0 b.1 b.2 b.3 few b.4 b.5 b.6 (b.7 ∙ ap (λ s. s ++ b.0 ∷ b.1) is)
 
 -- a Join
 
 pub not_live_yet : (h : History) (c : ℕ) → may_join h c ≡ true → live h c ≡ false
-not_live_yet h c may = at (live h c) refl
-  where
-    at : (b : Bool) → live h c ≡ b → b ≡ false
-    at true is = let never : may_join h c ≡ false = no_more (joined h) c (live-joined h c is) in absurd (cc)
-    at false is = refl
+not_live_yet h c may = false_from_ne_true (live h c) (λ is. not_joined h c may (live-joined h c is))
 
 module _ {S : Type 0} (c : ℕ) (h : History) where
   pub loses_early : (l : History) (olds news : List (Row S)) (before after : List ℕ) → may_join h c ≡ true → l ≡ h → news ≡ olds → after ≡ before
