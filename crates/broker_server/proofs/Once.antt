@@ -1,5 +1,5 @@
 -- Lines have one transcript.
-use Rattle.std.proofs.Common.{◌≡◌, ◌⊎◌, ℕ, true, false, List, [], ◌∷◌, ◌++◌, length, Option, None, Some, inl, inr, refl, sym, ap, ◌∙◌, subst, arith}
+use Rattle.std.proofs.Common.{◌≡◌, ◌⊎◌, ℕ, List, [], ◌∷◌, ◌++◌, length, Option, None, Some, inl, inr, refl, sym, ap, ◌∙◌, subst, arith}
 use Rattle.std.specs.Prelude.{codes}
 use Rattle.std.specs.Str.{bytes_eq}
 use Rattle.std.proofs.lemmas.List.{length_push, same_from_push}
@@ -10,14 +10,12 @@ use Rattle.realm.specs.declared.entry.Entry.{Entry}
 use Rattle.realm.specs.History.{◌▷◌}
 use Rattle.realm.specs.Sessions.{live}
 use Rattle.realm.proofs.Alike.{given-once}
+use Rattle.realm.proofs.Choices.{clash}
 use Rattle.broker_server.specs.Laws.{OneTranscript}
 use Rattle.broker_server.specs.Speech.{Hears, IsSaid}
 use Rattle.broker_server.specs.Transcript.{IsTranscript, nothing, more, Replay, Tells, PrintsFor, after, entry_of, if_ended, printed_all}
 use Rattle.broker_server.specs.declared.speech.Speech.{Speech}
 use Rattle.broker_server.specs.declared.speech.Speech.TheVariants.{Gone, Said, Noise}
-
-not-both : {A : Type 0} (text : List ℕ) → bytes_eq text (codes "gone") ≡ true → bytes_eq text (codes "gone") ≡ false → A
-not-both text gone other = absurd (let both = sym gone ∙ other in cc)
 
 one-saying : (text : List ℕ) (a b : Spoken) → IsSaid text a → IsSaid text b → a ≡ b
 one-saying text a b x y =
@@ -27,12 +25,12 @@ one-saying text a b x y =
 -- a text is one thing
 one-speech : (text : List ℕ) (a b : Speech) → Hears text a → Hears text b → a ≡ b
 one-speech text Gone Gone x y = refl
-one-speech text Gone (Said said) x y = not-both text x y.0
-one-speech text Gone Noise x y = not-both text x y.0
-one-speech text (Said said) Gone x y = not-both text y x.0
+one-speech text Gone (Said said) x y = clash (bytes_eq text (codes "gone")) x y.0
+one-speech text Gone Noise x y = clash (bytes_eq text (codes "gone")) x y.0
+one-speech text (Said said) Gone x y = clash (bytes_eq text (codes "gone")) y x.0
 one-speech text (Said said) (Said other) x y = ap Said (one-saying text said other x.1 y.1)
 one-speech text (Said said) Noise x y = absurd (let none = sym x.1.says ∙ y.1 x.1.tree x.1.message in cc)
-one-speech text Noise Gone x y = not-both text y x.0
+one-speech text Noise Gone x y = clash (bytes_eq text (codes "gone")) y x.0
 one-speech text Noise (Said said) x y = absurd (let none = sym y.1.says ∙ x.1 y.1.tree y.1.message in cc)
 one-speech text Noise Noise x y = refl
 

@@ -1,11 +1,9 @@
 -- What the handling of an act does.
-use Rattle.std.proofs.Common.{◌≡◌, ◌≢◌, ◌⊎◌, ℕ, zero, suc, ◌<◌, Bool, true, false, not, eqb, List, [], ◌∷◌, length, get_or, refl, sym, ap, ◌∙◌, subst, inl, inr, ⊎_elim, arith}
+use Rattle.std.proofs.Common.{◌≡◌, ◌≢◌, ℕ, ◌<◌, Bool, true, false, not, eqb, List, [], ◌∷◌, length, get_or, refl, sym, ap, ◌∙◌, subst, inl, inr, ⊎_elim, arith}
 use Rattle.std.specs.Prelude.{Option, Some, None, ⊤, slice_get, MatchOption, option_map}
-use Rattle.std.specs.List.{insert}
-use Rattle.std.proofs.lemmas.Bool.{eqb-true, eq-eqb, or_cases, or_left}
+use Rattle.std.proofs.lemmas.Bool.{eqb-true, eq-eqb, or_cases, or_left, ne_eqb, true_from_ne_false, not_from_false}
 use Rattle.realm.specs.History.{History}
 use Rattle.realm.specs.Sessions.{live, joined, may_join}
-use Rattle.realm.proofs.Ended.{no_more}
 use Rattle.realm_actor.specs.declared.row.Row.{Row}
 use Rattle.realm_inbox.specs.declared.joining.Joining.{Joining}
 use Rattle.realm_inbox.specs.declared.act.Act.{Act}
@@ -19,19 +17,14 @@ use Rattle.realm_actor.specs.Cutting.{NoneFull, IsFull}
 use Rattle.realm_actor.specs.Handling.{MatchOutcome, Applies, Loses, cut, not_live, nothing_drawn, Brings, EachUnmarked, Acts, Does, is_dropped, WithRow, entry_of}
 use Rattle.realm_actor.specs.Naming.{named_conns, is_in, finds_in, finds_of, outbox_of, NoMarks, Names}
 use Rattle.realm_actor.specs.Standing.{Stands}
-use Rattle.realm_actor.proofs.Standing.{read, within}
+use Rattle.realm_actor.proofs.Standing.{read, beside, insert_all}
 use Rattle.realm_actor.proofs.Marks.{unmarked_after}
-use Rattle.realm_actor.proofs.Named.{EachMoved, EachWent-same, accepted_went, moved_went, moved_marked, moved_on, moved_by, names_moved, found, same_after, insert_other, insert_here}
+use Rattle.realm_actor.proofs.Named.{EachMoved, EachWent-same, accepted_went, moved_went, moved_marked, moved_on, moved_by, names_moved, found, same_after, insert_other, insert_here, holds_nowhere}
+use Rattle.realm_actor.proofs.Entering.{not_joined}
 
-not_joined : (h : History) (c : ℕ) → may_join h c ≡ true → has_joined h c ≡ true → ⊥
-not_joined h c may has = let never : may_join h c ≡ false = no_more (joined h) c has in absurd (cc)
-
-may_if : (h : History) (c : ℕ) → (not (may_join h c) ≡ true → ⊥) → may_join h c ≡ true
-may_if h c kept = at (may_join h c) kept
-  where
-    at : (b : Bool) → (not b ≡ true → ⊥) → b ≡ true
-    at true kept = refl
-    at false kept = absurd (kept refl)
+-- who isn't refused is taken
+taken : (b : Bool) → (not b ≡ true → ⊥) → b ≡ true
+taken b kept = true_from_ne_false b (λ is. kept (not_from_false b is))
 
 went_some : (o : Box) (q : Option Box) → BoxWent (Some o) q → (p : Box) × (q ≡ Some p) × Went o p
 went_some o None w = absurd w
@@ -65,31 +58,11 @@ module _ {S : Type 0} where
 
   -- who has a row, and is cut for want of memory, was live
   lost_live : (c : ℕ) (act : Act S) (h : History) → (is_dropped h c act ≡ true → ⊥) → has_joined h c ≡ true → live h c ≡ true
-  lost_live c (Join joining) h kept has = at (may_join h c) refl kept
-    where
-      at : (b : Bool) → may_join h c ≡ b → (not b ≡ true → ⊥) → live h c ≡ true
-      at true may kept = absurd (not_joined h c may has)
-      at false may kept = absurd (kept refl)
-  lost_live c (Said said) h kept has = at (live h c) kept
-    where
-      at : (b : Bool) → (not b ≡ true → ⊥) → b ≡ true
-      at true kept = refl
-      at false kept = absurd (kept refl)
-  lost_live c (Ping payload) h kept has = at (live h c) kept
-    where
-      at : (b : Bool) → (not b ≡ true → ⊥) → b ≡ true
-      at true kept = refl
-      at false kept = absurd (kept refl)
-  lost_live c Spoilt h kept has = at (live h c) kept
-    where
-      at : (b : Bool) → (not b ≡ true → ⊥) → b ≡ true
-      at true kept = refl
-      at false kept = absurd (kept refl)
-  lost_live c Gone h kept has = at (live h c) kept
-    where
-      at : (b : Bool) → (not b ≡ true → ⊥) → b ≡ true
-      at true kept = refl
-      at false kept = absurd (kept refl)
+  lost_live c (Join joining) h kept has = absurd (not_joined h c (taken (may_join h c) kept) has)
+  lost_live c (Said said) h kept has = taken (live h c) kept
+  lost_live c (Ping payload) h kept has = taken (live h c) kept
+  lost_live c Spoilt h kept has = taken (live h c) kept
+  lost_live c Gone h kept has = taken (live h c) kept
 
   -- the rows that the act starts from: none is marked, and for each connection the same was found full before; an outbox that
   -- was held is held, and a Join's is its own
@@ -107,23 +80,6 @@ module _ {S : Type 0} where
     brought = λ joining e. absurd (other joining e);
   }
 
-  none_found : (rows : List (Row S)) (c : ℕ) → Each (λ r. r.conn ≢ c) rows → outbox_of rows c ≡ None
-  none_found rows c none = at (outbox_of rows c) refl
-    where
-      at : (o : Option Box) → outbox_of rows c ≡ o → o ≡ None
-      at None is = refl
-      at (Some o) is = let t = found rows c o is in absurd (none t.0 t.1 t.2 t.3)
-
-  pub insert_all : (P : Row S → Type 0) (xs : List (Row S)) (i : ℕ) (a : Row S) → Each P xs → P a → Each P (insert xs i a)
-  insert_all P [] zero a all p zero r e = let same : a ≡ r = cc in subst P same p
-  insert_all P [] zero a all p (suc k) r e = absurd (cc)
-  insert_all P [] (suc i) a all p zero r e = let same : a ≡ r = cc in subst P same p
-  insert_all P [] (suc i) a all p (suc k) r e = absurd (cc)
-  insert_all P (x ∷ xs) zero a all p zero r e = let same : a ≡ r = cc in subst P same p
-  insert_all P (x ∷ xs) zero a all p (suc k) r e = all k r e
-  insert_all P (x ∷ xs) (suc i) a all p zero r e = all zero r e
-  insert_all P (x ∷ xs) (suc i) a all p (suc k) r e = insert_all P xs i a (λ j s f. all (suc j) s f) p k r e
-
   starts_join : (c : ℕ) (joining : Joining S) (olds rows : List (Row S)) → Each (λ r. r.conn ≢ c) olds → NoMarks olds → Brings c joining olds rows → Starts c (Join joining) olds rows
   starts_join c joining olds rows none unmarked b =
       let own : outbox_of rows c ≡ Some joining.outbox = ap (λ l. outbox_of l c) b.rows_are ∙ insert_here olds b.place b.row c none b.conn ∙ b.outbox in
@@ -131,22 +87,18 @@ module _ {S : Type 0} where
       record {
         unmarked = subst (λ l. NoMarks l) (sym b.rows_are) (insert_all (λ r. (r.is_cut ≡ false) × (r.is_lost ≡ false)) olds b.place b.row unmarked (b.is_cut, b.is_lost));
         finds = λ d. at d own other (eqb c d) refl;
-        held = λ d o e. ap (λ x. x) (other d (apart d o e)) ∙ e;
+        held = λ d o e. other d (apart d o e) ∙ e;
         brought = λ joining e. own_of joining e own;
       }
     where
       at : (d : ℕ) → outbox_of rows c ≡ Some joining.outbox → ((d : ℕ) → eqb c d ≡ false → outbox_of rows d ≡ outbox_of olds d) → (t : Bool) → eqb c d ≡ t → finds_of rows d ≡ finds_of olds d
       at d own other true is =
           let same : c ≡ d = eqb-true c d is in
-          subst (λ x. finds_of rows x ≡ finds_of olds x) same (ap finds_in own ∙ b.never ∙ sym (ap finds_in (none_found olds c none)))
+          subst (λ x. finds_of rows x ≡ finds_of olds x) same (ap finds_in own ∙ b.never ∙ sym (ap finds_in (holds_nowhere olds c none)))
       at d own other false is = ap finds_in (other d is)
 
       apart : (d : ℕ) (o : Box) → outbox_of olds d ≡ Some o → eqb c d ≡ false
-      apart d o e = test (eqb c d) refl
-        where
-          test : (t : Bool) → eqb c d ≡ t → t ≡ false
-          test true is = let t = found olds d o e in absurd (none t.0 t.1 t.2 (t.3 ∙ sym (eqb-true c d is)))
-          test false is = refl
+      apart d o e = ne_eqb c d (λ same. let t = found olds d o e in none t.0 t.1 t.2 (t.3 ∙ sym same))
 
       own_of : (other : Joining S) → Join joining ≡ Join other → outbox_of rows c ≡ Some joining.outbox → outbox_of rows c ≡ Some other.outbox
       own_of other e own = let same : joining ≡ other = cc in own ∙ ap (λ (j : Joining S). Some j.outbox) same
@@ -156,7 +108,7 @@ module _ {S : Type 0} where
 
   starts : (c : ℕ) (act : Act S) (h l : History) (olds news : List (Row S)) (before after : List ℕ) → Stands h olds → (is_dropped h c act ≡ true → ⊥)
       → (a : Applies c act h olds before l news after) → Starts c act olds a.rows
-  starts c (Join joining) h l olds news before after s kept a = starts_join c joining olds a.rows (no_row h c olds s.sound (may_if h c kept)) s.unmarked a.brought
+  starts c (Join joining) h l olds news before after s kept a = starts_join c joining olds a.rows (no_row h c olds s.sound (taken (may_join h c) kept)) s.unmarked a.brought
   starts c (Said said) h l olds news before after s kept a = starts_same c (Said said) olds a.rows a.brought (λ joining e. absurd (cc)) s.unmarked
   starts c (Ping payload) h l olds news before after s kept a = starts_same c (Ping payload) olds a.rows a.brought (λ joining e. absurd (cc)) s.unmarked
   starts c Spoilt h l olds news before after s kept a = starts_same c Spoilt olds a.rows a.brought (λ joining e. absurd (cc)) s.unmarked
@@ -175,9 +127,6 @@ module _ {S : Type 0} where
   held_by lost rows ends news w u d o e =
       let t = went_some o (outbox_of ends d) (subst (λ x. BoxWent x (outbox_of ends d)) e (moved_by lost rows ends d w)) in
       (t.0, same_after ends news d u ∙ t.1, t.2)
-
-  back : (lost : List ℕ) (olds ends : List (Row S)) (k : ℕ) (r : Row S) → EachMoved lost olds ends → slice_get ends k ≡ Some r → slice_get olds k ≡ Some (get_or olds k r)
-  back lost olds ends k r w e = read olds k r (let i = within ends k r e in let l = w.0 in omega (arith, i, l))
 
   pub does : (result : Outcome) (same : Type 0) (c : ℕ) (act : Act S) (h l : History) (olds ends news : List (Row S)) (before after named : List ℕ)
       → (same → (l ≡ h) × (ends ≡ olds) × (after ≡ before)) → Stands h olds → Sound l ends → Acts result same c act h olds before l ends after
@@ -221,7 +170,7 @@ module _ {S : Type 0} where
         names = subst (Names P olds news) (sym is) (names_moved t.lost P olds ends news sound.ascending s.unmarked w u
             (λ k r e f.
             let own : c ≡ r.conn = t.of r.conn f in
-            let eo = back t.lost olds ends k r w e in
+            let eo = beside ends olds k r (sym w.0) e in
             let first = (w.1 k (get_or olds k r) r eo e).conn in
             let has : has_joined h c ≡ true = ap (has_joined h) (own ∙ first) ∙ s.sound.joined k (get_or olds k r) eo in
             (refl, ap (live h) (sym own) ∙ lost_live c act h kept has, sym own))
@@ -234,8 +183,6 @@ module _ {S : Type 0} where
         held = λ d o e. held_by t.lost olds ends news w u d o e;
         joined = λ joining e n. absurd (cc);
       }
-
-  -- the rows without their marks
 
   -- rows of the same connections with the same outboxes
 
@@ -252,7 +199,7 @@ module _ {S : Type 0} where
 
   module _ (olds news : List (Row S)) (u : EachSame olds news) where
     was : (k : ℕ) (r : Row S) → slice_get news k ≡ Some r → slice_get olds k ≡ Some (get_or olds k r)
-    was k r e = read olds k r (let i = within news k r e in let l = u.0 in omega (arith, i, l))
+    was k r e = beside news olds k r (sym u.0) e
 
     pub sound_same : (h : History) → Sound h olds → Sound h news
     sound_same h sound = record {

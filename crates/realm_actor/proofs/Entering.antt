@@ -1,37 +1,27 @@
 -- An entry keeps the rows in step with the history.
-use Rattle.std.proofs.Common.{◌≡◌, ◌≢◌, ℕ, zero, suc, ◌<◌, Bool, true, false, cond, not, ◌&&◌, ◌||◌, eqb, is_some, List, [], ◌∷◌, ◌++◌, length, set, get_or, take, refl, sym, ap, ◌∙◌, subst, inl, inr, ⊎_elim, append-nil, append_assoc, arith}
+use Rattle.std.proofs.Common.{◌≡◌, ◌≢◌, ℕ, zero, suc, ◌<◌, Bool, true, false, cond, not, ◌&&◌, ◌||◌, eqb, List, [], ◌∷◌, ◌++◌, length, set, get_or, take, refl, sym, ap, ◌∙◌, subst, inl, inr, ⊎_elim, append-nil, append_assoc, arith}
 use Rattle.std.specs.Prelude.{Option, Some, None, ⊤, slice_get, MatchOption, option_map}
-use Rattle.std.proofs.Math.ListN.{length-set}
-use Rattle.std.proofs.lemmas.Bool.{eqb-true, eq-eqb, or_parts, not-true}
+use Rattle.std.proofs.lemmas.Bool.{eqb-true, eq-eqb, or_parts, not-true, ne_eqb, or_cases, or_left, or_right}
 use Rattle.std.proofs.Math.Bool.{and-false}
 use Rattle.outbox_queue.specs.Rule.{Grows}
 use Rattle.session.specs.declared.item.Item.{Item}
-use Rattle.eligibility.specs.declared.who.Who.{Who}
 use Rattle.realm.specs.declared.entry.Entry.{Entry}
-use Rattle.realm.specs.declared.entry.Entry.TheVariants.{Join, Said, Ping}
+use Rattle.realm.specs.declared.entry.Entry.TheVariants.{Join}
 use Rattle.realm.specs.History.{History, ◌▷◌, Begins, longer}
-use Rattle.realm.specs.Sessions.{who, live, ends, conn_of, may_come}
+use Rattle.realm.specs.Sessions.{who, live, joined, conn_of, may_join, may_come}
 use Rattle.realm.specs.Yield.{yield}
 use Rattle.realm.specs.Given.{items_for, GivesExactly}
-use Rattle.realm.proofs.Ended.{no_events}
-use Rattle.realm.proofs.Joined.{live-joined}
+use Rattle.realm.proofs.Ended.{no_events, no_more}
+use Rattle.realm.proofs.Joined.{live-joined, live-elsewhere}
+use Rattle.realm.proofs.Choices.{clash, not-some}
 use Rattle.realm_actor.specs.declared.row.Held.{Held}
 use Rattle.realm_actor.specs.declared.row.Row.{Row}
 use Rattle.realm_actor.specs.Following.{Box, Follows}
 use Rattle.realm_actor.specs.Rows.{BoxGoes, Rose, box_in, RowDue, RowGoes, Each, Ascending, EachDue, EachGoes, NoneRose}
 use Rattle.realm_actor.specs.Tables.{has_joined, IsOpen, Went, BoxWent, BoxEnds, HasRow, RowWent, EachWent, RowEnds, EachEnds, Sound, Ready}
-use Rattle.realm_actor.proofs.Standing.{same_place, within, read, written, one_place}
+use Rattle.realm_actor.proofs.Standing.{same_place, one_place, beside, pairs_set}
 
 -- Booleans
-
-or_swap : (a b : Bool) → a || b ≡ true → b || a ≡ true
-or_swap true true e = refl
-or_swap true false e = refl
-or_swap false b e = at b e
-  where
-    at : (b : Bool) → b ≡ true → b || false ≡ true
-    at true e = refl
-    at false e = absurd (cc)
 
 shut_here : (b l : Bool) → cond (not b && true) true (not (l || true)) ≡ not b
 shut_here true true = refl
@@ -45,37 +35,16 @@ shut_there true false = refl
 shut_there false true = refl
 shut_there false false = refl
 
--- who is live after an entry
-
-not_ending : (e : Entry) (c : ℕ) → eqb (conn_of e) c ≡ false → ends e c ≡ false
-not_ending (Join d word authid) c n = refl
-not_ending (Said d word said) c n = rw n refl
-not_ending (Ping d payload) c n = refl
-not_ending e c n = n
-
-who_other : (h : History) (e : Entry) (c : ℕ) → eqb (conn_of e) c ≡ false → who (h ▷ e) c ≡ who h c
-unfolding who
-who_other h (Join d word authid) c n = rw n refl
-who_other h e c n = ap (λ b. cond b None (who h c)) (not_ending e c n)
-
-pub live_other : (h : History) (e : Entry) (c : ℕ) → eqb (conn_of e) c ≡ false → live (h ▷ e) c ≡ live h c
-live_other h e c n = ap is_some (who_other h e c n)
-
-not_live : (h : History) (c : ℕ) → live h c ≡ false → who h c ≡ None
-not_live h c n = at (who h c) n
-  where
-    at : (o : Option Who) → is_some o ≡ false → o ≡ None
-    at None n = refl
-    at (Some w) n = absurd (cc)
+-- who may join hasn't joined
+pub not_joined : (h : History) (c : ℕ) → may_join h c ≡ true → has_joined h c ≡ true → ⊥
+not_joined h c may has = clash (may_join h c) may (no_more (joined h) c has)
 
 pub joined_after : (h : History) (e : Entry) (c : ℕ) → may_come h e ≡ true → has_joined h c || eqb (conn_of e) c ≡ true → has_joined (h ▷ e) c ≡ true
-joined_after h (Join d word authid) c come j = or_swap (has_joined h c) (eqb d c) j
-joined_after h e c come j = at (has_joined h c) (eqb (conn_of e) c) refl refl j
-  where
-    at : (a b : Bool) → has_joined h c ≡ a → eqb (conn_of e) c ≡ b → a || b ≡ true → has_joined h c ≡ true
-    at true b is here some = is
-    at false true is here some = subst (λ d. has_joined h d ≡ true) (eqb-true (conn_of e) c here) (live-joined h (conn_of e) come)
-    at false false is here some = absurd (cc)
+joined_after h (Join d word authid) c come j = ⊎_elim (or_right (eqb d c) (has_joined h c)) (or_left (eqb d c) (has_joined h c)) (or_cases (has_joined h c) (eqb d c) j)
+joined_after h e c come j = ⊎_elim
+    (λ (is : has_joined h c ≡ true). is)
+    (λ (here : eqb (conn_of e) c ≡ true). subst (λ d. has_joined h d ≡ true) (eqb-true (conn_of e) c here) (live-joined h (conn_of e) come))
+    (or_cases (has_joined h c) (eqb (conn_of e) c) j)
 
 -- who isn't live is given nothing by an entry of another
 pub quiet : (h : History) (e : Entry) (c : ℕ) → live h c || eqb (conn_of e) c ≡ false → yield h e c ≡ []
@@ -83,7 +52,7 @@ unfolding yield
 quiet h e c n =
     let both = or_parts (live h c) (eqb (conn_of e) c) n in
     let elsewhere : eqb (conn_of e) c ≡ false = both.1 in
-    let none : who h c ≡ None = not_live h c both.0 in
+    let none : who h c ≡ None = not-some (who h c) both.0 in
     rw (elsewhere, no_events h e c none elsewhere)
 
 -- what is due by an entry
@@ -188,10 +157,6 @@ module _ {S : Type 0} where
     is_lost = e.is_lost ∙ g.is_lost;
   }
 
-  -- the row between, at a place
-  between : (xs ys : List (Row S)) (k : ℕ) (o : Row S) → length ys ≡ length xs → slice_get xs k ≡ Some o → slice_get ys k ≡ Some (get_or ys k o)
-  between xs ys k o l get = read ys k o (let w = within xs k o get in omega (arith, w, l))
-
   module _ (h : History) (e : Entry) (c : ℕ) (olds mid news : List (Row S)) (own : conn_of e ≡ c) (come : may_come h e ≡ true) (ready : Ready e h olds)
       (goes : EachGoes olds mid) (due : EachDue (h ▷ e) [] mid) (ended : EachEnds c (live (h ▷ e) c) mid news) where
     abbrev after : History
@@ -201,7 +166,7 @@ module _ {S : Type 0} where
     went_all = (
       ended.0 ∙ goes.0,
       λ k o p eo ep.
-          let em = between olds mid k o goes.0 eo in
+          let em = beside olds mid k o goes.0 eo in
           row_went c (live after c) o (get_or mid k o) p (goes.1 k o (get_or mid k o) eo em) (ended.1 k (get_or mid k o) p em ep),
     )
 
@@ -211,7 +176,7 @@ module _ {S : Type 0} where
         let s = has.1 in
         let l = went_all.0 in
         let inside = s.0 in
-        let en = between olds news k s.1 l s.2 in
+        let en = beside olds news k s.1 l s.2 in
         let w : k < length news = omega (arith, inside, l) in
         (k, (w, get_or news k s.1, en, (went_all.1 k s.1 (get_or news k s.1) s.2 en).conn ∙ s.3))
 
@@ -236,15 +201,15 @@ module _ {S : Type 0} where
             (ap (λ b. cond (not (live after c) && b) true (not (live h o.conn || eqb (conn_of e) o.conn))) is
             ∙ ap (λ b. cond (not (live after c) && false) true (not (live h o.conn || b))) test
             ∙ shut_there (live after c) (live h o.conn)
-            ∙ ap not (sym (live_other h e o.conn test))
+            ∙ ap not (sym (live-elsewhere h e o.conn test))
             ∙ ap (λ d. not (live after d)) (sym (x.conn ∙ g.conn))) in
             open_ends (live h o.conn || eqb (conn_of e) o.conn) (live after p.conn) (not (live after c) && eqb c m.conn) (box_in o) (box_in m) (box_in p) told is_open g.box x.box
 
     ascending_after : Ascending news
     ascending_after i j r s less er es =
         let l = went_all.0 in
-        let ri = between news olds i r (sym l) er in
-        let sj = between news olds j s (sym l) es in
+        let ri = beside news olds i r (sym l) er in
+        let sj = beside news olds j s (sym l) es in
         let before = ready.ascending i j (get_or olds i r) (get_or olds j s) less ri sj in
         let a = (went_all.1 i (get_or olds i r) r ri er).conn in
         let b = (went_all.1 j (get_or olds j s) s sj es).conn in
@@ -255,22 +220,22 @@ module _ {S : Type 0} where
       where
         at : (b : Bool) → eqb (conn_of e) d ≡ b → HasRow news d
         at true is = subst (λ x. HasRow news x) (eqb-true (conn_of e) d is) (has_after (conn_of e) ready.own)
-        at false is = has_after d (ready.has_rows d (sym (live_other h e d is) ∙ is_live))
+        at false is = has_after d (ready.has_rows d (sym (live-elsewhere h e d is) ∙ is_live))
 
     pub sound_after : Sound after news
     sound_after = record {
       ascending = ascending_after;
       in_step = λ k p ep.
           let l = ended.0 in
-          let em = between news mid k p (sym l) ep in
+          let em = beside news mid k p (sym l) ep in
           let x = ended.1 k (get_or mid k p) p em ep in
           of_box after p (follows_ends after (not (live after c) && eqb c (get_or mid k p).conn) (box_in (get_or mid k p)) (box_in p) x.box (to_box after (get_or mid k p) (due k (get_or mid k p) em)));
       is_open = λ k p ep.
-          let em = between news mid k p (sym ended.0) ep in
-          let eo = between news olds k p (sym went_all.0) ep in
+          let em = beside news mid k p (sym ended.0) ep in
+          let eo = beside news olds k p (sym went_all.0) ep in
           open_row (get_or olds k p) (get_or mid k p) p (ready.is_open k (get_or olds k p) eo) (goes.1 k (get_or olds k p) (get_or mid k p) eo em) (ended.1 k (get_or mid k p) p em ep);
       joined = λ k p ep.
-          let eo = between news olds k p (sym went_all.0) ep in
+          let eo = beside news olds k p (sym went_all.0) ep in
           let same_conn = (went_all.1 k (get_or olds k p) p eo ep).conn in
           subst (λ d. has_joined after d ≡ true) (sym same_conn) (joined_after h e (get_or olds k p).conn come (ready.joined k (get_or olds k p) eo));
       has_rows = live_has;
@@ -286,19 +251,12 @@ BoxEnds-same shut (Some o) is = ap (λ b. let q : Box = record o { is_closed = c
 BoxEnds-by : (shut : Bool) (o p : Option Box) → shut ≡ true → BoxEnds true o p → BoxEnds shut o p
 BoxEnds-by shut o p is e = subst (λ b. BoxEnds b o p) (sym is) e
 
-other_conn : (c d : ℕ) → d ≢ c → eqb c d ≡ false
-other_conn c d n = at (eqb c d) refl
-  where
-    at : (b : Bool) → eqb c d ≡ b → b ≡ false
-    at true is = absurd (n (sym (eqb-true c d is)))
-    at false is = refl
-
 module _ {S : Type 0} where
   RowEnds-other : (c : ℕ) (b : Bool) (r : Row S) → not b && eqb c r.conn ≡ false → RowEnds c b r r
   RowEnds-other c b r is = record { conn = refl; is_cut = refl; is_lost = refl; box = BoxEnds-same (not b && eqb c r.conn) (box_in r) is }
 
   RowEnds-away : (c : ℕ) (b : Bool) (r : Row S) → r.conn ≢ c → RowEnds c b r r
-  RowEnds-away c b r n = RowEnds-other c b r (ap (λ x. not b && x) (other_conn c r.conn n) ∙ and-false (not b))
+  RowEnds-away c b r n = RowEnds-other c b r (ap (λ x. not b && x) (ne_eqb c r.conn (λ same. n (sym same))) ∙ and-false (not b))
 
   pub ends_live : (c : ℕ) (b : Bool) (rows : List (Row S)) → b ≡ true → EachEnds c b rows rows
   ends_live c b rows is = (refl, λ k o p eo ep. subst (λ q. RowEnds c b o q) (same_place rows k o p eo ep) (RowEnds-other c b o (ap (λ x. not x && eqb c o.conn) is)))
@@ -308,20 +266,11 @@ module _ {S : Type 0} where
 
   pub ends_here : (c : ℕ) (b : Bool) (rows : List (Row S)) (p : ℕ) (r s : Row S) → b ≡ false → Ascending rows → slice_get rows p ≡ Some r → r.conn ≡ c
       → s.conn ≡ r.conn → s.is_cut ≡ r.is_cut → s.is_lost ≡ r.is_lost → BoxEnds true (box_in r) (box_in s) → EachEnds c b rows (set rows p s)
-  ends_here c b rows p r s dead up get own kept cut lost box = (
-    length-set rows p s,
-    λ k o t eo et. ⊎_elim
-        (λ (here : (k ≡ p) × (s ≡ t)).
-        let one : r ≡ o = same_place rows p r o get (sym (ap (slice_get rows) here.0) ∙ eo) in
-        let shut : not b && eqb c r.conn ≡ true = ap (λ x. not x && eqb c r.conn) dead ∙ eq-eqb c r.conn (sym own) in
-        let first : RowEnds c b r s = record { conn = kept; is_cut = cut; is_lost = lost; box = BoxEnds-by (not b && eqb c r.conn) (box_in r) (box_in s) shut box } in
-        subst (λ t. RowEnds c b o t) here.1 (subst (λ o. RowEnds c b o s) one first))
-        (λ (there : (k ≢ p) × (slice_get rows k ≡ Some t)).
-        let one : o ≡ t = same_place rows k o t eo there.1 in
-        let away : o.conn ≢ c = λ same. there.0 (one_place rows c k p o r up eo get same own) in
-        subst (λ t. RowEnds c b o t) one (RowEnds-away c b o away))
-        (written rows p k s t et),
-  )
+  ends_here c b rows p r s dead up get own kept cut lost box =
+      let shut : not b && eqb c r.conn ≡ true = ap (λ x. not x && eqb c r.conn) dead ∙ eq-eqb c r.conn (sym own) in
+      pairs_set rows p r s (RowEnds c b) get
+      (record { conn = kept; is_cut = cut; is_lost = lost; box = BoxEnds-by (not b && eqb c r.conn) (box_in r) (box_in s) shut box })
+      (λ k o away eo. RowEnds-away c b o (λ same. away (one_place rows c k p o r up eo get same own)))
 
 pub taken_whole : {A : Type 0} (n : ℕ) (xs ys : List A) → length xs ≡ n → take n (xs ++ ys) ≡ xs
 taken_whole zero [] ys e = refl
@@ -332,6 +281,6 @@ taken_whole (suc n) (x ∷ xs) ys e = ap (λ l. x ∷ l) (taken_whole n xs ys (o
 -- where no item was refused, no row is found full after the closing either
 pub none_ends : {S : Type 0} (c : ℕ) (b : Bool) (olds mid news : List (Row S)) → EachGoes olds mid → EachEnds c b mid news → NoneRose olds mid → NoneRose olds news
 none_ends c b olds mid news goes ended none k o p eo ep h =
-    let em = between olds mid k o goes.0 eo in
+    let em = beside olds mid k o goes.0 eo in
     let x = ended.1 k (get_or mid k o) p em ep in
     none k o (get_or mid k o) eo em (rose_ends (not b && eqb c (get_or mid k o).conn) (box_in o) (box_in (get_or mid k o)) (box_in p) x.box h)

@@ -1,17 +1,17 @@
 -- Who is live is held through a run, and who was closed by it.
-use Rattle.std.proofs.Common.{◌≡◌, ◌⊎◌, ℕ, Bool, true, false, true≢false, cond, ◌||◌, eqb, is_some, List, [], ◌∷◌, ◌++◌, refl, sym, ap, subst, ◌∙◌, inl, inr, ⊎_elim}
+use Rattle.std.proofs.Common.{◌≡◌, ◌⊎◌, ℕ, Bool, true, false, cond, ◌||◌, eqb, is_some, List, refl, sym, ap, ◌∙◌, inl, inr, ⊎_elim}
 use Rattle.std.specs.Prelude.{Option, Some, None}
 use Rattle.std.proofs.lemmas.Bool.{eqb-true}
 use Rattle.eligibility.specs.declared.who.Who.{Who}
-use Rattle.realm.specs.declared.entry.Entry.TheVariants as entry
 use Rattle.realm.specs.History.{History, ◌▷◌}
 use Rattle.realm.specs.Sessions.{who, live, ends}
+use Rattle.realm.proofs.Choices.{clash, some-before, none-since}
 use Rattle.realm_inbox.specs.declared.joining.Joining.{Joining}
 use Rattle.realm_inbox.specs.declared.act.Act as the
 use Rattle.realm_inbox.specs.declared.act.Act.TheVariants.{Join, Said, Ping, Spoilt, Gone}
 use Rattle.realm_inbox.specs.declared.letter.Letter.{Letter}
 use Rattle.realm_inbox.specs.declared.letter.Post.{Post}
-use Rattle.realm_inbox.specs.declared.letter.Post.TheVariants.{Act, Stop}
+use Rattle.realm_inbox.specs.declared.letter.Post.TheVariants.{Act}
 use Rattle.realm_actor.specs.declared.row.Row.{Row}
 use Rattle.realm_actor.specs.declared.outcome.Outcome.{Outcome}
 use Rattle.realm_actor.specs.declared.outcome.Outcome.TheVariants.{Applied, Dropped, NoMemory}
@@ -28,30 +28,19 @@ use Rattle.realm_actor.specs.Running as running
 use Rattle.realm_actor.proofs.Stopping.{cuts_dead, still_dead}
 use Rattle.realm_actor.proofs.Making.{stop_closing, closed_runs}
 
-clash : (b : Bool) {P : Type 0} → b ≡ true → b ≡ false → P
-clash b e f = absurd (true≢false (sym e ∙ f))
-
 by_bool : (b : Bool) (P : Type 0) → (b ≡ true → P) → (b ≡ false → P) → P
 by_bool true P f g = f refl
 by_bool false P f g = g refl
-
-still : (b : Bool) (o : Option Who) → is_some (cond b None o) ≡ true → is_some o ≡ true
-still true o e = absurd (cc)
-still false o e = e
 
 of_cond : (b : Bool) (x o : Option Who) → is_some o ≡ false → is_some (cond b x o) ≡ true → b ≡ true
 of_cond true x o dead is = refl
 of_cond false x o dead is = clash (is_some o) is dead
 
-gone : (b : Bool) (o : Option Who) → is_some o ≡ false → is_some (cond b None o) ≡ false
-gone true o e = refl
-gone false o e = e
-
 closing_dead : (h k : History) (c : ℕ) → AfterClosing h k → live h c ≡ false → live k c ≡ false
 unfolding who
 closing_dead h k c of.AfterClosing.none dead = dead
-closing_dead h _ c (of.AfterClosing.closed {k = k} d word is more) dead = gone (eqb d c) (who k c) (closing_dead h k c more dead)
-closing_dead h _ c (of.AfterClosing.cut {k = k} d word more) dead = gone (eqb d c) (who k c) (closing_dead h k c more dead)
+closing_dead h _ c (of.AfterClosing.closed {k = k} d word is more) dead = none-since (eqb d c) (who k c) (closing_dead h k c more dead)
+closing_dead h _ c (of.AfterClosing.cut {k = k} d word more) dead = none-since (eqb d c) (who k c) (closing_dead h k c more dead)
 
 -- who was closed was live
 closing_live : (h k : History) (c : ℕ) → AfterClosing h k → was_closed c h ≡ false → was_closed c k ≡ true → live h c ≡ true
@@ -70,10 +59,10 @@ module _ {S : Type 0} where
   entry_live : (h : History) (d : ℕ) (act : the.Act S) (word c : ℕ) → live h c ≡ false → live (h ▷ entry_of d act word) c ≡ true → (joining : Joining S) × (act ≡ Join joining) × (d ≡ c)
   unfolding who
   entry_live h d (Join joining) word c dead is = (joining, refl, eqb-true d c (of_cond (eqb d c) _ (who h c) dead is))
-  entry_live h d (Said said) word c dead is = clash (live h c) (still (ends (entry_of {S = S} d (Said said) word) c) (who h c) is) dead
-  entry_live h d (Ping payload) word c dead is = clash (live h c) (still (ends (entry_of {S = S} d (Ping payload) word) c) (who h c) is) dead
-  entry_live h d Spoilt word c dead is = clash (live h c) (still (ends (entry_of {S = S} d Spoilt word) c) (who h c) is) dead
-  entry_live h d Gone word c dead is = clash (live h c) (still (ends (entry_of {S = S} d Gone word) c) (who h c) is) dead
+  entry_live h d (Said said) word c dead is = clash (live h c) (some-before (ends (entry_of {S = S} d (Said said) word) c) (who h c) is) dead
+  entry_live h d (Ping payload) word c dead is = clash (live h c) (some-before (ends (entry_of {S = S} d (Ping payload) word) c) (who h c) is) dead
+  entry_live h d Spoilt word c dead is = clash (live h c) (some-before (ends (entry_of {S = S} d Spoilt word) c) (who h c) is) dead
+  entry_live h d Gone word c dead is = clash (live h c) (some-before (ends (entry_of {S = S} d Gone word) c) (who h c) is) dead
 
   loses_dead : {d : ℕ} {h l : History} {rows news : List (Row S)} {before after : List ℕ} (c : ℕ) → Loses d h rows before l news after → live h c ≡ false → live l c ≡ false
   loses_dead c (handling.Loses.not_live lost gone few) dead = dead

@@ -1,21 +1,21 @@
 -- A row is put among the rows, for a connection that joins.
-use Rattle.std.proofs.Common.{◌≡◌, ◌≢◌, ℕ, zero, suc, ◌<◌, ◌≤◌, Bool, true, false, not, ◌||◌, eqb, List, [], ◌∷◌, ◌++◌, length, refl, sym, ap, ◌∙◌, subst, arith}
+use Rattle.std.proofs.Common.{◌≡◌, ◌≢◌, ℕ, zero, suc, ◌<◌, ◌≤◌, true, false, not, ◌||◌, eqb, List, [], ◌∷◌, ◌++◌, length, refl, sym, ap, ◌∙◌, subst, arith}
 use Rattle.std.specs.Prelude.{Some, None, ⊤, slice_get, MatchOption}
 use Rattle.std.specs.List.{insert}
-use Rattle.std.proofs.lemmas.Bool.{eqb-true, eq-eqb, or_left, or_right}
+use Rattle.std.proofs.lemmas.Bool.{eq-eqb, or_left, or_right, ne_eqb, or_from, false_from_ne_true}
+use Rattle.std.proofs.Math.Bool.{or-false}
 use Rattle.realm.specs.declared.entry.Entry.{Entry}
 use Rattle.outbox_queue.specs.Rule.{Grows}
 use Rattle.realm.specs.History.{History, begun, ◌▷◌, Begins}
 use Rattle.realm.specs.Sessions.{live, joined, conn_of, may_join, IsHistory}
 use Rattle.realm.specs.Yield.{owed, yield}
-use Rattle.realm.proofs.Ended.{no_more}
 use Rattle.realm.proofs.Joined.{live-joined}
 use Rattle.realm_actor.specs.declared.row.Row.{Row}
 use Rattle.realm_actor.specs.Following.{Box, Follows}
 use Rattle.realm_actor.specs.Rows.{box_in, RowDue, Each, Ascending, PartsAt}
 use Rattle.realm_actor.specs.Tables.{has_joined, IsOpen, HasRow, Sound, Ready}
-use Rattle.realm_actor.proofs.Standing.{within}
-use Rattle.realm_actor.proofs.Entering.{joined_after, quiet, of_box}
+use Rattle.realm_actor.proofs.Standing.{within, insert_all}
+use Rattle.realm_actor.proofs.Entering.{joined_after, quiet, of_box, not_joined}
 
 -- where the row at a place of the longer list comes from
 data From {A : Type 0} (xs : List A) (i : ℕ) (a : A) (k : ℕ) (r : A) : Type 0 where
@@ -51,23 +51,15 @@ module _ {A : Type 0} where
   still_there (x ∷ xs) (suc i) a (suc k) r h e = let t = still_there xs i a k r (omega (arith, h)) e in (suc t.0, t.1)
 
 -- who never joined is owed nothing
-or_none : (a b : Bool) → (a ≡ true → ⊥) → (b ≡ true → ⊥) → a || b ≡ false
-or_none true b n m = absurd (n refl)
-or_none false true n m = absurd (m refl)
-or_none false false n m = refl
-
 pub never_owed : (h : History) (c : ℕ) → IsHistory h → (has_joined h c ≡ true → ⊥) → owed h c ≡ []
 never_owed (begun grants) c legal n = refl
 never_owed (h ▷ e) c legal n =
     let apart : has_joined h c || eqb (conn_of e) c ≡ true → ⊥ = λ y. n (joined_after h e c legal.1 y) in
     let dead : live h c || eqb (conn_of e) c ≡ false =
-    or_none (live h c) (eqb (conn_of e) c)
-    (λ y. apart (or_left (has_joined h c) (eqb (conn_of e) c) (live-joined h c y)))
-    (λ y. apart (or_right (has_joined h c) (eqb (conn_of e) c) y)) in
+    or_from (live h c) (eqb (conn_of e) c)
+    (false_from_ne_true (live h c) (λ y. apart (or_left (has_joined h c) (eqb (conn_of e) c) (live-joined h c y))))
+    (false_from_ne_true (eqb (conn_of e) c) (λ y. apart (or_right (has_joined h c) (eqb (conn_of e) c) y))) in
     ap (λ l. l ++ yield h e c) (never_owed h c legal.0 (λ y. apart (or_left (has_joined h c) (eqb (conn_of e) c) y))) ∙ quiet h e c dead
-
-not_joined : (h : History) (c : ℕ) → may_join h c ≡ true → has_joined h c ≡ true → ⊥
-not_joined h c may has = let never : may_join h c ≡ false = no_more (joined h) c has in cc
 
 new_follows : (h : History) (o : Box) → owed h o.conn ≡ [] → o.added ≡ [] → o.history ≡ None → Follows h [] o
 new_follows h o none empty unseen =
@@ -116,26 +108,13 @@ module _ {S : Type 0} where
         ]
 
     each_new : (P : Row S → Type 0) → P a → Each P rows → Each P (insert rows i a)
-    each_new P first rest k r get =
-        elim (from rows i a k r parts.0 get) as (λ _. P r) [
-          | before l g ↦ rest k r g
-          | here l g ↦ subst P g first
-          | behind j l m g ↦ rest j r g
-        ]
+    each_new P first rest = insert_all P rows i a rest first
 
     here_test : eqb (conn_of e) a.conn ≡ true
     here_test = eq-eqb (conn_of e) a.conn (own ∙ sym conn)
 
     away_test : (r : Row S) → r.conn ≢ c → eqb (conn_of e) r.conn ≡ false
-    away_test r n = at (eqb (conn_of e) r.conn) refl
-      where
-        at : (b : Bool) → eqb (conn_of e) r.conn ≡ b → b ≡ false
-        at true is = absurd (n (sym (eqb-true (conn_of e) r.conn is) ∙ own))
-        at false is = refl
-
-    or_nothing : (b : Bool) → b || false ≡ b
-    or_nothing true = refl
-    or_nothing false = refl
+    away_test r n = ne_eqb (conn_of e) r.conn (λ same. n (sym same ∙ own))
 
     open_new : IsOpen (live h a.conn || eqb (conn_of e) a.conn) (box_in a)
     open_new = subst (λ x. IsOpen (live h a.conn || eqb (conn_of e) a.conn) x) (sym box) (fresh ∙ sym (ap not (or_right (live h a.conn) (eqb (conn_of e) a.conn) here_test)))
@@ -147,7 +126,7 @@ module _ {S : Type 0} where
           (of_box h a (subst (λ x. MatchOption x ⊤ (λ y. Follows h [] y)) (sym box) (new_follows h o (ap (owed h) of ∙ never_owed h c sound.legal (not_joined h c may)) empty unseen)))
           sound.in_step;
       is_open = each_new (λ r. IsOpen (live h r.conn || eqb (conn_of e) r.conn) (box_in r)) open_new
-          (λ k r get. subst (λ b. IsOpen b (box_in r)) (sym (ap (λ b. live h r.conn || b) (away_test r (other k r get)) ∙ or_nothing (live h r.conn))) (sound.is_open k r get));
+          (λ k r get. subst (λ b. IsOpen b (box_in r)) (sym (ap (λ b. live h r.conn || b) (away_test r (other k r get)) ∙ or-false (live h r.conn))) (sound.is_open k r get));
       joined = each_new (λ r. has_joined h r.conn || eqb (conn_of e) r.conn ≡ true) (or_right (has_joined h a.conn) (eqb (conn_of e) a.conn) here_test)
           (λ k r get. or_left (has_joined h r.conn) (eqb (conn_of e) r.conn) (sound.joined k r get));
       has_rows = λ d is_live. has_somewhere rows i a d parts.0 (sound.has_rows d is_live);

@@ -1,17 +1,16 @@
 -- The history keeps the order of what was handled, and of what was posted.
-use Rattle.std.proofs.Common.{◌≡◌, ℕ, Bool, true, false, true≢false, cond, not, ◌&&◌, eqb, List, [], ◌∷◌, ◌++◌, None, is_some, refl, sym, ap, subst, ◌∙◌, append-nil, append_assoc}
-use Rattle.std.specs.declared.option.Option.{Option}
+use Rattle.std.proofs.Common.{◌≡◌, ℕ, Bool, true, false, true≢false, cond, not, eqb, List, [], ◌∷◌, ◌++◌, refl, sym, ap, subst, ◌∙◌, append-nil, append_assoc}
 use Rattle.std.proofs.lemmas.Bool.{eqb-true, eq-eqb}
 use Rattle.std.proofs.lemmas.List.Elements.{filter-append}
 use Rattle.wamp_ids.specs.Numbers.{seat_of}
-use Rattle.eligibility.specs.declared.who.Who.{Who}
 use Rattle.realm.specs.declared.entry.Entry.{Entry}
 use Rattle.realm.specs.declared.entry.Entry.TheVariants as entry
 use Rattle.realm.specs.Granting.{Grants}
 use Rattle.realm.specs.History.{History, begun, ◌▷◌}
 use Rattle.realm.specs.Sessions.{conn_of, who, live, may_come, may_join}
-use Rattle.realm.specs.PostedOrder.{posts_of, said_by, AreSome, joins_first_alone}
-use Rattle.realm.proofs.Entering.{Ordered, order-begun, order-accepted, order-dropped, order-lost, order-lost-cut, order-cut, some-more, joins-before}
+use Rattle.realm.specs.PostedOrder.{posts_of, said_by, AreSome}
+use Rattle.realm.proofs.Entering.{Ordered, order-begun, order-accepted, order-dropped, order-lost, order-lost-cut, order-cut, some-more, joins-before, said-kept}
+use Rattle.realm.proofs.Choices.{some-before}
 use Rattle.realm_inbox.specs.declared.act.Act as the
 use Rattle.realm_inbox.specs.declared.act.Act.TheVariants.{Join, Said, Ping, Spoilt, Gone}
 use Rattle.realm_inbox.specs.declared.letter.Letter.{Letter}
@@ -32,26 +31,15 @@ flip false true e = refl
 flip false false e = absurd (true≢false e)
 
 -- a Closed leaves the order acts it is
-still : (b : Bool) (o : Option Who) → is_some (cond b None o) ≡ true → is_some o ≡ true
-still true o e = absurd (cc)
-still false o e = e
-
 live-closed : (h : History) (c word d : ℕ) → live (h ▷ entry.Closed c word) d ≡ true → live h d ≡ true
 unfolding who
-live-closed h c word d e = still (eqb c d) (who h d) e
-
-pub said-closed : (h : History) (c word d : ℕ) → said_by d (h ▷ entry.Closed c word) ≡ said_by d h
-said-closed h c word d = at (eqb c d)
-  where
-    at : (b : Bool) → said_by d h ++ cond (b && false) (entry.Closed c word ∷ []) [] ≡ said_by d h
-    at true = append-nil (said_by d h)
-    at false = append-nil (said_by d h)
+live-closed h c word d e = some-before (eqb c d) (who h d) e
 
 order-closed : (h : History) (es : List Entry) (c word : ℕ) → Ordered h es → Ordered (h ▷ entry.Closed c word) es
 order-closed h es c word before = record {
-  some = λ d. subst (λ l. AreSome l (posts_of d es)) (sym (said-closed h c word d)) (before.some d);
-  begins = λ d joins. let b = before.begins d joins in (b.0, b.1 ∙ ap (λ l. l ++ b.0) (sym (said-closed h c word d)));
-  all = λ d joins is_live. said-closed h c word d ∙ before.all d joins (live-closed h c word d is_live);
+  some = λ d. subst (λ l. AreSome l (posts_of d es)) (sym (said-kept d h (entry.Closed c word) refl)) (before.some d);
+  begins = λ d joins. let b = before.begins d joins in (b.0, b.1 ∙ ap (λ l. l ++ b.0) (sym (said-kept d h (entry.Closed c word) refl)));
+  all = λ d joins is_live. said-kept d h (entry.Closed c word) refl ∙ before.all d joins (live-closed h c word d is_live);
 }
 
 after-cuts : (h k : History) (es : List Entry) → Ordered h es → AfterCuts h k → Ordered k es

@@ -1,12 +1,14 @@
 -- What a table knows of its rows stays right.
-use Rattle.std.proofs.Common.{◌≡◌, ◌≢◌, ◌⊎◌, ℕ, suc, ◌<◌, ◌≤◌, Bool, true, false, cond, not, ◌||◌, eqb, List, [], ◌∷◌, length, get_or, set, refl, sym, ap, ◌∙◌, subst, inl, inr, ⊎_elim, arith}
+use Rattle.std.proofs.Common.{◌≡◌, ◌≢◌, ◌⊎◌, ℕ, suc, ◌<◌, ◌≤◌, Bool, true, false, cond, not, ◌||◌, eqb, List, [], ◌∷◌, get_or, set, refl, sym, ap, ◌∙◌, subst, inl, inr, ⊎_elim, arith}
 use Rattle.std.specs.Prelude.{Option, Some, None, slice_get, Result, Ok, Err, IfOk, IfErr}
 use Rattle.std.specs.List.{insert, filter}
-use Rattle.std.proofs.lemmas.Bool.{eqb-true, eq-eqb, or_parts, not-false}
-use Rattle.std.proofs.Math.ListN.{length-set}
+use Rattle.std.proofs.lemmas.Bool.{eqb-true, eq-eqb, or_parts, not-false, ne_eqb, or_right, false_from_ne_true}
+use Rattle.std.proofs.Math.Bool.{or-false}
 use Rattle.realm.specs.declared.entry.Entry.{Entry}
 use Rattle.realm.specs.History.{History, ◌▷◌}
 use Rattle.realm.specs.Sessions.{live, conn_of}
+use Rattle.realm.proofs.Choices.{clash}
+use Rattle.realm.proofs.Joined.{live-elsewhere}
 use Rattle.realm_actor.specs.declared.row.Row.{Row}
 use Rattle.realm_actor.specs.declared.table.Table.{Table}
 use Rattle.realm_actor.specs.Following.{Box}
@@ -19,9 +21,7 @@ use Rattle.realm_actor.specs.Settling.{EmptiesOne}
 use Rattle.outbox_queue.specs.Ends.{Taking}
 use Rattle.session.specs.declared.item.Item.{Item}
 use Rattle.realm_actor.specs.Standing.{Knows}
-use Rattle.realm_actor.proofs.Standing.{read, within, same_place, written, below_or, one_place}
-use Rattle.realm_actor.proofs.Entering.{live_other}
-use Rattle.realm_actor.proofs.Doing.{insert_all}
+use Rattle.realm_actor.proofs.Standing.{same_place, below_or, one_place, beside, each_set, insert_all, pairs_set}
 use Rattle.realm_actor.proofs.Marks.{unmarked_after}
 use Rattle.realm_actor.proofs.Leaving.{source}
 
@@ -33,32 +33,21 @@ full_before (Some o) (Some p) w n f =
     let more = f.0 in
     let up = w.finds in
     let same : o.full_finds ≡ p.full_finds = ⊎_elim (λ (h : o.full_finds < p.full_finds). absurd (n h)) (λ (h : p.full_finds ≤ o.full_finds). omega (arith, up, h)) (below_or o.full_finds p.full_finds) in
-    (omega (arith, more, same), at o.is_closed refl)
-  where
-    at : (b : Bool) → o.is_closed ≡ b → o.is_closed ≡ false
-    at true is = let shut = w.shut is in let unshut = f.1 in absurd (cc)
-    at false is = is
+    (omega (arith, more, same), false_from_ne_true o.is_closed (λ is. clash p.is_closed (w.shut is) f.1))
 
 module _ {S : Type 0} where
-  before : (olds news : List (Row S)) (k : ℕ) (p : Row S) → length news ≡ length olds → slice_get news k ≡ Some p → slice_get olds k ≡ Some (get_or olds k p)
-  before olds news k p l e = read olds k p (let w = within news k p e in omega (arith, w, l))
-
   -- where no row was found full, none is full that wasn't
   pub still_none : (olds news : List (Row S)) → EachWent olds news → NoneRose olds news → NoneFull olds → NoneFull news
   still_none olds news w none full k p e is =
-      let eo = before olds news k p w.0 e in
+      let eo = beside news olds k p (sym w.0) e in
       full k (get_or olds k p) eo (full_before (box_in (get_or olds k p)) (box_in p) (w.1 k (get_or olds k p) p eo e).box (none k (get_or olds k p) p eo e) is)
 
   kept : (o p : Row S) → RowWent o p → (Rose (box_in o) (box_in p) → ⊥) → o.is_cut ≡ false → p.is_cut ≡ false
-  kept o p t none was = at p.is_cut refl
-    where
-      at : (b : Bool) → p.is_cut ≡ b → b ≡ false
-      at true is = absurd (⊎_elim (λ (x : o.is_cut ≡ true). let no : true ≡ false = sym x ∙ was in absurd (cc)) (λ (x : Rose (box_in o) (box_in p)). none x) (t.only is))
-      at false is = refl
+  kept o p t none was = false_from_ne_true p.is_cut (λ is. ⊎_elim (λ (x : o.is_cut ≡ true). clash o.is_cut x was) (λ (x : Rose (box_in o) (box_in p)). none x) (t.only is))
 
   still_unmarked : (olds news : List (Row S)) → EachWent olds news → NoneRose olds news → NoMarks olds → NoMarks news
   still_unmarked olds news w none unmarked k p e =
-      let eo = before olds news k p w.0 e in
+      let eo = beside news olds k p (sym w.0) e in
       let o : Row S = get_or olds k p in
       let t = w.1 k o p eo e in
       let was = unmarked k o eo in
@@ -66,13 +55,13 @@ module _ {S : Type 0} where
 
   still_live : (h : History) (e : Entry) (c : ℕ) (olds news : List (Row S)) → conn_of e ≡ c → EachWent olds news → live (h ▷ e) c ≡ true → Each (λ r. (live h r.conn ≡ true) ⊎ (r.conn ≡ c)) olds → Each (λ r. live (h ▷ e) r.conn ≡ true) news
   still_live h e c olds news own w is all k p get =
-      let eo = before olds news k p w.0 get in
+      let eo = beside news olds k p (sym w.0) get in
       let o : Row S = get_or olds k p in
       at (eqb (conn_of e) p.conn) refl (⊎_elim (λ (x : live h o.conn ≡ true). inl (ap (live h) (w.1 k o p eo get).conn ∙ x)) (λ (x : o.conn ≡ c). inr ((w.1 k o p eo get).conn ∙ x)) (all k o eo))
     where
       at : (b : Bool) → eqb (conn_of e) p.conn ≡ b → (live h p.conn ≡ true) ⊎ (p.conn ≡ c) → live (h ▷ e) p.conn ≡ true
       at true here either = ap (live (h ▷ e)) (sym (eqb-true (conn_of e) p.conn here) ∙ own) ∙ is
-      at false away either = ⊎_elim (λ (x : live h p.conn ≡ true). live_other h e p.conn away ∙ x) (λ (x : p.conn ≡ c). ap (live (h ▷ e)) x ∙ is) either
+      at false away either = ⊎_elim (λ (x : live h p.conn ≡ true). live-elsewhere h e p.conn away ∙ x) (λ (x : p.conn ≡ c). ap (live (h ▷ e)) x ∙ is) either
 
   -- after an entry of c
   pub knows_entry : (old new : Table S) (h : History) (e : Entry) (c : ℕ) (is_full is_live : Bool) → conn_of e ≡ c → new.realm ≡ h ▷ e → old.realm ≡ h → is_live ≡ live (h ▷ e) c
@@ -115,44 +104,22 @@ module _ {S : Type 0} where
   -- the row of c is marked as lost
 
   marked_other : (c : ℕ) (r : Row S) → r.conn ≢ c → RowMarked c r r
-  marked_other c r n = record { conn = refl; held = refl; is_cut = refl; is_lost = sym (ap (λ b. r.is_lost || b) (at (eqb c r.conn) refl) ∙ or_none r.is_lost) }
-    where
-      at : (b : Bool) → eqb c r.conn ≡ b → b ≡ false
-      at true is = absurd (n (sym (eqb-true c r.conn is)))
-      at false is = refl
-
-      or_none : (b : Bool) → b || false ≡ b
-      or_none true = refl
-      or_none false = refl
+  marked_other c r n = record { conn = refl; held = refl; is_cut = refl; is_lost = sym (ap (λ b. r.is_lost || b) (ne_eqb c r.conn (λ same. n (sym same))) ∙ or-false r.is_lost) }
 
   pub marked_nowhere : (c : ℕ) (rows : List (Row S)) → Each (λ r. r.conn ≢ c) rows → EachMarked c rows rows
   marked_nowhere c rows none = (refl, λ k o p eo ep. subst (λ q. RowMarked c o q) (same_place rows k o p eo ep) (marked_other c o (none k o eo)))
 
   pub marked_here : (c : ℕ) (rows : List (Row S)) (p : ℕ) (r s : Row S) → Ascending rows → slice_get rows p ≡ Some r → r.conn ≡ c → s.conn ≡ r.conn → s.held ≡ r.held → s.is_cut ≡ r.is_cut → s.is_lost ≡ true
       → EachMarked c rows (set rows p s)
-  marked_here c rows p r s up get own conn held is_cut is_lost = (
-    length-set rows p s,
-    λ k o t eo et. ⊎_elim
-        (λ (here : (k ≡ p) × (s ≡ t)).
-        let one : r ≡ o = same_place rows p r o get (sym (ap (slice_get rows) here.0) ∙ eo) in
-        let first : RowMarked c r s = record { conn = conn; held = held; is_cut = is_cut; is_lost = is_lost ∙ sym (either r.is_lost (eqb c r.conn) (eq-eqb c r.conn (sym own))) } in
-        subst (λ t. RowMarked c o t) here.1 (subst (λ o. RowMarked c o s) one first))
-        (λ (there : (k ≢ p) × (slice_get rows k ≡ Some t)).
-        let one : o ≡ t = same_place rows k o t eo there.1 in
-        let away : o.conn ≢ c = λ same. there.0 (one_place rows c k p o r up eo get same own) in
-        subst (λ t. RowMarked c o t) one (marked_other c o away))
-        (written rows p k s t et),
-  )
-    where
-      either : (a b : Bool) → b ≡ true → a || b ≡ true
-      either true b e = refl
-      either false b e = e
+  marked_here c rows p r s up get own conn held is_cut is_lost = pairs_set rows p r s (RowMarked c) get
+      (record { conn = conn; held = held; is_cut = is_cut; is_lost = is_lost ∙ sym (or_right r.is_lost (eqb c r.conn) (eq-eqb c r.conn (sym own))) })
+      (λ k o away eo. marked_other c o (λ same. away (one_place rows c k p o r up eo get same own)))
 
   pub knows_marked : (old new : Table S) (c : ℕ) → new.realm ≡ old.realm → EachMarked c old.rows.items new.rows.items → new.has_marks ≡ true → new.has_ended ≡ old.has_ended → Knows old → Knows new
   knows_marked old new c realm m marks ended knows = record {
     marks = λ quiet. absurd (cc);
     ended = λ quiet. λ k p e.
-        let eo = before old.rows.items new.rows.items k p m.0 e in
+        let eo = beside new.rows.items old.rows.items k p (sym m.0) e in
         ap (λ h. live h p.conn) realm ∙ ap (live old.realm) (m.1 k (get_or old.rows.items k p) p eo e).conn ∙ knows.ended (sym ended ∙ quiet) k (get_or old.rows.items k p) eo;
   }
 
@@ -161,7 +128,7 @@ module _ {S : Type 0} where
   knows_unmarked old new u knows realm ended = record {
     marks = λ quiet. unmarked_after old.rows.items new.rows.items u;
     ended = λ quiet. λ k p e.
-        let eo = before old.rows.items new.rows.items k p u.0 e in
+        let eo = beside new.rows.items old.rows.items k p (sym u.0) e in
         ap (λ h. live h p.conn) realm ∙ ap (live old.realm) (u.1 k (get_or old.rows.items k p) p eo e).conn ∙ knows.ended (sym ended ∙ quiet) k (get_or old.rows.items k p) eo;
   }
 
@@ -170,21 +137,15 @@ module _ {S : Type 0} where
       → new.realm ≡ old.realm → new.has_marks ≡ old.has_marks → new.has_ended ≡ old.has_ended → Knows old → Knows new
   knows_emptied old new c drain rest e realm marks ended knows = record {
     marks = λ quiet. subst (λ l. NoMarks l) (sym e.after)
-        (from_set old.rows.items e.place e.new (λ r. (r.is_cut ≡ false) × (r.is_lost ≡ false))
+        (each_set old.rows.items e.place e.new (λ r. (r.is_cut ≡ false) × (r.is_lost ≡ false))
         (let t = knows.marks (sym marks ∙ quiet) e.place e.old e.stands in (e.emptied.is_cut ∙ t.0, e.emptied.is_lost ∙ t.1))
         (knows.marks (sym marks ∙ quiet)));
     ended = λ quiet. subst (λ l. Each (λ r. live new.realm r.conn ≡ true) l) (sym e.after)
         (subst (λ h. Each (λ r. live h r.conn ≡ true) (set old.rows.items e.place e.new)) (sym realm)
-        (from_set old.rows.items e.place e.new (λ r. live old.realm r.conn ≡ true)
+        (each_set old.rows.items e.place e.new (λ r. live old.realm r.conn ≡ true)
         (ap (live old.realm) e.emptied.conn ∙ knows.ended (sym ended ∙ quiet) e.place e.old e.stands)
         (knows.ended (sym ended ∙ quiet))));
   }
-    where
-      from_set : (rows : List (Row S)) (p : ℕ) (s : Row S) (P : Row S → Type 0) → P s → Each P rows → Each P (set rows p s)
-      from_set rows p s P here all k t e = ⊎_elim
-          (λ (at : (k ≡ p) × (s ≡ t)). subst P at.1 here)
-          (λ (at : (k ≢ p) × (slice_get rows k ≡ Some t)). all k t at.1)
-          (written rows p k s t e)
 
   pub knows_same : (old new : Table S) → new.rows.items ≡ old.rows.items → new.realm ≡ old.realm → new.has_marks ≡ old.has_marks → new.has_ended ≡ old.has_ended → Knows old → Knows new
   knows_same old new rows realm marks ended knows = record {

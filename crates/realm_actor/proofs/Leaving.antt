@@ -1,8 +1,8 @@
 -- Rows go, or lose their outbox.
-use Rattle.std.proofs.Common.{◌≡◌, ◌≢◌, ◌⊎◌, ℕ, zero, suc, ◌+◌, ◌<◌, ◌≤◌, Bool, true, false, cond, eqb, is_some, List, [], ◌∷◌, ◌++◌, filter, append-nil, length, set, get_or, refl, sym, ap, ◌∙◌, subst, inl, inr, ⊎_elim, arith}
+use Rattle.std.proofs.Common.{◌≡◌, ◌≢◌, ℕ, zero, suc, ◌<◌, ◌≤◌, Bool, true, false, cond, eqb, List, [], ◌∷◌, ◌++◌, filter, append-nil, length, set, get_or, refl, sym, ap, ◌∙◌, subst, ⊎_elim, arith}
 use Rattle.std.specs.Prelude.{Option, Some, None, ⊤, slice_get, MatchOption, option_map, Result, Ok, Err, IfOk, IfErr}
 use Rattle.std.proofs.Math.ListN.{length-set}
-use Rattle.std.proofs.lemmas.Bool.{eqb-true, eq-eqb}
+use Rattle.std.proofs.lemmas.Bool.{eqb-true, ne_eqb}
 use Rattle.std.proofs.lemmas.Option.{slice_get_read}
 use Rattle.std.proofs.lemmas.List.{set-get_or}
 use mathlib.Core.List.{IsPrefix}
@@ -17,15 +17,15 @@ use Rattle.realm_actor.specs.declared.row.Row.{Row}
 use Rattle.realm_actor.specs.declared.row.Held.{Held}
 use Rattle.realm_actor.specs.Acting.{Acting}
 use Rattle.realm_inbox.specs.Begins.{begins_longer}
-use Rattle.realm_actor.specs.Settling.{Settles, Sweeps, Emptied, EmptiesOne, Joins}
+use Rattle.realm_actor.specs.Settling.{Settles, Sweeps, EmptiesOne}
 use Rattle.realm_actor.specs.Following.{Box, Follows}
 use Rattle.realm_actor.specs.Rows.{box_in, RowDue, Each, Ascending, StandsAt}
-use Rattle.realm_actor.specs.Tables.{has_joined, IsOpen, HasRow, Sound}
-use Rattle.realm_actor.specs.Cutting.{IsFull, NoneFull}
-use Rattle.realm_actor.specs.Naming.{outbox_of, NoMarks}
+use Rattle.realm_actor.specs.Tables.{has_joined, IsOpen}
+use Rattle.realm_actor.specs.Cutting.{IsFull}
+use Rattle.realm_actor.specs.Naming.{outbox_of}
 use Rattle.realm_actor.specs.Standing.{Stands}
-use Rattle.realm_actor.proofs.Standing.{read, within, same_place, written, below_or}
-use Rattle.realm_actor.proofs.Named.{looked_up, found}
+use Rattle.realm_actor.proofs.Standing.{read, within, same_place, written, each_set}
+use Rattle.realm_actor.proofs.Named.{looked_up, holds_nowhere}
 
 nobody : (grants : Grants) (c : ℕ) → live (begun grants) c ≡ true → ⊥
 unfolding who
@@ -50,13 +50,6 @@ module _ {S : Type 0} where
 
   pub holds_at : (rows : List (Row S)) (c k : ℕ) (r : Row S) → Ascending rows → slice_get rows k ≡ Some r → r.conn ≡ c → outbox_of rows c ≡ box_in r
   holds_at rows c k r up e own = ap (outbox_of rows) (sym own) ∙ looked_up rows k r up e
-
-  pub holds_nowhere : (rows : List (Row S)) (c : ℕ) → Each (λ r. r.conn ≢ c) rows → outbox_of rows c ≡ None
-  holds_nowhere rows c none = at (outbox_of rows c) refl
-    where
-      at : (o : Option Box) → outbox_of rows c ≡ o → o ≡ None
-      at None is = refl
-      at (Some o) is = let t = found rows c o is in absurd (none t.0 t.1 t.2 t.3)
 
   -- the rows of live sessions stay
 
@@ -146,16 +139,9 @@ module _ {S : Type 0} where
   others_keep [] p r s d e own n = refl
   others_keep (x ∷ rows) zero r s d e own n =
       let same : x ≡ r = cc in
-      let first : eqb x.conn d ≡ false = differs x.conn d (λ h. n (ap (λ (y : Row S). y.conn) (sym same) ∙ h)) in
-      let second : eqb s.conn d ≡ false = differs s.conn d (λ h. n (sym own ∙ h)) in
+      let first : eqb x.conn d ≡ false = ne_eqb x.conn d (λ h. n (ap (λ (y : Row S). y.conn) (sym same) ∙ h)) in
+      let second : eqb s.conn d ≡ false = ne_eqb s.conn d (λ h. n (sym own ∙ h)) in
       ap (λ b. cond b (box_in s) (outbox_of rows d)) second ∙ sym (ap (λ b. cond b (box_in x) (outbox_of rows d)) first)
-    where
-      differs : (a b : ℕ) → (a ≡ b → ⊥) → eqb a b ≡ false
-      differs a b n = at (eqb a b) refl
-        where
-          at : (t : Bool) → eqb a b ≡ t → t ≡ false
-          at true is = absurd (n (eqb-true a b is))
-          at false is = refl
   others_keep (x ∷ rows) (suc p) r s d e own n = ap (λ o. cond (eqb x.conn d) (box_in x) o) (others_keep rows p r s d e own n)
 
   written_at : (rows : List (Row S)) (p : ℕ) (r s : Row S) → slice_get rows p ≡ Some r → slice_get (set rows p s) p ≡ Some s
@@ -164,13 +150,6 @@ module _ {S : Type 0} where
   written_at (x ∷ rows) (suc p) r s e = written_at rows p r s e
 
   module _ (rows : List (Row S)) (p : ℕ) (r s : Row S) (get : slice_get rows p ≡ Some r) (own : s.conn ≡ r.conn) (none : s.held ≡ None) (cut : s.is_cut ≡ r.is_cut) (lost : s.is_lost ≡ r.is_lost) where
-    -- each row is one of before, or s
-    from_set : (P : Row S → Type 0) → P s → Each P rows → Each P (set rows p s)
-    from_set P here all k t e = ⊎_elim
-        (λ (at : (k ≡ p) × (s ≡ t)). subst P at.1 here)
-        (λ (at : (k ≢ p) × (slice_get rows k ≡ Some t)). all k t at.1)
-        (written rows p k s t e)
-
     conn_at : (k : ℕ) (t : Row S) → slice_get (set rows p s) k ≡ Some t → (o : Row S) × (slice_get rows k ≡ Some o) × (t.conn ≡ o.conn)
     conn_at k t e = ⊎_elim
         (λ (at : (k ≡ p) × (s ≡ t)). (r, ap (slice_get rows) at.0 ∙ get, ap (λ (x : Row S). x.conn) (sym at.1) ∙ own))
@@ -190,9 +169,9 @@ module _ {S : Type 0} where
     stands_emptied h was = record {
       sound = record {
         ascending = ascends_set was.sound.ascending;
-        in_step = from_set (λ x. RowDue h [] x) (subst (λ held. MatchOption held ⊤ (λ z. Follows h [] z.outbox)) (sym none) tt) was.sound.in_step;
-        is_open = from_set (λ x. IsOpen (live h x.conn) (box_in x)) (subst (λ held. IsOpen (live h s.conn) (option_map (λ z. z.outbox) held)) (sym none) tt) was.sound.is_open;
-        joined = from_set (λ x. has_joined h x.conn ≡ true) (ap (has_joined h) own ∙ was.sound.joined p r get) was.sound.joined;
+        in_step = each_set rows p s (λ x. RowDue h [] x) (subst (λ held. MatchOption held ⊤ (λ z. Follows h [] z.outbox)) (sym none) tt) was.sound.in_step;
+        is_open = each_set rows p s (λ x. IsOpen (live h x.conn) (box_in x)) (subst (λ held. IsOpen (live h s.conn) (option_map (λ z. z.outbox) held)) (sym none) tt) was.sound.is_open;
+        joined = each_set rows p s (λ x. has_joined h x.conn ≡ true) (ap (has_joined h) own ∙ was.sound.joined p r get) was.sound.joined;
         has_rows = λ c is.
             let row = was.sound.has_rows c is in
             let l = length-set rows p s in
@@ -203,8 +182,8 @@ module _ {S : Type 0} where
             (row.0, (less, get_or (set rows p s) row.0 row.1.1, en, t.2 ∙ ap (λ (x : Row S). x.conn) (same_place rows row.0 t.0 row.1.1 t.1 row.1.2) ∙ row.1.3));
         legal = was.sound.legal;
       };
-      none_full = from_set (λ x. IsFull (box_in x) → ⊥) (subst (λ held. IsFull (option_map (λ z. z.outbox) held) → ⊥) (sym none) (λ f. f)) was.none_full;
-      unmarked = from_set (λ x. (x.is_cut ≡ false) × (x.is_lost ≡ false)) (let t = was.unmarked p r get in (cut ∙ t.0, lost ∙ t.1)) was.unmarked;
+      none_full = each_set rows p s (λ x. IsFull (box_in x) → ⊥) (subst (λ held. IsFull (option_map (λ z. z.outbox) held) → ⊥) (sym none) (λ f. f)) was.none_full;
+      unmarked = each_set rows p s (λ x. (x.is_cut ≡ false) × (x.is_lost ≡ false)) (let t = was.unmarked p r get in (cut ∙ t.0, lost ∙ t.1)) was.unmarked;
     }
 
     pub gone_there : Ascending rows → outbox_of (set rows p s) r.conn ≡ None
@@ -281,11 +260,3 @@ module _ {S : Type 0} where
       at : (b : Bool) → length (filter test rows) ≤ length rows → length (cond b (x ∷ filter test rows) (filter test rows)) ≤ suc (length rows)
       at true h = omega (arith, h)
       at false h = omega (arith, h)
-
-pub ok_map : {T E : Type 0} (r : Result T E) (P Q : T → Type 0) → ((x : T) → P x → Q x) → IfOk r P → IfOk r Q
-ok_map (Ok x) P Q f p = f x p
-ok_map (Err e) P Q f p = p
-
-pub err_map : {T E : Type 0} (r : Result T E) (P Q : E → Type 0) → ((x : E) → P x → Q x) → IfErr r P → IfErr r Q
-err_map (Ok x) P Q f p = p
-err_map (Err e) P Q f p = f e p

@@ -1,11 +1,11 @@
 -- Marked rows are named one after another.
 use Rattle.std.proofs.Common.{◌≡◌, ◌≢◌, ℕ, zero, suc, ◌+◌, ◌<◌, ◌≤◌, Bool, true, false, cond, ◌||◌, List, [], ◌∷◌, ◌++◌, length, take, set, get_or, refl, sym, ap, ◌∙◌, subst, ⊎_elim, add-one, arith}
-use Rattle.std.specs.Prelude.{Some, slice_get, Option}
+use Rattle.std.specs.Prelude.{Some, slice_get}
 use Rattle.std.proofs.Math.ListN.{length-set}
 use Rattle.realm_actor.specs.declared.row.Row.{Row}
 use Rattle.realm_actor.specs.Handling.{Unmarked, EachUnmarked}
 use Rattle.realm_actor.specs.Naming.{is_named, named_conns, NoMarks}
-use Rattle.realm_actor.proofs.Standing.{read, within, same_place, written}
+use Rattle.realm_actor.proofs.Standing.{read, within, same_place, written, beside}
 
 take_next : {A : Type 0} (xs : List A) (i : ℕ) (r : A) → slice_get xs i ≡ Some r → take (suc i) xs ≡ take i xs ++ r ∷ []
 take_next [] i r e = absurd (cc e)
@@ -92,6 +92,6 @@ module _ {S : Type 0} where
 
   pub unmarked_after : (olds news : List (Row S)) → EachUnmarked olds news → NoMarks news
   unmarked_after olds news u k p e =
-      let eo = read olds k p (let w = within news k p e in let l = u.0 in omega (arith, w, l)) in
+      let eo = beside news olds k p (sym u.0) e in
       let t = u.1 k (get_or olds k p) p eo e in
       (t.is_cut, t.is_lost)

@@ -2,8 +2,9 @@
 use Rattle.std.proofs.Common.{◌≡◌, ◌≢◌, ◌⊎◌, ℕ, zero, suc, ◌+◌, ◌<◌, ◌≤◌, Bool, true, false, cond, ◌||◌, eqb, List, [], ◌∷◌, ◌++◌, length, get_or, refl, sym, ap, ◌∙◌, subst, inl, inr, ⊎_elim, append-nil, append_assoc, arith}
 use Rattle.std.specs.Prelude.{Option, Some, None, slice_get, option_map}
 use Rattle.std.specs.List.{insert}
-use Rattle.std.proofs.lemmas.Bool.{eqb-true, eq-eqb, or_cases, or_left, or_right}
-use Rattle.std.proofs.Math.Bool.{or_assoc}
+use Rattle.std.proofs.lemmas.Bool.{eqb-true, eq-eqb, or_cases, or_left, or_right, ne_eqb}
+use Rattle.std.proofs.Math.Bool.{or_assoc, or-false}
+use Rattle.std.proofs.lemmas.List.Folds.{list_any-append}
 use Rattle.realm.specs.declared.entry.Entry.{Entry}
 use Rattle.realm.specs.History.{History}
 use Rattle.realm_actor.specs.declared.row.Row.{Row}
@@ -13,14 +14,14 @@ use Rattle.realm_actor.specs.Tables.{Went, BoxWent, RowWent, EachWent, EachMarke
 use Rattle.realm_actor.specs.Cutting.{Cuts, none, one_more, Accepted}
 use Rattle.realm_actor.specs.Handling.{EachUnmarked}
 use Rattle.realm_actor.specs.Naming.{is_named, named_conns, is_in, finds_in, finds_of, outbox_of, NoMarks, Names, Ascends}
-use Rattle.realm_actor.proofs.Standing.{read, within, same_place, below_or}
+use Rattle.realm_actor.proofs.Standing.{same_place, below_or, beside}
 
 -- one entry after another
 
 Went-same : (o : Box) → Went o o
 Went-same o = record { queue = refl; capacity = refl; conn = refl; added = ([], append-nil o.added); finds = omega arith; marked = λ _. (refl, refl); room = λ h. absurd (omega (arith, h)); shut = λ h. h }
 
-Went-on : (o p q : Box) → Went o p → Went p q → Went o q
+pub Went-on : (o p q : Box) → Went o p → Went p q → Went o q
 Went-on o p q a b = record {
   queue = b.queue ∙ a.queue;
   capacity = b.capacity ∙ a.capacity;
@@ -47,26 +48,26 @@ BoxWent-on (Some o) None q a b = absurd a
 BoxWent-on (Some o) (Some p) None a b = absurd b
 BoxWent-on (Some o) (Some p) (Some q) a b = Went-on o p q a b
 
-rose_once : (o p q : Option Box) → BoxWent o p → BoxWent p q → Rose o q → Rose o p ⊎ Rose p q
+pub rose_once : (o p q : Option Box) → BoxWent o p → BoxWent p q → Rose o q → Rose o p ⊎ Rose p q
 rose_once None p q a b h = absurd h
 rose_once (Some o) None q a b h = absurd a
 rose_once (Some o) (Some p) None a b h = absurd b
 rose_once (Some o) (Some p) (Some q) a b h = ⊎_elim (λ (x : o.full_finds < p.full_finds). inl x) (λ (x : p.full_finds ≤ o.full_finds). inr (omega (arith, x, h))) (below_or o.full_finds p.full_finds)
 
-rose_first : (o p q : Option Box) → BoxWent o p → BoxWent p q → Rose o p → Rose o q
+pub rose_first : (o p q : Option Box) → BoxWent o p → BoxWent p q → Rose o p → Rose o q
 rose_first None p q a b h = absurd h
 rose_first (Some o) None q a b h = absurd h
 rose_first (Some o) (Some p) None a b h = absurd b
 rose_first (Some o) (Some p) (Some q) a b h = let m = b.finds in omega (arith, h, m)
 
-rose_later : (o p q : Option Box) → BoxWent o p → BoxWent p q → Rose p q → Rose o q
+pub rose_later : (o p q : Option Box) → BoxWent o p → BoxWent p q → Rose p q → Rose o q
 rose_later None None q a b h = absurd h
 rose_later None (Some p) q a b h = absurd a
 rose_later (Some o) None q a b h = absurd h
 rose_later (Some o) (Some p) None a b h = absurd b
 rose_later (Some o) (Some p) (Some q) a b h = let m = a.finds in omega (arith, h, m)
 
-not_above : (o : Option Box) → Rose o o → ⊥
+pub not_above : (o : Option Box) → Rose o o → ⊥
 not_above None h = h
 not_above (Some o) h = omega (arith, h)
 
@@ -86,14 +87,6 @@ insert_length [] zero x = omega arith
 insert_length [] (suc i) x = omega arith
 insert_length (y ∷ xs) zero x = omega arith
 insert_length (y ∷ xs) (suc i) x = let h = insert_length xs i x in omega (arith, h)
-
-or_nothing : (b : Bool) → b ≡ b || false
-or_nothing true = refl
-or_nothing false = refl
-
-in_append : (c : ℕ) (xs ys : List ℕ) → is_in c (xs ++ ys) ≡ is_in c xs || is_in c ys
-in_append c [] ys = refl
-in_append c (x ∷ xs) ys = ap (λ b. eqb x c || b) (in_append c xs ys) ∙ sym (or_assoc (eqb x c) (is_in c xs) (is_in c ys))
 
 module _ {S : Type 0} where
   RowWent-same : (r : Row S) → RowWent r r
@@ -119,7 +112,7 @@ module _ {S : Type 0} where
   EachWent-on xs ys zs a b = (
     b.0 ∙ a.0,
     λ k o q e g.
-        let here : slice_get ys k ≡ Some (get_or ys k o) = read ys k o (let h = within xs k o e in let l = a.0 in omega (arith, h, l)) in
+        let here : slice_get ys k ≡ Some (get_or ys k o) = beside xs ys k o a.0 e in
         RowWent-on o (get_or ys k o) q (a.1 k o (get_or ys k o) e here) (b.1 k (get_or ys k o) q here g),
   )
 
@@ -143,6 +136,13 @@ module _ {S : Type 0} where
       at true is on f = (0, x, refl, eqb-true x.conn c is, f)
       at false is on f = let t = on f in (suc t.0, t.1, t.2, t.3, t.4)
 
+  pub holds_nowhere : (rows : List (Row S)) (c : ℕ) → Each (λ r. r.conn ≢ c) rows → outbox_of rows c ≡ None
+  holds_nowhere rows c other = at (outbox_of rows c) refl
+    where
+      at : (o : Option Box) → outbox_of rows c ≡ o → o ≡ None
+      at None is = refl
+      at (Some o) is = let t = found rows c o is in absurd (other t.0 t.1 t.2 t.3)
+
   tail_ascends : (x : Row S) (rows : List (Row S)) → Ascending (x ∷ rows) → Ascending rows
   tail_ascends x rows up i j r s h e f = up (suc i) (suc j) r s (omega (arith, h)) e f
 
@@ -154,14 +154,7 @@ module _ {S : Type 0} where
       ap (λ b. cond b (box_in x) (outbox_of rows r.conn)) here ∙ ap box_in same
   looked_up (x ∷ rows) (suc k) r up e =
       let less : x.conn < r.conn = up zero (suc k) x r (omega arith) refl e in
-      ap (λ b. cond b (box_in x) (outbox_of rows r.conn)) (apart x.conn r.conn less) ∙ looked_up rows k r (tail_ascends x rows up) e
-    where
-      apart : (c d : ℕ) → c < d → eqb c d ≡ false
-      apart c d h = at (eqb c d) refl
-        where
-          at : (b : Bool) → eqb c d ≡ b → b ≡ false
-          at true is = let same = eqb-true c d is in absurd (omega (arith, h, same))
-          at false is = refl
+      ap (λ b. cond b (box_in x) (outbox_of rows r.conn)) (ne_eqb x.conn r.conn (λ same. omega (arith, less, same))) ∙ looked_up rows k r (tail_ascends x rows up) e
 
   pub same_after : (olds news : List (Row S)) (c : ℕ) → EachUnmarked olds news → outbox_of news c ≡ outbox_of olds c
   same_after [] [] c w = refl
@@ -244,7 +237,7 @@ module _ {S : Type 0} where
   pub moved_went : (olds news : List (Row S)) → EachWent olds news → EachMoved [] olds news
   moved_went olds news w = (
     w.0,
-    λ k o p e f. let t = w.1 k o p e f in record { conn = t.conn; box = t.box; still = t.still; rose = t.rose; only = t.only; is_lost = t.is_lost ∙ or_nothing o.is_lost },
+    λ k o p e f. let t = w.1 k o p e f in record { conn = t.conn; box = t.box; still = t.still; rose = t.rose; only = t.only; is_lost = t.is_lost ∙ sym (or-false o.is_lost) },
   )
 
   same_box : (o p : Row S) → p.held ≡ o.held → box_in p ≡ box_in o
@@ -262,7 +255,7 @@ module _ {S : Type 0} where
           still = λ h. t.is_cut ∙ h;
           rose = λ h. absurd (not_above (box_in o) (subst (λ b. Rose (box_in o) b) same h));
           only = λ h. inl (sym t.is_cut ∙ h);
-          is_lost = t.is_lost ∙ ap (λ b. o.is_lost || b) (or_nothing (eqb c o.conn));
+          is_lost = t.is_lost ∙ ap (λ b. o.is_lost || b) (sym (or-false (eqb c o.conn)));
         },
   )
 
@@ -270,7 +263,7 @@ module _ {S : Type 0} where
   moved_on first second xs ys zs a b = (
     b.0 ∙ a.0,
     λ k o q e g.
-        let here : slice_get ys k ≡ Some (get_or ys k o) = read ys k o (let h = within xs k o e in let l = a.0 in omega (arith, h, l)) in
+        let here : slice_get ys k ≡ Some (get_or ys k o) = beside xs ys k o a.0 e in
         let p : Row S = get_or ys k o in
         let x = a.1 k o p e here in
         let y = b.1 k p q here g in
@@ -287,7 +280,7 @@ module _ {S : Type 0} where
               ∙ ap (λ d. p.is_lost || is_in d second) x.conn
               ∙ ap (λ b. b || is_in o.conn second) x.is_lost
               ∙ or_assoc o.is_lost (is_in o.conn first) (is_in o.conn second)
-              ∙ ap (λ b. o.is_lost || b) (sym (in_append o.conn first second));
+              ∙ ap (λ b. o.is_lost || b) (sym (list_any-append (λ d. eqb d o.conn) first second));
         },
   )
 
@@ -309,11 +302,8 @@ module _ {S : Type 0} where
 
   ascend_back : (lost : List ℕ) (olds news : List (Row S)) → EachMoved lost olds news → Ascending news → Ascending olds
   ascend_back lost olds news w up i j r s h e f =
-      let l = w.0 in
-      let wi = within olds i r e in
-      let wj = within olds j s f in
-      let ei = read news i r (omega (arith, wi, l)) in
-      let ej = read news j s (omega (arith, wj, l)) in
+      let ei = beside olds news i r w.0 e in
+      let ej = beside olds news j s w.0 f in
       let less = up i j (get_or news i r) (get_or news j s) h ei ej in
       let a = (w.1 i r (get_or news i r) e ei).conn in
       let b = (w.1 j s (get_or news j s) f ej).conn in
@@ -342,7 +332,7 @@ module _ {S : Type 0} where
   }
     where
       before : (k : ℕ) (r : Row S) → slice_get ends k ≡ Some r → slice_get olds k ≡ Some (get_or olds k r)
-      before k r e = read olds k r (let i = within ends k r e in let l = w.0 in omega (arith, i, l))
+      before k r e = beside ends olds k r (sym w.0) e
 
       moved : (k : ℕ) (r : Row S) → slice_get ends k ≡ Some r → RowMoved lost (get_or olds k r) r
       moved k r e = w.1 k (get_or olds k r) r (before k r e) e

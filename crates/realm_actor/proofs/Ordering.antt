@@ -1,14 +1,13 @@
 -- A run keeps the order of the posts.
-use Rattle.std.proofs.Common.{◌≡◌, ◌⊎◌, ℕ, refl, Bool, true, false, true≢false, cond, ◌||◌, ◌&&◌, eqb, List, [], ◌∷◌, ◌++◌, sym, ap, subst, ◌∙◌, ⊎_elim, append-nil, append_assoc}
-use Rattle.std.specs.Prelude.{Option}
+use Rattle.std.proofs.Common.{◌≡◌, ℕ, refl, Bool, true, false, true≢false, ◌||◌, eqb, List, [], ◌∷◌, ◌++◌, sym, ap, subst, ◌∙◌, ⊎_elim, append_assoc}
 use Rattle.std.proofs.lemmas.Bool.{eqb-true}
 use Rattle.realm.specs.declared.entry.Entry.{Entry}
 use Rattle.realm.specs.declared.entry.Entry.TheVariants as entry
 use Rattle.realm.specs.Granting.{Grants}
-use Rattle.realm.specs.History.{History, begun, ◌▷◌}
+use Rattle.realm.specs.History.{History, begun}
 use Rattle.realm.specs.Sessions.{live}
 use Rattle.realm.specs.PostedOrder.{posts_of, said_by, joins_first_alone}
-use Rattle.realm.proofs.Entering.{Ordered}
+use Rattle.realm.proofs.Entering.{Ordered, said-kept}
 use Rattle.realm_inbox.specs.declared.letter.Post.{Post}
 use Rattle.realm_inbox.specs.declared.letter.Post.TheVariants.{Stop}
 use Rattle.realm_actor.specs.Acting.{Acting}
@@ -17,25 +16,18 @@ use Rattle.realm_actor.specs.Making as of
 use Rattle.realm_actor.specs.Running.{Ran}
 use Rattle.realm_actor.specs.Running as running
 use Rattle.realm_actor.specs.Order.{acts_of, KeepsOrderSince, RunKeepsOrder}
-use Rattle.realm_actor.proofs.Keeping.{Kept, kept-begun, entries-of, a_stop, said-closed, after-closing}
+use Rattle.realm_actor.proofs.Keeping.{Kept, kept-begun, entries-of, a_stop, after-closing}
 use Rattle.realm_actor.proofs.Making.{makes_on, runs_make, ran_makes, stop_closing, closed_runs}
-
-said-cut : (h : History) (c : ℕ) (word : Option ℕ) (d : ℕ) → said_by d (h ▷ entry.Cut c word) ≡ said_by d h
-said-cut h c word d = at (eqb c d)
-  where
-    at : (b : Bool) → said_by d h ++ cond (b && false) (entry.Cut c word ∷ []) [] ≡ said_by d h
-    at true = append-nil (said_by d h)
-    at false = append-nil (said_by d h)
 
 -- who is closed was live, and all that it said has entered
 closing_all : (h k : History) (es : List Entry) (c : ℕ) → Ordered h es → AfterClosing h k → was_closed c h ≡ false → was_closed c k ≡ true → joins_first_alone (posts_of c es) ≡ true → said_by c k ≡ posts_of c es
 closing_all h k es c o of.AfterClosing.none unshut shut joins = absurd (true≢false (sym shut ∙ unshut))
-closing_all h _ es c o (of.AfterClosing.closed {k = k} d word is_live more) unshut shut joins = said-closed k d word c ∙ at (eqb d c) refl shut (λ e. closing_all h k es c o more unshut e joins)
+closing_all h _ es c o (of.AfterClosing.closed {k = k} d word is_live more) unshut shut joins = said-kept c k (entry.Closed d word) refl ∙ at (eqb d c) refl shut (λ e. closing_all h k es c o more unshut e joins)
   where
     at : (b : Bool) → eqb d c ≡ b → b || was_closed c k ≡ true → (was_closed c k ≡ true → said_by c k ≡ posts_of c es) → said_by c k ≡ posts_of c es
     at true here e on = (after-closing h k es o more).all c joins (ap (live k) (sym (eqb-true d c here)) ∙ is_live)
     at false away e on = on e
-closing_all h _ es c o (of.AfterClosing.cut {k = k} d word more) unshut shut joins = said-cut k d word c ∙ closing_all h k es c o more unshut shut joins
+closing_all h _ es c o (of.AfterClosing.cut {k = k} d word more) unshut shut joins = said-kept c k (entry.Cut d word) refl ∙ closing_all h k es c o more unshut shut joins
 
 module _ {S : Type 0} where
   since : (from h : History) (ps : List (Post S)) (c : ℕ) (kept : Kept ps h)

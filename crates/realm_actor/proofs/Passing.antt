@@ -1,25 +1,22 @@
 -- One item goes to the row of its connection, and the other rows stay.
-use Rattle.std.proofs.Common.{◌≡◌, ◌≢◌, ◌⊎◌, ℕ, ◌<◌, ◌≤◌, Bool, true, false, cond, eqb, List, [], ◌∷◌, ◌++◌, length, set, get_or, refl, sym, ap, ◌∙◌, subst, inl, inr, ⊎_elim, append-nil, append_assoc, arith}
+use Rattle.std.proofs.Common.{◌≡◌, ◌≢◌, ℕ, ◌<◌, true, eqb, List, [], ◌∷◌, length, set, get_or, refl, sym, ap, ◌∙◌, subst, inl, inr, ⊎_elim, append-nil, arith}
 use Rattle.std.specs.Prelude.{Option, Some, None, slice_get}
-use Rattle.std.proofs.Math.ListN.{length-set}
-use Rattle.std.proofs.lemmas.Bool.{eqb-true, eq-eqb}
+use Rattle.std.proofs.lemmas.Bool.{eq-eqb, ne_eqb, cond-false}
 use Rattle.session.specs.declared.item.Item.{Item}
 use Rattle.realm.specs.History.{History}
 use Rattle.realm.specs.Given.{items_for}
 use Rattle.realm_actor.specs.declared.row.Row.{Row}
 use Rattle.realm_actor.specs.Following.{Box, Goes}
 use Rattle.realm_actor.specs.Rows.{BoxGoes, Rose, box_in, RowDue, RowGoes, Each, Ascending, EachDue, EachGoes, NoneRose}
-use Rattle.realm_actor.proofs.Standing.{same_place, written, within, read, below_or}
+use Rattle.realm_actor.specs.Tables.{Went, BoxWent}
+use Rattle.realm_actor.proofs.Standing.{same_place, written, read, beside, one_place, pairs_set}
+use Rattle.realm_actor.proofs.Named.{Went-on, rose_once, rose_first, rose_later, not_above}
 
 items_own : (c : ℕ) (x : Item) (rest : List (ℕ × Item)) → items_for c ((c, x) ∷ rest) ≡ x ∷ items_for c rest
 items_own c x rest = let same : eqb c c ≡ true = eq-eqb c c refl in rw same
 
 items_other : (d c : ℕ) (x : Item) (rest : List (ℕ × Item)) → d ≢ c → items_for d ((c, x) ∷ rest) ≡ items_for d rest
-items_other d c x rest n = at (eqb c d) refl
-  where
-    at : (b : Bool) → eqb c d ≡ b → cond b (x ∷ items_for d rest) (items_for d rest) ≡ items_for d rest
-    at true is = absurd (n (sym (eqb-true c d is)))
-    at false is = refl
+items_other d c x rest n = cond-false (eqb c d) (x ∷ items_for d rest) (items_for d rest) (ne_eqb c d (λ same. n (sym same)))
 
 Goes-same : (o : Box) → Goes o o
 Goes-same o = record { queue = refl; capacity = refl; conn = refl; is_closed = refl; added = ([], append-nil o.added); finds = omega arith; marked = λ _. (refl, refl); room = λ h. absurd (omega (arith, h)) }
@@ -28,24 +25,20 @@ BoxGoes-same : (o : Option Box) → BoxGoes o o
 BoxGoes-same None = tt
 BoxGoes-same (Some o) = Goes-same o
 
-not_above : (o : Option Box) → Rose o o → ⊥
-not_above None h = h
-not_above (Some o) h = omega (arith, h)
+-- an outbox that items were offered to went on
+went : (o p : Box) → Goes o p → Went o p
+went o p g = record { queue = g.queue; capacity = g.capacity; conn = g.conn; added = g.added; finds = g.finds; marked = g.marked; room = g.room; shut = λ is. g.is_closed ∙ is }
+
+box_went : (o p : Option Box) → BoxGoes o p → BoxWent o p
+box_went None None g = tt
+box_went None (Some p) g = absurd g
+box_went (Some o) None g = absurd g
+box_went (Some o) (Some p) g = went o p g
 
 Goes-on : (o p q : Box) → Goes o p → Goes p q → Goes o q
-Goes-on o p q a b = record {
-  queue = b.queue ∙ a.queue;
-  capacity = b.capacity ∙ a.capacity;
-  conn = b.conn ∙ a.conn;
-  is_closed = b.is_closed ∙ a.is_closed;
-  added = (a.added.0 ++ b.added.0, sym (append_assoc o.added a.added.0 b.added.0) ∙ ap (λ l. l ++ b.added.0) a.added.1 ∙ b.added.1);
-  finds = let x = a.finds in let y = b.finds in omega (arith, x, y);
-  marked = λ h. let x = a.marked h in let y = b.marked (subst (λ n. 0 < n) (sym x.1) h) in (y.0 ∙ x.0, y.1 ∙ x.1);
-  room = λ h. ⊎_elim
-      (λ (first : o.full_finds < p.full_finds). let r = a.room first in let same = (b.marked (let m = a.finds in omega (arith, first, m))).0 in subst (λ l. o.capacity ≤ length l) (sym same) r)
-      (λ (later : p.full_finds ≤ o.full_finds). subst (λ n. n ≤ length q.added) a.capacity (b.room (omega (arith, later, h))))
-      (below_or o.full_finds p.full_finds);
-}
+Goes-on o p q a b =
+    let w = Went-on o p q (went o p a) (went p q b) in
+    record { queue = w.queue; capacity = w.capacity; conn = w.conn; is_closed = b.is_closed ∙ a.is_closed; added = w.added; finds = w.finds; marked = w.marked; room = w.room }
 
 BoxGoes-on : (o p q : Option Box) → BoxGoes o p → BoxGoes p q → BoxGoes o q
 BoxGoes-on None None None a b = tt
@@ -54,25 +47,6 @@ BoxGoes-on None (Some p) q a b = absurd a
 BoxGoes-on (Some o) None q a b = absurd a
 BoxGoes-on (Some o) (Some p) None a b = absurd b
 BoxGoes-on (Some o) (Some p) (Some q) a b = Goes-on o p q a b
-
-rose_once : (o p q : Option Box) → BoxGoes o p → BoxGoes p q → Rose o q → Rose o p ⊎ Rose p q
-rose_once None p q a b h = absurd h
-rose_once (Some o) None q a b h = absurd a
-rose_once (Some o) (Some p) None a b h = absurd b
-rose_once (Some o) (Some p) (Some q) a b h = ⊎_elim (λ (x : o.full_finds < p.full_finds). inl x) (λ (x : p.full_finds ≤ o.full_finds). inr (omega (arith, x, h))) (below_or o.full_finds p.full_finds)
-
-rose_first : (o p q : Option Box) → BoxGoes o p → BoxGoes p q → Rose o p → Rose o q
-rose_first None p q a b h = absurd h
-rose_first (Some o) None q a b h = absurd a
-rose_first (Some o) (Some p) None a b h = absurd b
-rose_first (Some o) (Some p) (Some q) a b h = let m = b.finds in omega (arith, m, h)
-
-rose_later : (o p q : Option Box) → BoxGoes o p → BoxGoes p q → Rose p q → Rose o q
-rose_later None None q a b h = absurd h
-rose_later None (Some p) q a b h = absurd a
-rose_later (Some o) None q a b h = absurd a
-rose_later (Some o) (Some p) None a b h = absurd b
-rose_later (Some o) (Some p) (Some q) a b h = let m = a.finds in omega (arith, m, h)
 
 module _ {S : Type 0} where
   -- the row that the code reads at a place
@@ -83,17 +57,20 @@ module _ {S : Type 0} where
   RowGoes-same r = record { conn = refl; box = BoxGoes-same (box_in r); still = λ e. e; rose = λ h. absurd (not_above (box_in r) h); only = λ e. inl e; is_lost = refl }
 
   pub RowGoes-on : (o p q : Row S) → RowGoes o p → RowGoes p q → RowGoes o q
-  RowGoes-on o p q a b = record {
-    conn = b.conn ∙ a.conn;
-    box = BoxGoes-on (box_in o) (box_in p) (box_in q) a.box b.box;
-    still = λ e. b.still (a.still e);
-    rose = λ h. ⊎_elim (λ (x : Rose (box_in o) (box_in p)). b.still (a.rose x)) (λ (x : Rose (box_in p) (box_in q)). b.rose x) (rose_once (box_in o) (box_in p) (box_in q) a.box b.box h);
-    only = λ e. ⊎_elim
-        (λ (x : p.is_cut ≡ true). ⊎_elim (λ (y : o.is_cut ≡ true). inl y) (λ (y : Rose (box_in o) (box_in p)). inr (rose_first (box_in o) (box_in p) (box_in q) a.box b.box y)) (a.only x))
-        (λ (x : Rose (box_in p) (box_in q)). inr (rose_later (box_in o) (box_in p) (box_in q) a.box b.box x))
-        (b.only e);
-    is_lost = b.is_lost ∙ a.is_lost;
-  }
+  RowGoes-on o p q a b =
+      let x = box_went (box_in o) (box_in p) a.box in
+      let y = box_went (box_in p) (box_in q) b.box in
+      record {
+        conn = b.conn ∙ a.conn;
+        box = BoxGoes-on (box_in o) (box_in p) (box_in q) a.box b.box;
+        still = λ e. b.still (a.still e);
+        rose = λ h. ⊎_elim (λ (z : Rose (box_in o) (box_in p)). b.still (a.rose z)) (λ (z : Rose (box_in p) (box_in q)). b.rose z) (rose_once (box_in o) (box_in p) (box_in q) x y h);
+        only = λ e. ⊎_elim
+            (λ (z : p.is_cut ≡ true). ⊎_elim (λ (u : o.is_cut ≡ true). inl u) (λ (u : Rose (box_in o) (box_in p)). inr (rose_first (box_in o) (box_in p) (box_in q) x y u)) (a.only z))
+            (λ (z : Rose (box_in p) (box_in q)). inr (rose_later (box_in o) (box_in p) (box_in q) x y z))
+            (b.only e);
+        is_lost = b.is_lost ∙ a.is_lost;
+      }
 
   pub EachGoes-same : (rows : List (Row S)) → EachGoes rows rows
   EachGoes-same rows = (refl, λ k o p e f. subst (λ q. RowGoes o q) (same_place rows k o p e f) (RowGoes-same o))
@@ -102,17 +79,14 @@ module _ {S : Type 0} where
   EachGoes-on xs ys zs a b = (
     b.0 ∙ a.0,
     λ k o q e g.
-        let here : slice_get ys k ≡ Some _ = read ys k o (let h = within xs k o e in let l = a.0 in omega (arith, h, l)) in
+        let here : slice_get ys k ≡ Some _ = beside xs ys k o a.0 e in
         RowGoes-on o _ q (a.1 k o _ e here) (b.1 k _ q here g),
   )
 
   pub Ascending-goes : (xs ys : List (Row S)) → EachGoes xs ys → Ascending xs → Ascending ys
   Ascending-goes xs ys goes up i j r s h e f =
-      let l = goes.0 in
-      let wi = within ys i r e in
-      let wj = within ys j s f in
-      let ei = read xs i r (omega (arith, wi, l)) in
-      let ej = read xs j s (omega (arith, wj, l)) in
+      let ei = beside ys xs i r (sym goes.0) e in
+      let ej = beside ys xs j s (sym goes.0) f in
       let less = up i j _ _ h ei ej in
       let ri = (goes.1 i _ r ei e).conn in
       let rj = (goes.1 j _ s ej f).conn in
@@ -129,13 +103,7 @@ module _ {S : Type 0} where
     due_next p r s up e own kept now due k t get = ⊎_elim
         (λ (here : (k ≡ p) × (s ≡ t)). subst (λ t. RowDue h (items_for t.conn rest) t) here.1 (subst (λ d. RowDue h (items_for d rest) s) (sym (kept ∙ own)) now))
         (λ (there : (k ≢ p) × (slice_get rows k ≡ Some t)).
-        let away : t.conn ≢ c = λ same. ⊎_elim
-        (λ (low : k < p). let less = up k p t r low there.1 e in omega (arith, less, same, own))
-        (λ (high : p ≤ k). let n = there.0 in ⊎_elim
-        (λ (past : p < k). let less = up p k r t past e there.1 in omega (arith, less, same, own))
-        (λ (at : k ≤ p). n (omega (arith, high, at)))
-        (below_or p k))
-        (below_or k p) in
+        let away : t.conn ≢ c = λ same. there.0 (one_place rows c k p t r up there.1 e same own) in
         subst (λ l. RowDue h l t) (items_other t.conn c x rest away) (due k t there.1))
         (written rows p k s t get)
 
@@ -143,15 +111,7 @@ module _ {S : Type 0} where
     due_nowhere none due k r e = subst (λ l. RowDue h l r) (items_other r.conn c x rest (none k r e)) (due k r e)
 
   pub goes_next : (rows : List (Row S)) (p : ℕ) (r s : Row S) → slice_get rows p ≡ Some r → RowGoes r s → EachGoes rows (set rows p s)
-  goes_next rows p r s e goes = (
-    length-set rows p s,
-    λ k o t f g. ⊎_elim
-        (λ (here : (k ≡ p) × (s ≡ t)).
-        let one : r ≡ o = same_place rows p r o e (sym (ap (slice_get rows) here.0) ∙ f) in
-        subst (λ t. RowGoes o t) here.1 (subst (λ o. RowGoes o s) one goes))
-        (λ (there : (k ≢ p) × (slice_get rows k ≡ Some t)). subst (λ t. RowGoes o t) (same_place rows k o t f there.1) (RowGoes-same o))
-        (written rows p k s t g),
-  )
+  goes_next rows p r s e goes = pairs_set rows p r s RowGoes e goes (λ k o away eo. RowGoes-same o)
 
 -- none is found full
 
@@ -161,17 +121,12 @@ module _ {S : Type 0} where
 
   pub none_on : (xs ys zs : List (Row S)) → EachGoes xs ys → EachGoes ys zs → NoneRose xs ys → NoneRose ys zs → NoneRose xs zs
   none_on xs ys zs a b n m k o q e g h =
-      let here : slice_get ys k ≡ Some (get_or ys k o) = read ys k o (let w = within xs k o e in let l = a.0 in omega (arith, w, l)) in
+      let here : slice_get ys k ≡ Some (get_or ys k o) = beside xs ys k o a.0 e in
       let p : Row S = get_or ys k o in
       ⊎_elim
       (λ (x : Rose (box_in o) (box_in p)). n k o p e here x)
       (λ (x : Rose (box_in p) (box_in q)). m k p q here g x)
-      (rose_once (box_in o) (box_in p) (box_in q) (a.1 k o p e here).box (b.1 k p q here g).box h)
+      (rose_once (box_in o) (box_in p) (box_in q) (box_went (box_in o) (box_in p) (a.1 k o p e here).box) (box_went (box_in p) (box_in q) (b.1 k p q here g).box) h)
 
   pub none_next : (rows : List (Row S)) (p : ℕ) (r s : Row S) → slice_get rows p ≡ Some r → (Rose (box_in r) (box_in s) → ⊥) → NoneRose rows (set rows p s)
-  none_next rows p r s e n k o t f g h = ⊎_elim
-      (λ (here : (k ≡ p) × (s ≡ t)).
-      let one : r ≡ o = same_place rows p r o e (sym (ap (slice_get rows) here.0) ∙ f) in
-      n (subst (λ (x : Row S). Rose (box_in x) (box_in s)) (sym one) (subst (λ (x : Row S). Rose (box_in o) (box_in x)) (sym here.1) h)))
-      (λ (there : (k ≢ p) × (slice_get rows k ≡ Some t)). none_same rows k o t f there.1 h)
-      (written rows p k s t g)
+  none_next rows p r s e n = (pairs_set rows p r s (λ o t. Rose (box_in o) (box_in t) → ⊥) e n (λ k o away eo. not_above (box_in o))).1

@@ -1,14 +1,14 @@
 -- An act was applied, or lost.
-use Rattle.std.proofs.Common.{◌≤◌, length, ◌≡◌, ℕ, Bool, true, false, cond, not, List, [], ◌∷◌, ◌++◌, refl, sym, ap, ◌∙◌, subst, append_assoc}
+use Rattle.std.proofs.Common.{◌≤◌, length, ◌≡◌, ℕ, true, false, cond, not, List, [], ◌∷◌, ◌++◌, refl, sym, ap, ◌∙◌, subst, append_assoc}
 use Rattle.realm.specs.declared.entry.Entry.{Entry}
 use Rattle.realm.specs.declared.entry.Entry.TheVariants as entry
 use Rattle.std.specs.Prelude.{Some}
-use Rattle.std.proofs.lemmas.Bool.{true≢false}
+use Rattle.std.proofs.lemmas.Bool.{true≢false, false_from_ne_true}
 use Rattle.std.specs.List.{insert}
 use Rattle.realm.specs.History.{History, ◌▷◌}
-use Rattle.realm.specs.Sessions.{conn_of, live, joined, may_come, may_join}
-use Rattle.realm.proofs.Ended.{no_more}
+use Rattle.realm.specs.Sessions.{conn_of, live, may_come, may_join}
 use Rattle.realm.proofs.Joined.{live-joined}
+use Rattle.realm_actor.proofs.Entering.{not_joined}
 use Rattle.realm_inbox.specs.declared.joining.Joining.{Joining}
 use Rattle.realm_actor.specs.Rows.{box_in}
 use Rattle.realm_actor.specs.Tables.{EachMarked, EachWent, Sound}
@@ -96,11 +96,7 @@ module _ {S : Type 0} (c : ℕ) (h l : History) (rows news : List (Row S)) (befo
 -- a Join
 
 pub not_live_yet : (h : History) (c : ℕ) → may_join h c ≡ true → live h c ≡ false
-not_live_yet h c may = at (live h c) refl
-  where
-    at : (b : Bool) → live h c ≡ b → b ≡ false
-    at true is = let never : may_join h c ≡ false = no_more (joined h) c (live-joined h c is) in absurd (cc)
-    at false is = refl
+not_live_yet h c may = false_from_ne_true (live h c) (λ is. not_joined h c may (live-joined h c is))
 
 module _ {S : Type 0} (c : ℕ) (h : History) where
   pub loses_early : (l : History) (olds news : List (Row S)) (before after : List ℕ) → may_join h c ≡ true → l ≡ h → news ≡ olds → after ≡ before

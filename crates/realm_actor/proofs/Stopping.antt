@@ -1,66 +1,49 @@
 -- A stop closes each live session.
-use Rattle.std.proofs.Common.{◌≡◌, ℕ, zero, suc, ◌+◌, ◌<◌, ◌≤◌, Bool, true, false, cond, ◌||◌, ◌&&◌, eqb, is_some, List, [], ◌∷◌, ◌++◌, length, get_or, refl, sym, ap, ◌∙◌, subst, inl, inr, ⊎_elim, append-nil, append_assoc, arith}
-use Rattle.std.specs.Prelude.{Option, Some, None, slice_get}
-use Rattle.std.proofs.lemmas.Bool.{eqb-true, eq-eqb}
-use Rattle.eligibility.specs.declared.who.Who.{Who}
+use Rattle.std.proofs.Common.{◌≡◌, ℕ, ◌<◌, ◌≤◌, Bool, true, false, ◌&&◌, eqb, List, [], ◌∷◌, ◌++◌, length, get_or, refl, sym, ap, ◌∙◌, subst, ⊎_elim, arith}
+use Rattle.std.specs.Prelude.{Some, None, slice_get}
+use Rattle.std.proofs.lemmas.Bool.{eq-eqb, or_cases, false_from_ne_true}
+use Rattle.std.proofs.lemmas.List.Folds.{list_any-append}
 use Rattle.realm.specs.declared.entry.Entry.{Entry}
 use Rattle.realm.specs.declared.entry.Entry.TheVariants.{Cut, Closed}
 use Rattle.realm.specs.History.{History, ◌▷◌}
 use Rattle.realm.specs.Sessions.{who, live}
+use Rattle.realm.proofs.Choices.{clash, none-since, taken-away}
 use Rattle.realm_actor.specs.declared.row.Row.{Row}
 use Rattle.realm_actor.specs.declared.outcome.Outcome.{Outcome}
 use Rattle.realm_actor.specs.declared.outcome.Outcome.TheVariants.{Applied, NoMemory}
-use Rattle.realm_actor.specs.Following.{Box}
-use Rattle.realm_actor.specs.Rows.{box_in}
-use Rattle.realm_actor.specs.Tables.{Went, EachWent, EachMarked, Sound}
-use Rattle.realm_actor.specs.Cutting.{Accepted, Cuts, none, one_more as one_cut, IsCutOf, NoneFull}
+use Rattle.realm_actor.specs.Tables.{Sound}
+use Rattle.realm_actor.specs.Cutting.{Cuts, none, one_more as one_cut, IsCutOf}
 use Rattle.realm_actor.specs.Handling.{EachUnmarked}
-use Rattle.realm_actor.specs.Naming.{is_in, named_conns, NoMarks, Names, outbox_of}
+use Rattle.realm_actor.specs.Naming.{is_in, named_conns, Names}
 use Rattle.realm_actor.specs.Closing.{ClosesOne, passed, closed, refused, Closes, first, one_more, is_nil, outcome_of, Stops}
 use Rattle.realm_actor.specs.Standing.{Stands}
-use Rattle.realm_actor.proofs.Standing.{read, within, same_place, below_or}
+use Rattle.realm_actor.proofs.Standing.{same_place, below_or, beside}
 use Rattle.realm_actor.proofs.Named.{EachMoved, EachWent-same, accepted_went, moved_went, moved_marked, moved_on, names_moved}
 use Rattle.realm_actor.proofs.Doing.{held_by, one_in}
 
 -- who isn't live stays so
 
-gone : (b : Bool) (o : Option Who) → is_some o ≡ false → is_some (cond b None o) ≡ false
-gone true o e = refl
-gone false o e = e
-
-ended : (b : Bool) (o : Option Who) → b ≡ true → is_some (cond b None o) ≡ false
-ended true o e = refl
-ended false o e = absurd (cc)
-
 pub still_dead : (h : History) (c d : ℕ) (e : Entry) → IsCutOf d c e → (x : ℕ) → live h x ≡ false → live (h ▷ e) x ≡ false
 unfolding who
 still_dead h c d e is x dead = ⊎_elim
-    (λ (one : e ≡ Cut d (Some c)). subst (λ f. live (h ▷ f) x ≡ false) (sym one) (gone (eqb d x) (who h x) dead))
-    (λ (two : e ≡ Cut d None). subst (λ f. live (h ▷ f) x ≡ false) (sym two) (gone (eqb d x) (who h x) dead))
+    (λ (one : e ≡ Cut d (Some c)). subst (λ f. live (h ▷ f) x ≡ false) (sym one) (none-since (eqb d x) (who h x) dead))
+    (λ (two : e ≡ Cut d None). subst (λ f. live (h ▷ f) x ≡ false) (sym two) (none-since (eqb d x) (who h x) dead))
     is
 
 cut_dead : (h : History) (word c : ℕ) (e : Entry) → IsCutOf c word e → live (h ▷ e) c ≡ false
 unfolding who
 cut_dead h word c e is = ⊎_elim
-    (λ (one : e ≡ Cut c (Some word)). subst (λ f. live (h ▷ f) c ≡ false) (sym one) (ended (eqb c c) (who h c) (eq-eqb c c refl)))
-    (λ (two : e ≡ Cut c None). subst (λ f. live (h ▷ f) c ≡ false) (sym two) (ended (eqb c c) (who h c) (eq-eqb c c refl)))
+    (λ (one : e ≡ Cut c (Some word)). subst (λ f. live (h ▷ f) c ≡ false) (sym one) (taken-away (eqb c c) (who h c) (eq-eqb c c refl)))
+    (λ (two : e ≡ Cut c None). subst (λ f. live (h ▷ f) c ≡ false) (sym two) (taken-away (eqb c c) (who h c) (eq-eqb c c refl)))
     is
 
 closed_dead : (h : History) (c word : ℕ) → live (h ▷ Closed c word) c ≡ false
 unfolding who
-closed_dead h c word = ended (eqb c c) (who h c) (eq-eqb c c refl)
+closed_dead h c word = taken-away (eqb c c) (who h c) (eq-eqb c c refl)
 
 closed_still : (h : History) (c word x : ℕ) → live h x ≡ false → live (h ▷ Closed c word) x ≡ false
 unfolding who
-closed_still h c word x dead = gone (eqb c x) (who h x) dead
-
-in_either : (c : ℕ) (xs ys : List ℕ) (P : Type 0) → (is_in c xs ≡ true → P) → (is_in c ys ≡ true → P) → is_in c (xs ++ ys) ≡ true → P
-in_either c [] ys P f g e = g e
-in_either c (x ∷ xs) ys P f g e = at (eqb x c) (in_either c xs ys P) f e
-  where
-    at : (b : Bool) → ((is_in c xs ≡ true → P) → (is_in c ys ≡ true → P) → is_in c (xs ++ ys) ≡ true → P) → (b || is_in c xs ≡ true → P) → b || is_in c (xs ++ ys) ≡ true → P
-    at true on f e = f refl
-    at false on f e = on f g e
+closed_still h c word x dead = none-since (eqb c x) (who h x) dead
 
 module _ {S : Type 0} where
   pub cuts_dead : {h l : History} {rows news : List (Row S)} {drawn : List ℕ} (x : ℕ) → Cuts h rows drawn l news → live h x ≡ false → live l x ≡ false
@@ -99,7 +82,7 @@ module _ {S : Type 0} where
   closes_dead first k r less get = absurd (omega (arith, less))
   closes_dead {l = l} {news = news} (one_more {i} {mid = mid} so_far one) k r less get =
       let moved = one_moved one in
-      let before : slice_get mid k ≡ Some (get_or mid k r) = read mid k r (let w = within news k r get in let n = moved.0 in omega (arith, w, n)) in
+      let before : slice_get mid k ≡ Some (get_or mid k r) = beside news mid k r (sym moved.0) get in
       let conn = (moved.1 k (get_or mid k r) r before get).conn in
       ap (live l) conn ∙ ⊎_elim
       (λ (low : k < i). one_dead (get_or mid k r).conn one (closes_dead so_far k (get_or mid k r) low before))
@@ -107,17 +90,12 @@ module _ {S : Type 0} where
       (below_or k i)
 
   pub none_live : (h l : History) (olds ends : List (Row S)) (words lost : List ℕ) → Closes h olds (length olds) words lost l ends → Sound l ends → (c : ℕ) → live l c ≡ false
-  none_live h l olds ends words lost closes sound c = at (live l c) refl
-    where
-      at : (b : Bool) → live l c ≡ b → b ≡ false
-      at true is =
-          let row = sound.has_rows c is in
-          let n = (closes_moved closes).0 in
-          let inside = row.1.0 in
-          let dead = closes_dead closes row.0 row.1.1 (omega (arith, inside, n)) row.1.2 in
-          let no : live l c ≡ false = ap (live l) (sym row.1.3) ∙ dead in
-          absurd (cc)
-      at false is = refl
+  none_live h l olds ends words lost closes sound c = false_from_ne_true (live l c) (λ is.
+      let row = sound.has_rows c is in
+      let n = (closes_moved closes).0 in
+      let inside = row.1.0 in
+      let dead = closes_dead closes row.0 row.1.1 (omega (arith, inside, n)) row.1.2 in
+      clash (live l c) is (ap (live l) (sym row.1.3) ∙ dead))
 
   -- who is lost has a row
 
@@ -130,17 +108,17 @@ module _ {S : Type 0} where
   onto : (lost : List ℕ) (olds news : List (Row S)) (d : ℕ) → EachMoved lost olds news → (k : ℕ) × (r : Row S) × (slice_get olds k ≡ Some r) × (r.conn ≡ d)
       → (k : ℕ) × (r : Row S) × (slice_get news k ≡ Some r) × (r.conn ≡ d)
   onto lost olds news d m t =
-      let en = read news t.0 t.1 (let w = within olds t.0 t.1 t.2 in let n = m.0 in omega (arith, w, n)) in
+      let en = beside olds news t.0 t.1 m.0 t.2 in
       (t.0, get_or news t.0 t.1, en, (m.1 t.0 t.1 (get_or news t.0 t.1) t.2 en).conn ∙ t.3)
 
   pub all_lost : {h : History} {rows : List (Row S)} {i : ℕ} {l : History} {news : List (Row S)} {words lost : List ℕ} (d : ℕ) → Closes h rows i words lost l news → is_in d lost ≡ true
       → (k : ℕ) × (r : Row S) × (slice_get news k ≡ Some r) × (r.conn ≡ d)
   all_lost d first e = absurd (cc e)
   all_lost {news = news} d (one_more {lost = lost} {gone = more} {mid = mid} so_far one) e =
-      in_either d lost more _
-      (λ f. onto more mid news d (one_moved one) (all_lost d so_far f))
-      (λ f. onto more mid news d (one_moved one) (one_lost d one f))
-      e
+      ⊎_elim
+      (λ (f : is_in d lost ≡ true). onto more mid news d (one_moved one) (all_lost d so_far f))
+      (λ (f : is_in d more ≡ true). onto more mid news d (one_moved one) (one_lost d one f))
+      (or_cases (is_in d lost) (is_in d more) (sym (list_any-append (λ x. eqb x d) lost more) ∙ e))
 
   pub stops : (result : Outcome) (h l : History) (olds ends news : List (Row S)) (before after words lost named : List ℕ) → Stands h olds → Sound l ends → Closes h olds (length olds) words lost l ends
       → result ≡ outcome_of lost → EachUnmarked ends news → after ≡ before ++ words → named ≡ named_conns ends → Stops result h olds before l news after named

@@ -1,8 +1,10 @@
-use Rattle.std.proofs.Common.{◌≡◌, ◌≢◌, refl, ap, ◌∙◌, subst, set}
+use Rattle.std.proofs.Common.{◌≢◌, refl, ap, ◌∙◌, subst, set}
+use Rattle.std.proofs.lemmas.Result.{IfOk-weaker, IfErr-weaker}
 use Rattle.realm_actor.specs.Rows.{Each, StandsAt}
 use Rattle.realm_actor.specs.Settling.{IsOther}
-use Rattle.realm_actor.proofs.Leaving.{at_place, holds_at, holds_nowhere, set_same, ok_map, err_map}
+use Rattle.realm_actor.proofs.Leaving.{at_place, holds_at, set_same}
 use Rattle.realm_actor.proofs.settling.settle_row.Goals as goal
+use Rattle.realm_actor.proofs.Named.{holds_nowhere}
 
 pub unreachable-requires : goal.unreachable-requires
 unreachable-requires g c =
@@ -22,10 +24,10 @@ returns-clause-rows g c =
     let rows = c.args.rows.now.items in
     let r = c.index_mut-row.result.now in
     let a = at_place rows c.as_slice.result.now c.args.drain.conn c.in-Some.place r c.as_slice.ensures.value (subst (λ m. StandsAt c.as_slice.result.now m c.in-Some.place) c.conn.ensures c.in-Some.ensures) c.index_mut-row.ensures.value in
-    ok_map c.settle.result _ _ (λ rest e. record { place = c.in-Some.place; old = r; new = c.settle.new.self; stands = a.0; own = a.1; emptied = e; after = refl }) c.settle.ensures.ok
+    IfOk-weaker c.settle.result _ _ (λ rest e. record { place = c.in-Some.place; old = r; new = c.settle.new.self; stands = a.0; own = a.1; emptied = e; after = refl }) c.settle.ensures.ok
 
 pub returns-clause-err : goal.returns-clause-err
 returns-clause-err g c =
     let rows = c.args.rows.now.items in
     let r = c.index_mut-row.result.now in
-    err_map c.settle.result _ _ (λ back e. (ap (set rows c.in-Some.place) e.0 ∙ set_same rows c.in-Some.place r c.index_mut-row.ensures.value, e.1)) c.settle.ensures.err
+    IfErr-weaker c.settle.result _ _ (λ back e. (ap (set rows c.in-Some.place) e.0 ∙ set_same rows c.in-Some.place r c.index_mut-row.ensures.value, e.1)) c.settle.ensures.err
