@@ -3,7 +3,7 @@ use Rattle.std.proofs.Common.{◌≡◌, ◌≢◌, ℕ, ◌<◌, Bool, true, fa
 use Rattle.std.specs.Prelude.{Option, Some, None, ⊤, slice_get, MatchOption, option_map}
 use Rattle.std.proofs.lemmas.Bool.{eqb-true, eq-eqb, or_cases, or_left, ne_eqb, true_from_ne_false, not_from_false}
 use Rattle.realm.specs.History.{History}
-use Rattle.realm.specs.Sessions.{live, joined, may_join}
+use Rattle.realm.specs.Sessions.{live, may_join}
 use Rattle.realm_actor.specs.declared.row.Row.{Row}
 use Rattle.realm_inbox.specs.declared.joining.Joining.{Joining}
 use Rattle.realm_inbox.specs.declared.act.Act.{Act}

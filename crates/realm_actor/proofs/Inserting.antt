@@ -7,7 +7,7 @@ use Rattle.std.proofs.Math.Bool.{or-false}
 use Rattle.realm.specs.declared.entry.Entry.{Entry}
 use Rattle.outbox_queue.specs.Rule.{Grows}
 use Rattle.realm.specs.History.{History, begun, ◌▷◌, Begins}
-use Rattle.realm.specs.Sessions.{live, joined, conn_of, may_join, IsHistory}
+use Rattle.realm.specs.Sessions.{live, conn_of, may_join, IsHistory}
 use Rattle.realm.specs.Yield.{owed, yield}
 use Rattle.realm.proofs.Joined.{live-joined}
 use Rattle.realm_actor.specs.declared.row.Row.{Row}

@@ -1,8 +1,6 @@
 -- What a run makes of the history.
-use Rattle.std.proofs.Common.{◌≡◌, ◌⊎◌, ℕ, Bool, true, false, true≢false, cond, not, ◌||◌, ◌&&◌, eqb, is_some, List, [], ◌∷◌, ◌++◌, refl, sym, ap, subst, ◌∙◌, inl, inr, ⊎_elim, append-nil, append_assoc}
-use Rattle.std.specs.Prelude.{Option, Some, None}
-use Rattle.std.proofs.lemmas.Bool.{eqb-true}
-use Rattle.realm.specs.declared.entry.Entry.{Entry}
+use Rattle.std.proofs.Common.{◌≡◌, ℕ, Bool, true, false, List, [], ◌∷◌, ◌++◌, refl, sym, ap, subst, ◌∙◌, ⊎_elim, append-nil, append_assoc}
+use Rattle.std.specs.Prelude.{Some, None}
 use Rattle.realm.specs.declared.entry.Entry.TheVariants as entry
 use Rattle.realm.specs.History.{History, ◌▷◌, Begins, same, longer}
 use Rattle.realm.specs.Sessions.{live}
@@ -22,7 +20,6 @@ use Rattle.realm_actor.specs.Handling.{entry_of, is_dropped, Loses, Acts}
 use Rattle.realm_actor.specs.Handling as handling
 use Rattle.realm_actor.specs.Closing.{Closes, ClosesOne, Stops}
 use Rattle.realm_actor.specs.Closing as closing
-use Rattle.realm_actor.specs.Settling.{Sweeps}
 use Rattle.realm_actor.specs.Running.{Handles, Runs, Ran}
 use Rattle.realm_actor.specs.Running as running
 use Rattle.realm_actor.specs.Making.{AfterCuts, AfterClosing, was_closed, Makes, MakesAll}

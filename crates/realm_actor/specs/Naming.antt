@@ -1,9 +1,9 @@
 -- Whom a post found full, or cut.
-use Rattle.std.specs.Prelude.{◌≡◌, ◌⊎◌, ℕ, Bool, true, false, cond, ◌==◌, ◌||◌, ◌<◌, List, [], ◌∷◌, Option, Some, None, slice_get, ⊤}
+use Rattle.std.specs.Prelude.{◌≡◌, ◌⊎◌, ℕ, Bool, true, false, cond, ◌==◌, ◌||◌, ◌<◌, List, [], ◌∷◌, Option, Some, None, ⊤}
 use Rattle.std.specs.List.{list_any}
 use Rattle.realm_actor.specs.declared.row.Row.{Row}
 use Rattle.realm_actor.specs.Following.{Box}
-use Rattle.realm_actor.specs.Rows.{box_in, Rose, Each}
+use Rattle.realm_actor.specs.Rows.{box_in, Each}
 
 -- how often a step found the outbox full; 0 where it isn't held
 abbrev pub finds_in : Option Box → ℕ

@@ -1,5 +1,5 @@
 -- The end of a session's outbox.
-use Rattle.std.specs.Prelude.{◌≡◌, ◌≢◌, ℕ, true, false, length, List, [], ◌++◌, Option, Some, None, slice_get, set}
+use Rattle.std.specs.Prelude.{◌≡◌, ◌≢◌, ℕ, true, false, List, ◌++◌, Option, Some, None, slice_get, set}
 use mathlib.Core.List.{IsPrefix}
 use Rattle.outbox_queue.specs.Ends.{Taking}
 use Rattle.outbox_queue.specs.Rule.{Grows}

@@ -1,7 +1,7 @@
-use Rattle.std.proofs.Common.{◌≡◌, [], ◌∷◌, sym, ap, ◌∙◌, not, true, refl, arith, append-nil}
+use Rattle.std.proofs.Common.{[], ◌∷◌, sym, ap, arith, append-nil}
 use Rattle.std.specs.Prelude.{vec_capacity}
 use Rattle.realm_actor.proofs.Doing.{as_many}
-use Rattle.realm_actor.proofs.Spoken.{by_outcome, applies_plain, applies_word, loses_by, no_joining, dropped-live, conn_of-entry_of, may_come-entry_of}
+use Rattle.realm_actor.proofs.Spoken.{by_outcome, applies_plain, applies_word, loses_by, no_joining}
 use Rattle.realm_actor.proofs.state.State.enter.Goals as goal
 
 pub returns-then-not-draws-clause-outcome : goal.returns-then-not-draws-clause-outcome
@@ -27,3 +27,21 @@ returns-clause-outcome g c =
     (applies_word c.args.conn c.args.act a.table.realm b.table.realm a.table.rows.items b.table.rows.items before after c.entry_of-2.result c.requires.other word start c.next_word-word.ensures (sym c.if-not-draws.ensures) c.entry_of-2.ensures)
     (loses_by c.args.conn a.table.realm b.table.realm a.table.rows.items b.table.rows.items before after (word ∷ []) start c.next_word-word.ensures (omega arith))
     _ c.take_in-2.ensures.outcome
+
+pub returns-then-not-draws-clause-room : goal.returns-then-not-draws-clause-room
+returns-then-not-draws-clause-room g c = λ before.
+    let a = c.args.self.now in
+    let b = c.take_in.new.self in
+    let l = as_many c.take_in.result _ _ c.args.conn c.args.act a.table.realm b.table.realm a.table.rows.items b.table.rows.items (g.W.IdSource.given a.words) (g.W.IdSource.given b.words)
+    (λ same. ap (λ x. x.table.rows.items) same) (no_joining c.args.act c.requires.other) (returns-then-not-draws-clause-outcome g c) in
+    let room = ap vec_capacity c.take_in.ensures.last_cut in
+    omega (arith, before, l, room)
+
+pub returns-clause-room : goal.returns-clause-room
+returns-clause-room g c = λ before.
+    let a = c.args.self.now in
+    let b = c.take_in-2.new.self in
+    let l = as_many c.take_in-2.result _ _ c.args.conn c.args.act a.table.realm b.table.realm a.table.rows.items b.table.rows.items (g.W.IdSource.given a.words) (g.W.IdSource.given b.words)
+    (λ same. ap (λ x. x.table.rows.items) same) (no_joining c.args.act c.requires.other) (returns-clause-outcome g c) in
+    let room = ap vec_capacity c.take_in-2.ensures.last_cut in
+    omega (arith, before, l, room)

@@ -1,5 +1,4 @@
-use Rattle.std.proofs.Common.{◌≡◌, ap, sym, ◌∙◌, subst, arith}
-use Rattle.std.specs.Prelude.{vec_capacity}
+use Rattle.std.proofs.Common.{ap, sym, subst}
 use Rattle.realm_actor.specs.Handling.{Does}
 use Rattle.realm_actor.specs.Standing.{Stands}
 use Rattle.realm_actor.proofs.Doing.{does, stands_after, none_after}

@@ -5,7 +5,7 @@ use Rattle.std.specs.Prelude.{vec_capacity}
 use Rattle.realm_actor.proofs.Fullness.{not_err}
 use Rattle.realm.specs.Sessions.{may_join}
 use Rattle.realm_actor.specs.Tables.{Sound}
-use Rattle.realm_actor.specs.Cutting.{Accepted, NoneFull}
+use Rattle.realm_actor.specs.Cutting.{NoneFull}
 use Rattle.realm_actor.proofs.Spoken.{loses_early, loses_join, applies_join}
 use Rattle.realm_actor.proofs.Named.{insert_length, length_all}
 use Rattle.realm_actor.proofs.state.State.join.Goals as goal

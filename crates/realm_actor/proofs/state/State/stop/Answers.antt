@@ -1,4 +1,4 @@
-use Rattle.std.proofs.Common.{sym, ap, ◌∙◌, subst, arith}
+use Rattle.std.proofs.Common.{sym, ◌∙◌, subst, arith}
 use Rattle.realm_actor.specs.Closing.{Stops}
 use Rattle.realm_actor.specs.Standing.{Stands}
 use Rattle.realm_actor.proofs.Stopping.{stops, closes_moved, outcome_applied, outcome_refused}

@@ -1,6 +1,5 @@
 use Rattle.std.proofs.Common.{refl, sym, ap, ◌∙◌, subst, [], ◌∷◌, ◌++◌, append-nil, append_assoc, length}
 use Rattle.std.proofs.lemmas.Option.{slice_get_read}
-use Rattle.realm.specs.Sessions.{live}
 use Rattle.realm_actor.specs.Tables.{EachMarked}
 use Rattle.realm_actor.specs.Cutting.{Accepted}
 use Rattle.realm_actor.specs.Closing.{passed, closed, refused}

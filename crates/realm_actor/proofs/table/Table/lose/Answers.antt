@@ -1,9 +1,8 @@
 use Rattle.std.proofs.Common.{sym, ap, ◌∙◌, subst, ◌++◌, ◌∷◌, [], append_assoc}
-use Rattle.realm.specs.Sessions.{live}
 use Rattle.realm.specs.History.{◌▷◌}
 use Rattle.realm_actor.specs.Rows.{Ascending}
-use Rattle.realm_actor.specs.Tables.{EachWent, Sound}
-use Rattle.realm_actor.specs.Cutting.{Accepted, Cuts}
+use Rattle.realm_actor.specs.Tables.{Sound}
+use Rattle.realm_actor.specs.Cutting.{Cuts}
 use Rattle.realm_actor.proofs.Doing.{sound_same, same_marked}
 use Rattle.realm_actor.proofs.table.Table.lose.Goals as goal
 

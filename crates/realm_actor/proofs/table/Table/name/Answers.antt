@@ -1,5 +1,5 @@
 use Rattle.std.proofs.Common.{refl, sym, ◌∙◌}
-use Rattle.realm_actor.proofs.Marks.{unmarked_names, unmarked_same, unmarked_after}
+use Rattle.realm_actor.proofs.Marks.{unmarked_names, unmarked_same}
 use Rattle.realm_actor.proofs.Knowing.{knows_unmarked}
 use Rattle.realm_actor.proofs.table.Table.name.Goals as goal
 
