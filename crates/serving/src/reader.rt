@@ -1,5 +1,6 @@
 //! The thread that reads what a client sends.
-ghost use Rattle.std.specs.Prelude.{◌≡◌, IfSome};
+ghost use Rattle.std.specs.Prelude.{◌≡◌, option_map, IfSome};
+ghost use Rattle.std.specs.String.{string_bytes};
 
 use crate::plan::Plan;
 use crate::work::start;
@@ -149,8 +150,8 @@ fn begin<
     S: Shut + Send + 'static,
 >(rt: R, session: Session<O, S>, conn: Conn) -> Option<Begun<S>>
     ensures own { IfSome result (λ b. b.joining.outbox.conn ≡ conn) }
-    ensures authid { IfSome result (λ b. b.joining.authid ≡ session.opened.authid) }
-    ensures frames { IfSome result (λ b. (b.opened.early ≡ session.opened.early) × (b.opened.deframer ≡ session.opened.deframer) × (b.opened.serializer ≡ session.opened.serializer)) }
+    ensures authid { IfSome result (λ b. b.joining.authid ≡ option_map string_bytes session.entry.opened.authid) }
+    ensures frames { IfSome result (λ b. (b.opened.early ≡ session.entry.opened.early) × (b.opened.deframer ≡ session.entry.opened.deframer) × (b.opened.serializer ≡ session.entry.opened.serializer)) }
 {
     let Session {
         alloc,
@@ -188,7 +189,7 @@ fn joining<S: Shut>(
     transport: &S,
 ) -> Option<(Joining<S>, Drain<Item, RealmHistory>)>
     ensures own { IfSome result (λ r. r.0.outbox.conn ≡ conn) }
-    ensures authid { IfSome result (λ r. r.0.authid ≡ authid) }
+    ensures authid { IfSome result (λ r. r.0.authid ≡ option_map string_bytes authid) }
     ensures drain { IfSome result (λ r. r.1.conn ≡ conn) }
     ensures pair { IfSome result (λ r. r.0.outbox.queue ≡ r.1.queue) }
 {
