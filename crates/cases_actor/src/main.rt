@@ -29,11 +29,22 @@ mod threads;
 mod work;
 
 use case::Case;
-use std::io;
+use std::alloc::Global;
+use std::io::{self, Input, Print};
+use std::sync::Wait;
+use std::thread::Threads;
 
 fn main(rt: HostRuntime) -> io::Result<()> {
     let alloc = rt.alloc();
-    let mut case = Case::new(alloc);
+    tell_all(rt, alloc, &mut Case::new(alloc))
+}
+
+// Prints what each line of standard input is answered by.
+fn tell_all<R: Input + Print + Threads + Wait + Copy + Send + 'static>(
+    rt: R,
+    alloc: Global,
+    case: &mut Case,
+) -> io::Result<()> {
     for line in rt.lines(alloc) {
         let told = case.take(rt, alloc, line?.as_str())?;
         print!(rt; "{told}")?;

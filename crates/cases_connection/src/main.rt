@@ -31,14 +31,22 @@ mod writer;
 use case::Case;
 use case_text::is_refused;
 use std::alloc::Global;
-use std::io;
+use std::io::{self, Input, Print};
 use std::sync::Wait;
 
 fn main(rt: HostRuntime) -> io::Result<()> {
     let alloc = rt.alloc();
-    let mut case = Case::new(alloc)?;
+    tell_all(rt, alloc, &mut Case::new(alloc)?)
+}
+
+// Prints what each line of standard input is answered by.
+fn tell_all<R: Input + Print + Wait + Copy>(
+    rt: R,
+    alloc: Global,
+    case: &mut Case,
+) -> io::Result<()> {
     for line in rt.lines(alloc) {
-        let told = answer(&rt, alloc, &mut case, line?.as_str())?;
+        let told = answer(&rt, alloc, case, line?.as_str())?;
         print!(rt; "{told}")?;
     }
     Ok(())

@@ -17,11 +17,21 @@ mod room;
 mod side;
 
 use case::Case;
-use std::io;
+use std::alloc::Global;
+use std::io::{self, Input, Print};
+use std::sync::Wait;
 
 fn main(rt: HostRuntime) -> io::Result<()> {
     let alloc = rt.alloc();
-    let mut case = Case::new();
+    tell_all(rt, alloc, &mut Case::new())
+}
+
+// Prints what each line of standard input is answered by.
+fn tell_all<R: Input + Print + Wait + Copy>(
+    rt: R,
+    alloc: Global,
+    case: &mut Case,
+) -> io::Result<()> {
     for line in rt.lines(alloc) {
         let told = case.take(&rt, alloc, line?.as_str())?;
         print!(rt; "{told}")?;
