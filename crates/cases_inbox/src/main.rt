@@ -8,6 +8,8 @@
 //! - `receive` waits for a post, `try` looks for one.
 //! - `close` drops the inbox, `desert` the door and each free seat.
 //! - `threads CAP CONN CONN COUNT`: two threads post so many PINGs each, numbered from 0, and a third receives them all.
+//! - `forsake MOST CAP CONN CONN COUNT`: the same, where the third receives at most so many, and goes: the line comes once both threads
+//!   have ended.
 //! - `crossing`: what may go to other threads.
 #![tactic(auto)]
 

@@ -79,7 +79,7 @@ impl Received {
         let count = self.first.count.wrapping_add(self.second.count);
         let are_in_order = self.first.are_in_order && self.second.are_in_order;
         Ok(format!(in alloc;
-            "{count} received, each the next: {are_in_order}; the others came back\n"
+            "{count} received, each the next: {are_in_order}; both threads ended\n"
         )?)
     }
 }

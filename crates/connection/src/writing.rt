@@ -11,7 +11,7 @@ use session::{Fault, Item, write_item};
 use std::alloc::Global;
 use std::sync::Wait;
 
-/// A buffer with room for more octets than these isn't kept for the next frame.
+/// A buffer with room for more octets than these isn't kept once its frame is handed over.
 const KEPT: usize = 65536;
 
 /// Why a writer ended.
@@ -105,7 +105,7 @@ fn give_up<S: Sink>(sink: &mut S, fault: Fault) -> WriteEnd
     }
 }
 
-/// Hands the frame of an item to the device. It is made in the buffer.
+/// Hands the frame of an item to the device. It is made in the buffer, which is empty before.
 fn write_one<S: Sink>(
     alloc: Global,
     sink: &mut S,
@@ -115,7 +115,8 @@ fn write_one<S: Sink>(
     buffer: &mut Vec<u8>,
     turns: &mut Turns,
 ) -> Result<(), WriteEnd>
-    requires { limit ≤ 16777215 }
+    requires limit { limit ≤ 16777215 }
+    requires buffer { buffer.old.items ≡ [] }
     ensures written { OnOk result (S.taken sink.new ≡ S.taken sink.old ++ octets_of serializer item.now) }
     ensures writable { OnOk result (IsWritable serializer limit item.now) }
     ensures ended { IfErr result (λ e. BreaksAt serializer limit e item.now (S.taken sink.old) (S.taken sink.new)) }
@@ -125,14 +126,13 @@ fn write_one<S: Sink>(
     ensures told { IfErr result (λ e. e ≢ WriteEnd.Device → S.failures sink.new ≡ S.failures sink.old) }
     ensures turns { result ≡ Err WriteEnd.TooManyTurns → turns.new ≡ 0 }
 {
-    empty(alloc, buffer);
     match write_item(alloc, serializer, limit, item, buffer) {
         Ok(()) => hand(sink, buffer, turns),
         Err(fault) => Err(give_up(sink, fault)),
     }
 }
 
-/// Takes the next item, and hands its frame to the device.
+/// Takes the next item, and hands its frame to the device. While it waits for the item, no large buffer is kept.
 fn write_next<R: Wait, H: Owed<Item>, S: Sink>(
     rt: &R,
     alloc: Global,
@@ -154,6 +154,7 @@ fn write_next<R: Wait, H: Owed<Item>, S: Sink>(
     ensures told { IfErr result (λ e. e ≢ WriteEnd.Device → S.failures sink.new ≡ S.failures sink.old) }
     ensures turns { result ≡ Err WriteEnd.TooManyTurns → turns.new ≡ 0 }
 {
+    empty(alloc, buffer);
     let item = match next_item(rt, drain, sink) {
         Ok(item) => item,
         Err(end) => return Err(end),

@@ -5,10 +5,10 @@
 //! `connection` (what a reader posts, what a writer writes, the seats), `session` (the opening of a session) and the queues between them,
 //! `realm_inbox` and `outbox_queue`; what each of these calls does is proved there. [`TcpAcceptor`] accepts over TCP.
 //!
-//! Contracts say here that each call is made only where its own contract allows it: a connection's posts are made at its own seat, with its
-//! own outbox, which is open and new; each actor runs on a new inbox. Which thread starts, ends or is waited for, what crosses from one to
-//! another, and that `serve_on` stops as it is told to, is shown by runs alone. Nothing is promised of time: a peer that takes nothing holds
-//! up its own writer, and the end of `serve_on`, but no other session.
+//! Contracts say here by which of its acceptor's answers `serve_on` ends, and that each call is made only where its own contract allows it:
+//! a connection's posts are made at its own seat, with its own outbox, which is open and new; each actor runs on a new inbox. Which thread
+//! starts, ends or is waited for, and what crosses from one to another, is shown by runs alone. Nothing is promised of time: a peer that takes
+//! nothing holds up its own writer, and the end of `serve_on`, but no other session.
 #![tactic(auto)]
 
 mod acceptor;
