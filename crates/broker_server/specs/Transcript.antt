@@ -3,25 +3,25 @@ use Rattle.std.specs.Prelude.{◌≡◌, ◌==◌, ◌+◌, ◌%◌, ◌^◌, �
 use Rattle.std.specs.declared.option.Option.{Option}
 use Rattle.std.specs.List.{list_any, flat_map}
 use Rattle.message_tree.specs.Data.{Data}
-use Rattle.json_codec.specs.Writing.{json_text}
-use Rattle.session.specs.Telling.{message_of}
-use Rattle.session.specs.declared.item.Item.{Item}
-use Rattle.session.specs.declared.item.Item.TheVariants.{Abort}
-use Rattle.session.specs.declared.item.Reason.{Reason}
+use Rattle.json_codec.specs.Encoder.{json_text}
+use Rattle.session.specs.ToClient.{message_of}
+use Rattle.session.specs.declared.messages.item.Item.{Item}
+use Rattle.session.specs.declared.messages.item.Item.TheVariants.{Abort}
+use Rattle.session.specs.declared.messages.item.Reason.{Reason}
 use Rattle.session.specs.declared.fault.Fault.{Fault}
 use Rattle.session.specs.declared.fault.Fault.TheVariants.{NoSuchRealm, Shape}
-use Rattle.session.specs.Opening.{first_of, is_hello, reason_of}
+use Rattle.session.specs.FirstMessage.{first_of, is_hello, reason_of}
 use Rattle.realm.specs.declared.entry.Entry.{Entry}
 use Rattle.realm.specs.declared.entry.Entry.TheVariants as entry
-use Rattle.realm.specs.Granting.{Grants}
+use Rattle.realm.specs.Grants.{Grants}
 use Rattle.realm.specs.History.{History, begun, ◌▷◌}
 use Rattle.realm.specs.Sessions.{live}
 use Rattle.realm.specs.Words.{draws_word}
 use Rattle.realm.specs.Given.{GivesExactly}
 use Rattle.broker_server.specs.Lines.{Line, line_of}
 use Rattle.broker_server.specs.Speech.{Hears}
-use Rattle.broker_server.specs.declared.speech.Speech.{Speech}
-use Rattle.broker_server.specs.declared.speech.Speech.TheVariants.{Gone, Said, Noise}
+use Rattle.broker_server.specs.declared.transcript.speech.Speech.{Speech}
+use Rattle.broker_server.specs.declared.transcript.speech.Speech.TheVariants.{Gone, Said, Noise}
 
 -- A replay of a realm: the realm's name, the numbers that were named so far, and the history.
 pub record Replay : Type 0 where

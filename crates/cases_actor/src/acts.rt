@@ -2,8 +2,8 @@
 ghost use Rattle.std.specs.Prelude.{◌≡◌, false, IfOk};
 ghost use Rattle.realm_inbox.specs.Joins.{is_join};
 
-use case_actors::Wire;
 use case_items::said_of;
+use case_posts::Wire;
 use realm_inbox::Act;
 use std::alloc::Global;
 use std::io;

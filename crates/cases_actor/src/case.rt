@@ -2,8 +2,8 @@
 use crate::replaying::Replaying;
 use crate::room::Room;
 use crate::threads::publish_all;
-use case_actors::{act_of, capacity, conn_and_rest};
 use case_items::grant_of;
+use case_posts::{act_of, capacity, conn_and_rest};
 use case_text::{line_of, number_of, part};
 use message_tree::Text;
 use std::alloc::Global;

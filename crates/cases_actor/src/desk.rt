@@ -1,9 +1,9 @@
 //! An actor at its inbox.
 ghost use Rattle.std.specs.Prelude.{◌≡◌};
-ghost use Rattle.realm_inbox.specs.Shown.{received};
-ghost use Rattle.realm_actor.specs.Running.{SameAtSeats};
+ghost use Rattle.realm_inbox.specs.EndViews.{received};
+ghost use Rattle.realm_actor.specs.Run.{SameAtSeats};
 
-use case_actors::{Counted, Wire};
+use case_posts::{Counted, Wire};
 use realm_actor::{Actor, Inbox, Outcome};
 use std::alloc::Global;
 use std::marker::Model;
@@ -19,8 +19,8 @@ pub struct Desk {
 
 impl Model for Desk {
     ghost use Rattle.std.specs.Prelude.{ℕ, List};
-    ghost use Rattle.realm_inbox.specs.Shown.{received};
-    ghost use Rattle.realm_actor.specs.Running.{SameAtSeats};
+    ghost use Rattle.realm_inbox.specs.EndViews.{received};
+    ghost use Rattle.realm_actor.specs.Run.{SameAtSeats};
 
     ghost Value = { List ℕ };
 

@@ -4,8 +4,8 @@ ghost use Rattle.realm_inbox.specs.Joins.{is_join};
 
 use crate::seating::post_act;
 use crate::work::Work;
-use case_actors::{Wire, act_of};
 use case_items::item_text;
+use case_posts::{Wire, act_of};
 use outbox_queue::{Drain, Waited};
 use realm_inbox::{Act, Poster, RealmHistory};
 use session::{Item, Said};

@@ -1,12 +1,12 @@
 //! One realm of a case: its actor, who posts, and who takes.
 ghost use Rattle.std.specs.Prelude.{◌≡◌, ◌≤◌, [], false};
 ghost use Rattle.realm_inbox.specs.Joins.{is_join};
-ghost use Rattle.realm_inbox.specs.Shown.{received};
+ghost use Rattle.realm_inbox.specs.EndViews.{received};
 
 use crate::desk::Desk;
 use crate::drains::Drains;
 use crate::seating::{Entered, Seating};
-use case_actors::{Counted, Watching, Wire};
+use case_posts::{Counted, Watching, Wire};
 use case_text::line_of;
 use message_tree::Text;
 use realm::RealmConfig;

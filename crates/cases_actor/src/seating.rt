@@ -2,7 +2,7 @@
 ghost use Rattle.std.specs.Prelude.{◌≡◌, ◌≤◌, ◌<◌, false, length, IfSome};
 ghost use Rattle.realm_inbox.specs.Joins.{is_join};
 
-use case_actors::{Entrance, Wire, entrance_of};
+use case_posts::{Entrance, Wire, entrance_of};
 use message_tree::Text;
 use outbox_queue::Drain;
 use realm_inbox::{Act, Door, Poster, Posting, RealmHistory, Seat};

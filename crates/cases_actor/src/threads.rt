@@ -5,7 +5,7 @@ use crate::expecting::Expecting;
 use crate::publishing::{Publisher, Taken, Writer};
 use crate::room::Room;
 use crate::work::start;
-use case_actors::act_of;
+use case_posts::act_of;
 use case_text::line_of;
 use realm_actor::Outcome;
 use std::alloc::{AllocError, Global};

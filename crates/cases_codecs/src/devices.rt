@@ -9,9 +9,10 @@
 //!
 //! `never` is a call that isn't made.
 use case_text::{number_of, spell};
-use rawsocket::testing::{FailsAt, OneByOne};
-use rawsocket::{
-    Fault, MemorySink, MemorySource, ReadSource, Sink, Source, Turns, read_turn, write_all,
+use rawsocket::Fault;
+use rawsocket::devices::testing::{FailsAt, OneByOne};
+use rawsocket::devices::{
+    MemorySink, MemorySource, ReadSource, Sink, Source, Turns, read_turn, write_all,
 };
 use std::alloc::Global;
 use std::io;

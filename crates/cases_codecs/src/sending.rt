@@ -1,10 +1,9 @@
 //! Writers that hold back, have no room, or fail to flush.
 use crate::devices::ALL;
 use case_text::{crossing, line_of, may_be_sent, spelled};
-use rawsocket::testing::FailsAt;
-use rawsocket::{
-    Deframer, MemorySink, MemorySource, ReadSource, Sink, Turns, WriteSink, write_all,
-};
+use rawsocket::Deframer;
+use rawsocket::devices::testing::FailsAt;
+use rawsocket::devices::{MemorySink, MemorySource, ReadSource, Sink, Turns, WriteSink, write_all};
 use std::alloc::Global;
 use std::io;
 use std::io::BufWriter;

@@ -1,6 +1,7 @@
 //! A device that adds the next item to an outbox once it was told to pass on what it holds.
 use crate::owed::Adder;
-use rawsocket::{Fault, Sink};
+use rawsocket::Fault;
+use rawsocket::devices::Sink;
 use std::sync::Wait;
 
 /// Each item comes once all before it was passed on: a writer that holds something back waits for ever.

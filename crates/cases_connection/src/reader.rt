@@ -2,8 +2,9 @@
 use crate::acts::{Log, Nowhere};
 use crate::client::{Client, Devices, Manner};
 use connection::{EncodingPoster, InUse, ReadEnd, read_posts};
-use rawsocket::testing::{FailsAt, OneByOne};
-use rawsocket::{Deframer, MemorySource, Source};
+use rawsocket::Deframer;
+use rawsocket::devices::testing::{FailsAt, OneByOne};
+use rawsocket::devices::{MemorySource, Source};
 use session::{CarriedArgs, Opened};
 use std::alloc::{AllocError, Global};
 use std::io;

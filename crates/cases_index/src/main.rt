@@ -17,7 +17,7 @@
 //! - `threads`: that an index and a store may be shared between threads.
 //! - `faults`: each fault.
 //!
-//! The last case is drawn and answered by tools/draw_index.
+//! The last case is drawn and answered by tests/draw_index.
 #![tactic(auto)]
 
 mod case;

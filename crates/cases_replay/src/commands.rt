@@ -1,5 +1,5 @@
 use broker_server::{Command, Config, Fault, Ids, read_command, report};
-use rawsocket::MemorySink;
+use rawsocket::devices::MemorySink;
 use std::alloc::{AllocError, Global};
 use std::io;
 

@@ -1,8 +1,8 @@
 //! A replay over devices that may fail.
 use crate::outcome::Outcome;
 use broker_server::{Config, Fault, Ids, read_grants, replay};
-use rawsocket::testing::{FailsAt, OneByOne};
-use rawsocket::{MemorySource, Sink, Source, WriteSink};
+use rawsocket::devices::testing::{FailsAt, OneByOne};
+use rawsocket::devices::{MemorySource, Sink, Source, WriteSink};
 use std::alloc::Global;
 use std::io;
 use wamp_ids::Topic;

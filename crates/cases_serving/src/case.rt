@@ -6,7 +6,6 @@ use crate::steps::{Cue, Deed, Step};
 use crate::told::{tell, tell_last};
 use case_items::grant_of;
 use case_text::{line_of, number_of, octets_of};
-use serving::{Acceptor, Config, Ids, copy_grants, serve_on};
 use std::alloc::Global;
 use std::collections::VecDeque;
 use std::io::{self, Read, Write};
@@ -16,6 +15,7 @@ use std::random::RandomSource;
 use std::sync::Wait;
 use std::thread::Threads;
 use std::time::Clock;
+use threaded_server::{Acceptor, Config, Ids, copy_grants, serve_on};
 use wamp_ids::Topic;
 
 /// How many items may wait for a session's writer, where a case doesn't say.

@@ -3,15 +3,15 @@ ghost use Rattle.std.specs.Prelude.{◌≡◌, ◌++◌, ◌∷◌, []};
 
 use crate::client::Client;
 use crate::steps::{Cue, Play, Step};
-use rawsocket::{ReadSource, WriteSink};
-use realm_inbox::Past;
-use serving::{Accepted, Acceptor, Answer, Parts, TcpAcceptor, TcpHandle};
+use rawsocket::devices::{ReadSource, WriteSink};
+use realm_inbox::GhostList;
 use std::alloc::{AllocError, Global};
 use std::collections::VecDeque;
 use std::io::{self, BufWriter};
 use std::net::{Net, SocketAddr, TcpListener, TcpStream};
 use std::snapshot::Snapshot;
 use std::time::Clock;
+use threaded_server::{Accepted, Acceptor, Answer, Parts, TcpAcceptor, TcpHandle};
 
 /// What is still to be accepted, and the clients of all streams, which connect to the acceptor inside.
 #[derive(Drop)]
@@ -28,7 +28,7 @@ pub struct Sockets<R: Clock + Drop> {
 pub struct Loopback<R: Clock + Drop> {
     pub sockets: Sockets<R>,
     // It takes no bytes.
-    answers: Past<Answer>,
+    answers: GhostList<Answer>,
 }
 
 impl<R: Net<Stream = TcpStream, Listener = TcpListener> + Clock + Copy + Drop> Loopback<R> {
@@ -47,7 +47,7 @@ impl<R: Net<Stream = TcpStream, Listener = TcpListener> + Clock + Copy + Drop> L
         };
         Ok(Loopback {
             sockets,
-            answers: Past::new(),
+            answers: GhostList::new(),
         })
     }
 }
@@ -76,7 +76,7 @@ impl<R: Net<Stream = TcpStream, Listener = TcpListener> + Clock + Copy + Drop> S
 
 impl<R: Net<Stream = TcpStream, Listener = TcpListener> + Clock + Copy + Drop> Acceptor
     for Loopback<R> {
-    ghost use Rattle.ghost_state.specs.Past.{items_of};
+    ghost use Rattle.ghost_state.specs.GhostList.{items_of};
 
     type Stream = TcpStream;
 

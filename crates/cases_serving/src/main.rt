@@ -1,4 +1,4 @@
-//! Cases of `serving`, as lines of standard input; what each gives is printed.
+//! Cases of `threaded_server`, as lines of standard input; what each gives is printed.
 //!
 //! - `# TEXT` begins a case, and is printed as it stands. Its broker has the realms `r.one` and `r.two`, and counts ids. `outbox N`: so many
 //!   items may wait for a session's writer, in place of 256. `grant AUTHID AUTHROLE`: one more grant.

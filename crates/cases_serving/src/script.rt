@@ -4,15 +4,15 @@ ghost use Rattle.std.specs.Prelude.{◌≡◌, ◌++◌, ◌∷◌, []};
 use crate::client::Client;
 use crate::steps::{Cue, Play, Step};
 use crate::stream::End;
-use rawsocket::{ReadSource, WriteSink};
-use realm_inbox::Past;
-use serving::{Accepted, Acceptor, Answer, Parts};
+use rawsocket::devices::{ReadSource, WriteSink};
+use realm_inbox::GhostList;
 use std::alloc::{AllocError, Global};
 use std::collections::VecDeque;
 use std::io;
 use std::net::Net;
 use std::os::unix::net::UnixStream;
 use std::snapshot::Snapshot;
+use threaded_server::{Accepted, Acceptor, Answer, Parts};
 
 /// What is still to be accepted, and the clients of all streams.
 #[derive(Drop)]
@@ -27,7 +27,7 @@ pub struct Pairs<R: Net + Drop> {
 pub struct Script<R: Net + Drop> {
     pub pairs: Pairs<R>,
     // It takes no bytes.
-    answers: Past<Answer>,
+    answers: GhostList<Answer>,
 }
 
 impl<R: Net + Drop> Script<R> {
@@ -39,7 +39,7 @@ impl<R: Net + Drop> Script<R> {
         };
         Script {
             pairs: Pairs { net, alloc, play },
-            answers: Past::new(),
+            answers: GhostList::new(),
         }
     }
 }
@@ -73,7 +73,7 @@ impl<R: Net + Drop> Pairs<R> {
 }
 
 impl<R: Net + Drop> Acceptor for Script<R> {
-    ghost use Rattle.ghost_state.specs.Past.{items_of};
+    ghost use Rattle.ghost_state.specs.GhostList.{items_of};
 
     type Stream = End;
 

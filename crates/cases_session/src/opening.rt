@@ -1,7 +1,8 @@
 //! The opening of a session over devices.
 use case_text::{is_refused, spelled};
-use rawsocket::testing::{FailsAt, OneByOne};
-use rawsocket::{Deframer, Frame, Kind, MemorySource, Serializer, Sink, Source, WriteSink};
+use rawsocket::devices::testing::{FailsAt, OneByOne};
+use rawsocket::devices::{MemorySource, Sink, Source, WriteSink};
+use rawsocket::{Deframer, Frame, Kind, Serializer};
 use session::{Fault, Opened, open_session};
 use std::alloc::Global;
 use std::io;

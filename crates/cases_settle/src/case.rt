@@ -1,7 +1,7 @@
 //! The words of the table.
 use crate::room::Room;
-use case_actors::{act_of, capacity, conn_and_rest};
 use case_items::item_text;
+use case_posts::{act_of, capacity, conn_and_rest};
 use case_text::{line_of, part};
 use session::Item;
 use std::alloc::Global;

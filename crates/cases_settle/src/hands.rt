@@ -1,12 +1,12 @@
 //! Posts of two connections, which are made by hand.
 ghost use Rattle.std.specs.Prelude.{◌≡◌, [], false};
 ghost use Rattle.realm_inbox.specs.Joins.{is_join};
-ghost use Rattle.realm_actor.specs.Acting.{Acting as AnActing};
+ghost use Rattle.realm_actor.specs.ActorView.{Acting as AnActing};
 ghost use Rattle.cases_settle.specs.Sides.{IsSide};
-ghost use Rattle.case_actors.specs.declared.wire.Wire.{Wire as AWire};
+ghost use Rattle.case_posts.specs.declared.wire.Wire.{Wire as AWire};
 
 use crate::side::{Acting, Side, enter, post, settle, stop};
-use case_actors::{Entrance, Wire};
+use case_posts::{Entrance, Wire};
 use realm_actor::Outcome;
 use realm_inbox::Act;
 use session::Item;

@@ -4,7 +4,7 @@ ghost use Rattle.realm_inbox.specs.Joins.{is_join};
 
 use crate::hands::Hands;
 use crate::side::Acting;
-use case_actors::{Counted, Watching, Wire, entrance_of};
+use case_posts::{Counted, Watching, Wire, entrance_of};
 use case_text::line_of;
 use realm::RealmConfig;
 use realm_actor::{Actor, Outcome};

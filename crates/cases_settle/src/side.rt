@@ -2,20 +2,20 @@
 ghost use Rattle.std.specs.Prelude.{◌≡◌, ℕ, [], Some, None, false};
 ghost use Rattle.wamp_ids.specs.Numbers.{seat_of};
 ghost use Rattle.realm_inbox.specs.Joins.{is_join};
-ghost use Rattle.ghost_state.specs.Past.{items_of};
+ghost use Rattle.ghost_state.specs.GhostList.{items_of};
 ghost use Rattle.realm_inbox.specs.declared.act.Act.TheVariants.{Join as AJoin};
 ghost use Rattle.realm_inbox.specs.declared.joining.Joining.{Joining as AJoining};
-ghost use Rattle.realm_actor.specs.Following.{Box};
-ghost use Rattle.realm_actor.specs.Naming.{outbox_of};
-ghost use Rattle.realm_actor.specs.Running.{stands_at};
+ghost use Rattle.realm_actor.specs.OutboxHistory.{Box};
+ghost use Rattle.realm_actor.specs.LastCut.{outbox_of};
+ghost use Rattle.realm_actor.specs.Run.{stands_at};
 ghost use Rattle.realm_actor.specs.declared.outcome.Outcome.TheVariants.{Applied as IsApplied};
 ghost use Rattle.cases_settle.specs.Sides.{IsSide, Pairs, Stays, StaysHeld};
-ghost use Rattle.case_actors.specs.declared.wire.Wire.{Wire as AWire};
+ghost use Rattle.case_posts.specs.declared.wire.Wire.{Wire as AWire};
 
-use case_actors::{Counted, Entrance, Wire};
+use case_posts::{Counted, Entrance, Wire};
 use outbox_queue::{Drain, Next};
 use realm_actor::{Actor, Outcome};
-use realm_inbox::{Act, Letter, Past, Post, RealmHistory};
+use realm_inbox::{Act, GhostList, Letter, Post, RealmHistory};
 use session::Item;
 use std::alloc::Global;
 use std::io;
@@ -29,7 +29,7 @@ pub type Acting = Actor<Wire, Counted>;
 /// A connection of which each post is made here: what was posted at its seat, and the drain of its outbox, while the actor holds that.
 #[derive(Drop)]
 pub struct Side {
-    past: Past<(Conn, Act<Wire>)>,
+    past: GhostList<(Conn, Act<Wire>)>,
     drain: Option<Drain<Item, RealmHistory>>,
 }
 
@@ -40,7 +40,7 @@ impl Side {
         ensures drain { result.drain ≡ None }
     {
         Side {
-            past: Past::new(),
+            past: GhostList::new(),
             drain: None,
         }
     }
@@ -73,7 +73,7 @@ fn handle_next<R: Wait>(
     rt: &R,
     alloc: Global,
     actor: &mut Acting,
-    past: &mut Past<(Conn, Act<Wire>)>,
+    past: &mut GhostList<(Conn, Act<Wire>)>,
     conn: Conn,
     act: Act<Wire>,
 ) -> Outcome

@@ -1,4 +1,4 @@
-mod Acts
-mod Later
-mod Onward
-mod Written
+mod FramesPosted
+mod DrainProgress
+mod ReaderProgress
+mod WriterProgress

@@ -1,4 +1,4 @@
 pub mod Posts
-pub mod Reading
+pub mod Reader
 pub mod Seats
-pub mod Writing
+pub mod Writer

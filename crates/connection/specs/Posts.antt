@@ -9,13 +9,13 @@ use Rattle.rawsocket.specs.declared.frame.Kind.TheVariants as kind
 use Rattle.rawsocket.specs.declared.handshake.Serializer.{Serializer}
 use Rattle.realm_inbox.specs.declared.act.Act.{Act}
 use Rattle.realm_inbox.specs.declared.act.Act.TheVariants.{Said, Ping, Spoilt}
-use Rattle.session.specs.Handing.{stream_fault}
-use Rattle.session.specs.Reading.{said_of}
-use Rattle.session.specs.Serializing.{Decodes, IsUndecodable}
+use Rattle.session.specs.Faults.{stream_fault}
+use Rattle.session.specs.FromClient.{said_of}
+use Rattle.session.specs.Serializer.{Decodes, IsUndecodable}
 use Rattle.session.specs.declared.fault.Fault.{Fault}
 use Rattle.session.specs.declared.fault.Fault.TheVariants.{Shape}
-use Rattle.session.specs.declared.said.Said as session
-use Rattle.session.specs.declared.said.Said.TheVariants.{Abort, Goodbye}
+use Rattle.session.specs.declared.messages.said.Said as session
+use Rattle.session.specs.declared.messages.said.Said.TheVariants.{Abort, Goodbye}
 
 -- a payload is a message of a client, which says this
 pub record Says (s : Serializer) (payload : List ℕ) (said : session.Said) : Type 0 where

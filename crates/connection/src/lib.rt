@@ -9,16 +9,16 @@
 //! and what was written with the frames of the items.
 #![tactic(auto)]
 
-mod encoding;
+mod encoding_poster;
 mod fault;
 mod in_use;
-mod reading;
+mod reader;
 mod seats;
-mod writing;
+mod writer;
 
-pub use encoding::EncodingPoster;
+pub use encoding_poster::EncodingPoster;
 pub use fault::Fault;
 pub use in_use::{InUse, Using};
-pub use reading::{ReadEnd, read_posts};
+pub use reader::{ReadEnd, read_posts};
 pub use seats::Seats;
-pub use writing::{WriteEnd, write_items};
+pub use writer::{WriteEnd, write_items};

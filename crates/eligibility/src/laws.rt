@@ -1,7 +1,7 @@
 //! What follows from the definition of who is admitted alone. These functions do nothing: each is
 //! there for its contract.
 ghost use Rattle.std.specs.Prelude.{◌≡◌, ◌==◌, ℕ, ℤ, List, [], true, false, not, Some};
-ghost use Rattle.eligibility.specs.Audience.{Audience, everyone, admits, has_number};
+ghost use Rattle.eligibility.specs.Lists.{Audience, everyone, admits, has_number};
 ghost use Rattle.eligibility.specs.declared.who.Who.{Who};
 
 /// A session that `exclude` names is never admitted, whatever else the options say.

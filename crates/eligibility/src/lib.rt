@@ -4,11 +4,11 @@
 //! names sessions, authids and authroles, and which options are refused.
 #![tactic(auto)]
 
-mod asked;
 mod fault;
 pub mod laws;
 mod lists;
 mod lookup;
+mod options;
 mod who;
 
 pub use fault::Fault;

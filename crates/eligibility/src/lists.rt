@@ -2,12 +2,12 @@ ghost use Rattle.std.specs.Prelude.{◌≡◌, ◌==◌, ◌&&◌, true, not, If
 ghost use Rattle.std.specs.Option.{option_and_then};
 ghost use Rattle.message_tree.specs.Data.{no_entries};
 ghost use Rattle.message_tree.specs.View.{dict_view};
-ghost use Rattle.eligibility.specs.Audience.{audience_of, everyone, admits, has_number, has_text, is_free_of, allows};
+ghost use Rattle.eligibility.specs.Lists.{audience_of, everyone, admits, has_number, has_text, is_free_of, allows};
 ghost use Rattle.eligibility.specs.declared.who.Who.{Who};
 
-use crate::asked::{flag_at, numbers_at, text_lists, texts_at, texts_of};
 use crate::fault::Fault;
 use crate::lookup::{Numbers, Texts};
+use crate::options::{flag_at, numbers_at, text_lists, texts_at, texts_of};
 use crate::who::Who;
 use message_tree::{Dict, Text};
 use std::alloc::{AllocError, Global};
@@ -36,7 +36,7 @@ pub struct Lists {
 
 impl Model for Lists {
     ghost use Rattle.std.specs.Option.{option_and_then};
-    ghost use Rattle.eligibility.specs.Audience.{Audience};
+    ghost use Rattle.eligibility.specs.Lists.{Audience};
 
     ghost Value = { Audience };
 
@@ -86,7 +86,7 @@ impl Named {
 
 impl Lists {
     /// What a PUBLISH without options says: everyone but its publisher.
-    #[tactic(auto, unfolding(crate::specs::Audience::audience_of))]
+    #[tactic(auto, unfolding(crate::specs::Lists::audience_of))]
     pub fn everyone() -> Lists
         ensures value { result ≡ everyone }
         ensures no_options { audience_of no_entries ≡ Some result }
@@ -103,7 +103,7 @@ impl Lists {
     /// # Errors
     /// [`Fault::Shape`] where one of the seven has a wrong type, [`Fault::NoMemory`] where a growth
     /// was refused.
-    #[tactic(auto, unfolding(crate::specs::Audience::audience_of))]
+    #[tactic(auto, unfolding(crate::specs::Lists::audience_of))]
     pub fn read(alloc: Global, options: &Dict) -> Result<Lists, Fault>
         ensures ok { IfOk result (λ l. audience_of (dict_view options.now) ≡ Some l) }
         ensures bad { result ≡ Err Fault.Shape → audience_of (dict_view options.now) ≡ None }
@@ -133,7 +133,7 @@ impl Lists {
     ///
     /// # Errors
     /// As [`Lists::read`].
-    #[tactic(auto, unfolding(crate::specs::Audience::audience_of))]
+    #[tactic(auto, unfolding(crate::specs::Lists::audience_of))]
     pub fn take(alloc: Global, options: Dict) -> Result<Lists, Fault>
         ensures ok { IfOk result (λ l. audience_of (dict_view options) ≡ Some l) }
         ensures bad { result ≡ Err Fault.Shape → audience_of (dict_view options) ≡ None }

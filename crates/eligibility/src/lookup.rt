@@ -3,7 +3,7 @@ ghost use Rattle.std.specs.Prelude.{◌≡◌, ◌||◌, ◌<◌, ◌^◌, ℕ, 
 ghost use Rattle.std.specs.Ordering.{nat_cmp};
 ghost use Rattle.std.specs.BTreeSet.{contains, contains_text};
 ghost use Rattle.std.specs.Str.{bytes_eq};
-ghost use Rattle.eligibility.specs.Audience.{has_number, has_text, is_number};
+ghost use Rattle.eligibility.specs.Lists.{has_number, has_text, is_number};
 
 use message_tree::Text;
 use std::alloc::{AllocError, Global};
@@ -24,7 +24,7 @@ impl Model for Numbers {
     ghost use Rattle.std.specs.Prelude.{◌≡◌, ◌<◌, ◌^◌, ℕ, ℤ, List};
     ghost use Rattle.std.specs.Ordering.{nat_cmp};
     ghost use Rattle.std.specs.BTreeSet.{contains};
-    ghost use Rattle.eligibility.specs.Audience.{has_number};
+    ghost use Rattle.eligibility.specs.Lists.{has_number};
 
     ghost Value = { List ℤ };
 
@@ -80,7 +80,7 @@ pub(crate) struct Texts {
 impl Model for Texts {
     ghost use Rattle.std.specs.Prelude.{◌≡◌, ℕ, List};
     ghost use Rattle.std.specs.BTreeSet.{contains_text};
-    ghost use Rattle.eligibility.specs.Audience.{has_text};
+    ghost use Rattle.eligibility.specs.Lists.{has_text};
 
     ghost Value = { List (List ℕ) };
 

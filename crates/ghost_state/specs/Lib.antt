@@ -1,2 +1,2 @@
-pub mod Count
-pub mod Past
+pub mod GhostCount
+pub mod GhostList

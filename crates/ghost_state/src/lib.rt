@@ -6,8 +6,8 @@
 //! It stands on no other crate. Contracts say what each call adds.
 #![tactic(auto)]
 
-mod count;
-mod past;
+mod ghost_count;
+mod ghost_list;
 
-pub use count::Count;
-pub use past::Past;
+pub use ghost_count::GhostCount;
+pub use ghost_list::GhostList;

@@ -7,10 +7,10 @@
 //! It stands on `message_tree`. Contracts say which octets are written for each message; that what is read is what `serde_json` reads
 //! of the octets, a marked string being the bytes that it stands for; and that what is written reads back, where no text begins with
 //! U+0000.
+mod decoder;
+mod encoder;
 mod fault;
-mod reading;
-mod writing;
 
+pub use decoder::decode;
+pub use encoder::{encode, encode_into, encode_number_into, encode_text_into};
 pub use fault::Fault;
-pub use reading::decode;
-pub use writing::{encode, encode_into, encode_number_into, encode_text_into};

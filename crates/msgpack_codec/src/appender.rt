@@ -13,7 +13,7 @@ pub(crate) struct Appender {
 
 impl Model for Appender {
     ghost use Rattle.std.specs.Prelude.{◌≤◌, length, take, drop};
-    ghost use Rattle.msgpack_codec.specs.Written.{Written, written_code};
+    ghost use Rattle.msgpack_codec.specs.body.Buffer.{Written, written_code};
 
     ghost Value = { Written };
 

@@ -9,12 +9,12 @@
 //! It stands on `message_tree`. Contracts say which octets spell a message, that reading accepts each spelling of it and
 //! nothing else, and that what is written is the shortest.
 mod appender;
+mod decoder;
+mod encoder;
 mod fault;
-mod form;
+mod format;
 pub mod laws;
-mod reading;
-mod writing;
 
+pub use decoder::decode;
+pub use encoder::{encode, encode_into, encode_number_into, encode_text_into};
 pub use fault::Fault;
-pub use reading::decode;
-pub use writing::{encode, encode_into, encode_number_into, encode_text_into};

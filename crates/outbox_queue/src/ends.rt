@@ -1,6 +1,6 @@
 //! The two ends of a queue: a pass each, with a count of the steps that found the queue full, or empty.
 //!
-//! [`AddingEnd::push`] and [`TakingEnd::pop`] are the only calls that step the queue, and each counts a find just where the queue,
+//! [`Producer::push`] and [`Consumer::pop`] are the only calls that step the queue, and each counts a find just where the queue,
 //! by its own contract, answered that it found it. Of a find of full the contract shows also what only the queue could tell:
 //! that at least its capacity was added. A find of empty leaves the taking end no such fact, so that `pop` counts none
 //! without a step is read in its few lines alone.
@@ -13,7 +13,7 @@ ghost use Rattle.outbox_queue.specs.Ends.{Owes};
 use crate::owed::{Owed, Stamped};
 use crate::rule::{Adds, Ends, InStep, Naming, Settles, Takes, View, Whole};
 use crossbeam_queue::{Pass, RuledArrayQueue};
-use ghost_state::Count;
+use ghost_state::GhostCount;
 use std::alloc::{AllocError, Global};
 use std::marker::{Brand, Model};
 use std::sync::{Arc, Wait};
@@ -26,15 +26,15 @@ pub type Place<T, H> = Pass<Stamped<T, H>, View<T, H>>;
 
 /// The end that adds. Contracts see what was added, by which history, and how often the queue was found full.
 #[derive(Drop)]
-pub struct AddingEnd<T, H: Owed<T>> {
+pub struct Producer<T, H: Owed<T>> {
     queue: Arc<Queue<T, H>>,
     place: Place<T, H>,
     conn: u64,
-    added: Count,
-    full_finds: Count,
+    added: GhostCount,
+    full_finds: GhostCount,
 }
 
-impl<T, H: Owed<T>> Model for AddingEnd<T, H> {
+impl<T, H: Owed<T>> Model for Producer<T, H> {
     ghost use Rattle.std.specs.Prelude.{◌≡◌, ◌<◌, [], None, length};
     ghost use Rattle.std.specs.Arc.{arc_value};
     ghost use Rattle.crossbeam_queue.specs.Passes.{view as shown, IsPassOf, ruled_capacity};
@@ -48,7 +48,7 @@ impl<T, H: Owed<T>> Model for AddingEnd<T, H> {
     ghost invariant = { λ e. IsPassOf (arc_value e.queue) e.place × (shown e.place ≡ adding (shown e.place).conn (shown e.place).history (shown e.place).added) × (0 < ruled_capacity (arc_value e.queue)) × ((shown e.place).added ≡ [] → (e.full_finds ≡ 0) × ((shown e.place).history ≡ None)) × Owes H.owed (shown e.place).history (shown e.place).conn (shown e.place).added × (e.conn ≡ (shown e.place).conn) × (e.added ≡ length (shown e.place).added) };
 }
 
-impl<T: Drop, H: Owed<T>> AddingEnd<T, H> {
+impl<T: Drop, H: Owed<T>> Producer<T, H> {
     /// How many items may wait.
     pub fn capacity(&self) -> usize
         ensures { result ≡ self.now.capacity }
@@ -105,14 +105,14 @@ impl<T: Drop, H: Owed<T>> AddingEnd<T, H> {
 
 /// The end that takes. Contracts see what was taken, the history seen, and how often the queue was found empty.
 #[derive(Drop)]
-pub struct TakingEnd<T, H: Owed<T>> {
+pub struct Consumer<T, H: Owed<T>> {
     queue: Arc<Queue<T, H>>,
     place: Place<T, H>,
     conn: u64,
-    empty_finds: Count,
+    empty_finds: GhostCount,
 }
 
-impl<T, H: Owed<T>> Model for TakingEnd<T, H> {
+impl<T, H: Owed<T>> Model for Consumer<T, H> {
     ghost use Rattle.std.specs.Prelude.{◌≡◌, ◌<◌};
     ghost use Rattle.std.specs.Arc.{arc_value};
     ghost use Rattle.crossbeam_queue.specs.Passes.{view as shown, IsPassOf, ruled_capacity};
@@ -126,7 +126,7 @@ impl<T, H: Owed<T>> Model for TakingEnd<T, H> {
     ghost invariant = { λ e. IsPassOf (arc_value e.queue) e.place × (shown e.place ≡ taking (shown e.place).conn (shown e.place).seen (shown e.place).taken) × (0 < ruled_capacity (arc_value e.queue)) × Owes H.owed (shown e.place).seen (shown e.place).conn (shown e.place).taken × (e.conn ≡ (shown e.place).conn) };
 }
 
-impl<T: Drop, H: Owed<T>> TakingEnd<T, H> {
+impl<T: Drop, H: Owed<T>> Consumer<T, H> {
     /// Whose items it carries.
     pub fn conn(&self) -> u64
         ensures { result ≡ self.now.conn }
@@ -180,7 +180,7 @@ pub fn new_ends<T: Drop, H: Owed<T>>(
     alloc: Global,
     conn: u64,
     cap: usize,
-) -> Result<(AddingEnd<T, H>, TakingEnd<T, H>), AllocError>
+) -> Result<(Producer<T, H>, Consumer<T, H>), AllocError>
     requires { 0 < cap }
     ensures adding { IfOk result (λ p. p.0 ≡ record { queue = p.1.queue; capacity = cap; conn = conn; history = None; added = []; full_finds = 0 }) }
     ensures taking { IfOk result (λ p. p.1 ≡ record { queue = p.1.queue; capacity = cap; conn = conn; seen = None; taken = []; empty_finds = 0 }) }
@@ -189,18 +189,18 @@ pub fn new_ends<T: Drop, H: Owed<T>>(
     let theirs = cut::<T, H, Brand>(&queue, &mut place, conn);
     let queue = Arc::new(alloc, queue)?;
     let again = Arc::try_clone(&queue)?;
-    let adding = AddingEnd {
+    let adding = Producer {
         queue,
         place,
         conn,
-        added: Count::new(),
-        full_finds: Count::new(),
+        added: GhostCount::new(),
+        full_finds: GhostCount::new(),
     };
-    let taking = TakingEnd {
+    let taking = Consumer {
         queue: again,
         place: theirs,
         conn,
-        empty_finds: Count::new(),
+        empty_finds: GhostCount::new(),
     };
     Ok((adding, taking))
 }
@@ -250,8 +250,8 @@ fn take_all<T: Drop, H: Owed<T>, R: Wait>(
 pub fn settle_ends<T: Drop, H: Owed<T>, R: Wait>(
     rt: &R,
     into: Vec<T>,
-    adding: AddingEnd<T, H>,
-    taking: TakingEnd<T, H>,
+    adding: Producer<T, H>,
+    taking: Consumer<T, H>,
 ) -> Vec<T>
     requires pair { adding.queue ≡ taking.queue }
     requires empty { into.items ≡ [] }
@@ -259,14 +259,14 @@ pub fn settle_ends<T: Drop, H: Owed<T>, R: Wait>(
     ensures rest { taking.taken ++ result.items ≡ adding.added }
     ensures history { Grows H.begins taking.seen adding.history }
 {
-    let AddingEnd {
+    let Producer {
         queue,
         mut place,
         conn: _,
         added: _,
         full_finds: _,
     } = adding;
-    let TakingEnd {
+    let Consumer {
         queue: _,
         place: theirs,
         conn: _,

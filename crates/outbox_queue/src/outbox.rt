@@ -3,7 +3,7 @@ ghost use Rattle.std.specs.Prelude.{◌≡◌, ◌+◌, ◌≤◌, [], ◌∷◌
 ghost use Rattle.outbox_queue.specs.Rule.{Grows};
 ghost use Rattle.outbox_queue.specs.Ends.{Owes};
 
-use crate::ends::AddingEnd;
+use crate::ends::Producer;
 use crate::owed::{Owed, Stamped};
 use crossbeam_utils::sync::Unparker;
 use std::marker::Model;
@@ -19,7 +19,7 @@ pub struct Full<S>(pub S);
 /// Contracts see which queue it is of, its capacity and connection, what was added and by which history, how often the queue was
 /// found full, and whether it is closed.
 pub struct Outbox<T, H: Owed<T>> {
-    end: AddingEnd<T, H>,
+    end: Producer<T, H>,
     is_closed: bool,
     shut: Arc<AtomicBool>,
     waker: Unparker,
@@ -34,7 +34,7 @@ impl<T, H: Owed<T>> Model for Outbox<T, H> {
 }
 
 impl<T: Drop, H: Owed<T>> Outbox<T, H> {
-    pub(crate) fn new(end: AddingEnd<T, H>, shut: Arc<AtomicBool>, waker: Unparker) -> Outbox<T, H>
+    pub(crate) fn new(end: Producer<T, H>, shut: Arc<AtomicBool>, waker: Unparker) -> Outbox<T, H>
         ensures { result ≡ record { queue = end.queue; capacity = end.capacity; conn = end.conn; history = end.history; added = end.added; full_finds = end.full_finds; is_closed = false } }
     {
         Outbox {
@@ -123,7 +123,7 @@ impl<T: Drop, H: Owed<T>> Outbox<T, H> {
         self.end.shows();
     }
 
-    pub(crate) fn into_end(self) -> AddingEnd<T, H>
+    pub(crate) fn into_end(self) -> Producer<T, H>
         ensures { self ≡ record { queue = result.queue; capacity = result.capacity; conn = result.conn; history = result.history; added = result.added; full_finds = result.full_finds; is_closed = self.is_closed } }
     {
         let Self {

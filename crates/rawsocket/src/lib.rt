@@ -10,23 +10,18 @@
 //! the last one, are those that its octets spell, whatever pieces they came in; and of a device which octets it gave or took, in how
 //! many calls, and how often it failed.
 mod deframer;
-mod device;
+pub mod devices;
 mod fault;
 mod frame;
 mod handshake;
 pub mod laws;
-mod memory;
-mod over_io;
-mod passed;
-pub mod testing;
-mod turns;
 
 pub use deframer::{Deframer, Fed};
-pub use device::{Sink, Source};
+pub use devices::device::{Sink, Source};
+pub use devices::ghost_octets::GhostOctets;
+pub use devices::memory::{MemorySink, MemorySource};
+pub use devices::over_io::{ReadSource, WriteSink};
+pub use devices::turns::{PIECE, Turns, read_turn, send, write_all};
 pub use fault::Fault;
 pub use frame::{Frame, Kind, fill_header, write_frame};
 pub use handshake::{Handshake, Serializer, answer, no_seat_reply};
-pub use memory::{MemorySink, MemorySource};
-pub use over_io::{ReadSource, WriteSink};
-pub use passed::Passed;
-pub use turns::{PIECE, Turns, read_turn, send, write_all};

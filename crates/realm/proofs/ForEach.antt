@@ -2,14 +2,14 @@
 use Rattle.std.proofs.Common.{◌≡◌, ℕ, ◌≤◌, Bool, true, false, cond, eqb, ltb, List, [], ◌∷◌, ◌++◌, refl, sym, ap, ◌∙◌, append-nil, arith}
 use Rattle.std.proofs.lemmas.Bool.{eqb-true}
 use Rattle.std.proofs.lemmas.Bool.Decides.{nat_tests}
-use Rattle.session.specs.declared.item.Item.{Item}
+use Rattle.session.specs.declared.messages.item.Item.{Item}
 use Rattle.realm.specs.declared.entry.Entry.{Entry}
 use Rattle.realm.specs.History.{History}
 use Rattle.realm.specs.Sessions.{conn_of}
 use Rattle.realm.specs.Yield.{yield, reply, events}
 use Rattle.realm.specs.Given.{items_for, StartsAbove, IsAscending, GivesEach, GivesExactly}
-use Rattle.realm.specs.Gifts.{all_for, put_before}
-use Rattle.realm.proofs.Choices.{cond-same}
+use Rattle.realm.specs.body.Outputs.{all_for, put_before}
+use Rattle.realm.proofs.Conditionals.{cond-same}
 
 -- items for one connection
 pub items_for-all : (c d : ℕ) (items : List Item) → items_for d (all_for c items) ≡ cond (eqb c d) items []

@@ -1,7 +1,7 @@
 -- Where an item goes among what is given.
 use Rattle.std.proofs.Common.{◌≡◌, ℕ, List, ◌++◌, take, drop}
-use Rattle.session.specs.declared.item.Item.{Item}
-use Rattle.realm.specs.Gifts.{put_before}
+use Rattle.session.specs.declared.messages.item.Item.{Item}
+use Rattle.realm.specs.body.Outputs.{put_before}
 
 -- the first i are for connections below c
 pub record PassedOver (given : List (ℕ × Item)) (i c : ℕ) : Type 0 where

@@ -1,7 +1,7 @@
 -- A realm's history: the grants with which it begins, and one entry after another.
 -- (WAMP, "Realms, Sessions and Transports": a realm is the domain in which sessions publish and subscribe.)
 use Rattle.realm.specs.declared.entry.Entry.{Entry}
-use Rattle.realm.specs.Granting.{Grants}
+use Rattle.realm.specs.Grants.{Grants}
 
 -- `h ▷ e`: h, and then the entry e. So what stood before e is h
 pub data History : Type 0 where

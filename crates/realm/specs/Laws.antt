@@ -6,19 +6,19 @@ use Rattle.wamp_ids.specs.Numbers.{id_of_word}
 use Rattle.wamp_ids.specs.Pattern.{PatternText, matches}
 use Rattle.wamp_ids.specs.Uri.{is_reserved}
 use Rattle.eligibility.specs.declared.who.Who.{Who}
-use Rattle.eligibility.specs.Audience.{has_number}
-use Rattle.retained.specs.Retained.{of_topic}
+use Rattle.eligibility.specs.Lists.{has_number}
+use Rattle.retained.specs.Store.{of_topic}
 use Rattle.realm.specs.declared.entry.Entry.{Entry}
 use Rattle.realm.specs.declared.entry.Entry.TheVariants.{Said}
 use Rattle.session.specs.Arguments.{Arguments}
-use Rattle.session.specs.declared.said.Said.TheVariants as say
-use Rattle.session.specs.declared.item.Publication.{Publication}
-use Rattle.session.specs.declared.item.Item.{Item}
-use Rattle.session.specs.declared.item.Item.TheVariants.{Welcome, Abort, Goodbye, Error, Published, Subscribed, Unsubscribed, Event, Pong}
+use Rattle.session.specs.declared.messages.said.Said.TheVariants as say
+use Rattle.session.specs.declared.messages.item.Publication.{Publication}
+use Rattle.session.specs.declared.messages.item.Item.{Item}
+use Rattle.session.specs.declared.messages.item.Item.TheVariants.{Welcome, Abort, Goodbye, Error, Published, Subscribed, Unsubscribed, Event, Pong}
 use Rattle.realm.specs.History.{History, ◌▷◌, Begins}
 use Rattle.realm.specs.Sessions.{who, live, ends, IsHistory}
 use Rattle.realm.specs.Words.{draws_word, word_of}
-use Rattle.realm.specs.Announcements.{arrival, departure}
+use Rattle.realm.specs.MetaEvents.{arrival, departure}
 use Rattle.realm.specs.Subscriptions.{held, number, holds_number}
 use Rattle.realm.specs.Publications.{published, kept, retained}
 use Rattle.realm.specs.Given.{GivesExactly}

@@ -8,9 +8,9 @@ use Rattle.message_tree.specs.Data.{Entries}
 use Rattle.wamp_ids.specs.Pattern.{PatternText, is_pattern, same_pattern}
 use Rattle.wamp_ids.specs.declared.pattern.Policy.{Policy}
 use Rattle.realm.specs.declared.entry.Entry.TheVariants.{Said}
-use Rattle.session.specs.declared.said.Said.TheVariants.{Subscribe, Unsubscribe}
-use Rattle.session.specs.declared.item.Reason.{Reason}
-use Rattle.session.specs.declared.item.Reason.TheVariants.{InvalidArgument, InvalidUri, TooManySubscriptions}
+use Rattle.session.specs.declared.messages.said.Said.TheVariants.{Subscribe, Unsubscribe}
+use Rattle.session.specs.declared.messages.item.Reason.{Reason}
+use Rattle.session.specs.declared.messages.item.Reason.TheVariants.{InvalidArgument, InvalidUri, TooManySubscriptions}
 use Rattle.realm.specs.History.{History, begun, ◌▷◌}
 use Rattle.realm.specs.Options.{match_of, get_retained_of}
 use Rattle.realm.specs.Sessions.{joined, ends}

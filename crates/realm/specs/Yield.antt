@@ -10,21 +10,21 @@ use Rattle.wamp_ids.specs.declared.pattern.Policy.{Policy}
 use Rattle.wamp_ids.specs.declared.pattern.Policy.TheVariants.{Exact, Prefix, Wildcard}
 use Rattle.realm.specs.declared.entry.Entry.{Entry}
 use Rattle.realm.specs.declared.entry.Entry.TheVariants.{Join, Said, Ping, Spoilt, Gone, Cut, Closed}
-use Rattle.session.specs.declared.said.Said.TheVariants.{Hello, Publish, Subscribe, Unsubscribe}
-use Rattle.session.specs.declared.said.Said.TheVariants as say
+use Rattle.session.specs.declared.messages.said.Said.TheVariants.{Hello, Publish, Subscribe, Unsubscribe}
+use Rattle.session.specs.declared.messages.said.Said.TheVariants as say
 use Rattle.eligibility.specs.declared.who.Who.{Who}
-use Rattle.session.specs.declared.item.Publication.{Publication}
-use Rattle.session.specs.declared.item.Item.{Item}
-use Rattle.session.specs.declared.item.Item.TheVariants.{Welcome, Abort, Goodbye, Error, Published, Subscribed, Unsubscribed, Event, Pong}
-use Rattle.session.specs.declared.item.Request.TheVariants as kind
-use Rattle.session.specs.declared.item.Reason.{Reason}
-use Rattle.session.specs.declared.item.Reason.TheVariants.{ProtocolViolation, GoodbyeAndOut, NoSuchSubscription, SystemShutdown}
+use Rattle.session.specs.declared.messages.item.Publication.{Publication}
+use Rattle.session.specs.declared.messages.item.Item.{Item}
+use Rattle.session.specs.declared.messages.item.Item.TheVariants.{Welcome, Abort, Goodbye, Error, Published, Subscribed, Unsubscribed, Event, Pong}
+use Rattle.session.specs.declared.messages.item.Request.TheVariants as kind
+use Rattle.session.specs.declared.messages.item.Reason.{Reason}
+use Rattle.session.specs.declared.messages.item.Reason.TheVariants.{ProtocolViolation, GoodbyeAndOut, NoSuchSubscription, SystemShutdown}
 use Rattle.realm.specs.History.{History, begun, ◌▷◌}
 use Rattle.realm.specs.Options.{acknowledge_of, get_retained_of}
 use Rattle.realm.specs.Sessions.{who, conn_of, admission}
 use Rattle.realm.specs.Subscriptions.{held, number, subscribed, holds_number}
 use Rattle.realm.specs.Publications.{Made, published, retained, admits}
-use Rattle.realm.specs.Announcements.{arrival, departure}
+use Rattle.realm.specs.MetaEvents.{arrival, departure}
 
 -- the reply to a Join: WELCOME, or ABORT with the reason
 abbrev pub welcome : Result Who Reason → List Item

@@ -2,7 +2,7 @@ ghost use Rattle.std.specs.Prelude.{◌≡◌, ℕ, List, [], ◌∷◌, map, If
 ghost use Rattle.std.specs.String.{string_bytes};
 ghost use Rattle.std.specs.Option.{option_copied};
 ghost use Rattle.indexmap.specs.IndexMap.{get_by_text};
-ghost use Rattle.realm.specs.Granting.{first_of, pairs_of, role_in};
+ghost use Rattle.realm.specs.Grants.{first_of, pairs_of, role_in};
 
 use crate::fault::Fault;
 use indexmap::IndexMap;
@@ -22,7 +22,7 @@ pub struct Grants {
 impl Model for Grants {
     ghost use Rattle.std.specs.Prelude.{◌≡◌, ℕ, List};
     ghost use Rattle.indexmap.specs.IndexMap.{get_by_text};
-    ghost use Rattle.realm.specs.Granting.{pairs_of, role_in};
+    ghost use Rattle.realm.specs.Grants.{pairs_of, role_in};
 
     ghost Value = { List (List ℕ × List ℕ) };
 

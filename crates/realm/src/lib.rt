@@ -7,21 +7,21 @@
 //! which order, `specs/PostedOrder` speaks: the crates above show it of their own schedules.
 #![tactic(auto)]
 
-mod announcing;
-mod answering;
+mod dispatch;
 mod entry;
+mod events;
 mod fault;
-mod giving;
 mod grants;
-mod joining;
+mod joins;
 pub mod laws;
-mod publishing;
+mod meta_events;
+mod publications;
+mod publish_options;
 mod realm;
 mod seats;
 mod sessions;
 mod state;
-mod subscribing;
-mod wishes;
+mod subscriptions;
 
 pub use entry::{Entry, says_with_word};
 pub use fault::Fault;

@@ -1,11 +1,11 @@
 ghost use Rattle.std.specs.Prelude.{◌≡◌, ◌+◌, ◌≤◌, true, false, length, vec_capacity, OnOk, OnErr, IfOk, IsOk};
-ghost use Rattle.realm.specs.Granting.{pairs_of};
+ghost use Rattle.realm.specs.Grants.{pairs_of};
 ghost use Rattle.realm.specs.History.{begun, ◌▷◌};
 ghost use Rattle.realm.specs.Sessions.{live, may_come, may_join, IsHistory};
 ghost use Rattle.realm.specs.Words.{is_silent};
 ghost use Rattle.realm.specs.Given.{GivesExactly};
 
-use crate::answering::answer;
+use crate::dispatch::answer;
 use crate::entry::Entry;
 use crate::fault::Fault;
 use crate::grants::Grants;
@@ -44,12 +44,12 @@ impl Model for Realm {
 
     ghost Value = { History };
 
-    ghost use Rattle.realm.specs.HistoryCode.{history_code};
+    ghost use Rattle.realm.specs.body.HistoryCode.{history_code};
 
     ghost coded = { history_code };
 
-    ghost use Rattle.realm.specs.Turns.{history_after};
-    ghost use Rattle.realm.specs.Agreeing.{Agrees};
+    ghost use Rattle.realm.specs.body.Apply.{history_after};
+    ghost use Rattle.realm.specs.body.Refinement.{Agrees};
 
     ghost view = { λ r. history_after (begun r.state.grants) (map (λ s. s.value) r.past.items) };
 

@@ -1,6 +1,6 @@
 ghost use Rattle.std.specs.Prelude.{◌≡◌, ◌-◌, IfOk, None, Some, replicate, set};
 ghost use Rattle.wamp_ids.specs.Numbers.{seat_of};
-ghost use Rattle.realm.specs.Live.{may_join_by};
+ghost use Rattle.realm.specs.body.LiveSessions.{may_join_by};
 
 use std::alloc::{AllocError, Global};
 use std::marker::Model;

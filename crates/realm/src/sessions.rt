@@ -1,7 +1,7 @@
 ghost use Rattle.std.specs.Prelude.{◌≡◌, ◌==◌, [], length, None, OnOk, OnErr, MatchResult};
 ghost use Rattle.std.specs.List.{list_any};
 ghost use Rattle.std.specs.Option.{option_copied};
-ghost use Rattle.realm.specs.Live.{session_of, others, added, AreByConn, StandsAt, BelongsAt};
+ghost use Rattle.realm.specs.body.LiveSessions.{session_of, others, added, AreByConn, StandsAt, BelongsAt};
 
 use session::Who;
 use std::alloc::{AllocError, Global};
@@ -17,7 +17,7 @@ pub struct Sessions {
 impl Model for Sessions {
     ghost use Rattle.std.specs.Prelude.{List};
     ghost use Rattle.eligibility.specs.declared.who.Who.{Who};
-    ghost use Rattle.realm.specs.Live.{AreByConn};
+    ghost use Rattle.realm.specs.body.LiveSessions.{AreByConn};
 
     ghost Value = { List Who };
 

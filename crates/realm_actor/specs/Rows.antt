@@ -1,10 +1,10 @@
 -- The rows of the actor's table, one for each session that is live or held.
 use Rattle.std.specs.Prelude.{◌≡◌, ◌⊎◌, ℕ, ◌<◌, ◌≤◌, length, true, ⊤, List, Option, Some, None, MatchOption, option_map, slice_get}
-use Rattle.session.specs.declared.item.Item.{Item}
+use Rattle.session.specs.declared.messages.item.Item.{Item}
 use Rattle.realm.specs.History.{History}
 use Rattle.realm.specs.Given.{items_for}
 use Rattle.realm_actor.specs.declared.row.Row.{Row}
-use Rattle.realm_actor.specs.Following.{Box, Follows, Goes}
+use Rattle.realm_actor.specs.OutboxHistory.{Box, Follows, Goes}
 
 -- what becomes of a row's outbox, if it is held, where items are offered
 abbrev pub BoxGoes : Option Box → Option Box → Type 0

@@ -6,7 +6,7 @@ use Rattle.realm.specs.declared.entry.Entry.{Entry}
 use Rattle.realm.specs.History.{History}
 use Rattle.realm.specs.Sessions.{live, joined, conn_of, IsHistory}
 use Rattle.realm_actor.specs.declared.row.Row.{Row}
-use Rattle.realm_actor.specs.Following.{Box}
+use Rattle.realm_actor.specs.OutboxHistory.{Box}
 use Rattle.realm_actor.specs.Rows.{Rose, box_in, RowDue, Each, Ascending, StandsAt}
 
 abbrev pub has_joined : History → ℕ → Bool

@@ -1,12 +1,12 @@
 //! The actor of a realm.
 ghost use Rattle.std.specs.Prelude.{◌≡◌, [], IfOk, IfErr, is_some};
-ghost use Rattle.realm.specs.Granting.{pairs_of};
+ghost use Rattle.realm.specs.Grants.{pairs_of};
 ghost use Rattle.realm.specs.History.{begun};
 ghost use Rattle.realm.specs.Sessions.{live};
-ghost use Rattle.realm_actor.specs.Naming.{outbox_of};
-ghost use Rattle.realm_actor.specs.Running.{Handles, IsNextOf};
-ghost use Rattle.realm_actor.specs.Settling.{IsOther, Settles, Sweeps};
-ghost use Rattle.realm_actor.specs.Standing.{Stands};
+ghost use Rattle.realm_actor.specs.LastCut.{outbox_of};
+ghost use Rattle.realm_actor.specs.Run.{Handles, IsNextOf};
+ghost use Rattle.realm_actor.specs.Settle.{IsOther, Settles, Sweeps};
+ghost use Rattle.realm_actor.specs.Invariant.{Stands};
 
 use crate::outcome::Outcome;
 use crate::state::State;
@@ -29,17 +29,17 @@ pub struct Actor<S: Shut, W: IdSource> {
 }
 
 impl<S: Shut, W: IdSource> Model for Actor<S, W> {
-    ghost use Rattle.realm_actor.specs.Acting.{Acting, acting};
+    ghost use Rattle.realm_actor.specs.ActorView.{Acting, acting};
 
     ghost Value = { Acting S };
 
     ghost use Rattle.std.specs.Coded.{codes};
-    ghost use Rattle.realm.specs.HistoryCode.{history_code};
+    ghost use Rattle.realm.specs.body.HistoryCode.{history_code};
     ghost use Rattle.message_tree.specs.Code.{data_code, entries_code};
 
     ghost coded = { Prim.hlevel (codes, history_code, data_code, entries_code) };
 
-    ghost use Rattle.realm_actor.specs.Standing.{IsRoomy, Knows, Stands};
+    ghost use Rattle.realm_actor.specs.Invariant.{IsRoomy, Knows, Stands};
 
     ghost view = { λ a. acting (W.given a.state.words) a.state };
 

@@ -1,5 +1,5 @@
 //! What holds of posts that were handled: how the history keeps their order. And the laws of the inbox.
-ghost use Rattle.realm_actor.specs.Order.{HandledKeepsOrder, HistoryKeepsOrder, RunKeepsOrder};
+ghost use Rattle.realm_actor.specs.PostedOrder.{HandledKeepsOrder, HistoryKeepsOrder, RunKeepsOrder};
 
 use realm_inbox::Shut;
 pub use realm_inbox::laws::{received_begins_posted, stops_received_were_posted};

@@ -15,24 +15,24 @@
 #![tactic(auto)]
 
 mod actor;
-mod acts;
-mod closing;
-mod cutting;
-mod handling;
+mod cuts;
+mod delivery;
+mod entries;
+mod handle;
+mod last_cut;
 pub mod laws;
-mod naming;
 mod outcome;
-mod places;
-mod pushing;
 mod row;
-mod running;
-mod settling;
+mod row_search;
+mod run;
+mod settle;
 mod state;
+mod stop;
 mod table;
 
 pub use actor::Actor;
 pub use outcome::Outcome;
 pub use realm_inbox::{
-    Act, Door, IdSource, InTurn, Inbox, Joining, Letter, Past, Post, Poster, Posting, RealmHistory,
-    Seat, Shut, View, opening,
+    Act, Door, GhostList, IdSource, InTurn, Inbox, Joining, Letter, Post, Poster, Posting,
+    RealmHistory, Seat, Shut, View, opening,
 };

@@ -1,8 +1,8 @@
 //! A session's row in the actor's table: its outbox and its transport, as long as they are held.
 ghost use Rattle.std.specs.Prelude.{◌≡◌, ◌<◌, false, true, ◌∷◌, List, Some};
 ghost use Rattle.std.specs.Option.{ForSome};
-ghost use Rattle.session.specs.declared.item.Item.{Item as AnItem};
-ghost use Rattle.realm_actor.specs.Following.{Follows, Goes};
+ghost use Rattle.session.specs.declared.messages.item.Item.{Item as AnItem};
+ghost use Rattle.realm_actor.specs.OutboxHistory.{Follows, Goes};
 
 use outbox_queue::Outbox;
 use realm_inbox::{RealmHistory, Shut};

@@ -1,21 +1,21 @@
 //! What an actor keeps.
 ghost use Rattle.std.specs.Prelude.{◌≡◌, [], ◌∷◌, ◌++◌, true, false, List, ℕ, IfOk};
-ghost use Rattle.realm.specs.Granting.{pairs_of};
+ghost use Rattle.realm.specs.Grants.{pairs_of};
 ghost use Rattle.realm.specs.History.{begun};
 ghost use Rattle.realm.specs.Sessions.{conn_of, live, may_come};
 ghost use Rattle.realm.specs.declared.entry.Entry.{Entry as AnEntry};
-ghost use Rattle.ghost_state.specs.Past.{items_of};
+ghost use Rattle.ghost_state.specs.GhostList.{items_of};
 ghost use Rattle.realm_actor.specs.declared.row.Row.{Row as ARow};
 ghost use Rattle.realm_actor.specs.Tables.{EachMarked, Sound};
-ghost use Rattle.realm_actor.specs.Cutting.{Accepted, IsCutOf, NoneFull};
-ghost use Rattle.realm_actor.specs.Handling.{MatchOutcome};
-ghost use Rattle.realm_actor.specs.Standing.{Knows};
+ghost use Rattle.realm_actor.specs.Cuts.{Accepted, IsCutOf, NoneFull};
+ghost use Rattle.realm_actor.specs.Handle.{MatchOutcome};
+ghost use Rattle.realm_actor.specs.Invariant.{Knows};
 
+use crate::delivery::wake_all;
 use crate::outcome::Outcome;
-use crate::pushing::wake_all;
 use crate::table::Table;
 use realm::{Entry, Fault, Realm, RealmConfig};
-use realm_inbox::{IdSource, Letter, Past, Shut};
+use realm_inbox::{GhostList, IdSource, Letter, Shut};
 use std::alloc::Global;
 use std::sync::Wait;
 use wamp_ids::Conn;
@@ -27,7 +27,7 @@ pub struct State<S: Shut, W: IdSource> {
     pub table: Table<S>,
     pub words: W,
     pub last_cut: Vec<Conn>,
-    pub handled: Past<Letter<S>>,
+    pub handled: GhostList<Letter<S>>,
 }
 
 impl<S: Shut, W: IdSource> State<S, W> {
@@ -50,7 +50,7 @@ impl<S: Shut, W: IdSource> State<S, W> {
             },
             words,
             last_cut: Vec::new(alloc),
-            handled: Past::new(),
+            handled: GhostList::new(),
         })
     }
 

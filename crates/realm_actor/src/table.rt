@@ -7,12 +7,12 @@ ghost use Rattle.realm.specs.Sessions.{may_come, may_join, conn_of};
 ghost use Rattle.realm_actor.specs.declared.row.Row.{Row as ARow};
 ghost use Rattle.realm_actor.specs.Rows.{Ascending, EachDue, EachGoes, NoneRose};
 ghost use Rattle.realm_actor.specs.Tables.{EachEnds, EachWent, IsNewRow, Ready, Sound};
-ghost use Rattle.realm_actor.specs.Cutting.{NoneFull};
-ghost use Rattle.realm_actor.specs.Standing.{Knows};
+ghost use Rattle.realm_actor.specs.Cuts.{NoneFull};
+ghost use Rattle.realm_actor.specs.Invariant.{Knows};
 
-use crate::places::{find, place_in};
-use crate::pushing::{either, offer_all};
+use crate::delivery::{either, offer_all};
 use crate::row::Row;
+use crate::row_search::{find, place_in};
 use realm::{Entry, Fault, Realm};
 use realm_inbox::{RealmHistory, Shut};
 use session::Item;

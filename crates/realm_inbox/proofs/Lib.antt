@@ -1,5 +1,5 @@
-pub mod Rules
-pub mod Told
-pub mod Seating
-pub mod Joined
-pub mod Crossing
+pub mod RuleSteps
+pub mod StepEffects
+pub mod SeatCuts
+pub mod PosterLemmas
+pub mod SendLemmas

@@ -1,7 +1,7 @@
-pub mod Begins
+pub mod HistoryBeginnings
 pub mod Joins
 pub mod Seats
 pub mod InTurn
 pub mod Ends
-pub mod Shown
+pub mod EndViews
 pub mod Laws

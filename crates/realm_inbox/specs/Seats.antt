@@ -7,7 +7,7 @@ use Rattle.realm_inbox.specs.declared.act.Act.TheVariants.{Join}
 use Rattle.realm_inbox.specs.declared.letter.Letter.{Letter}
 use Rattle.realm_inbox.specs.declared.letter.Post.{Post}
 use Rattle.realm_inbox.specs.declared.letter.Post.TheVariants as post
-use Rattle.ghost_state.specs.Past.{items_of}
+use Rattle.ghost_state.specs.GhostList.{items_of}
 
 module _ {S : Type 0} where
   -- a Join brings an outbox of this connection

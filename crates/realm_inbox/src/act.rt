@@ -1,6 +1,6 @@
 //! What a connection does.
 use crate::joining::Joining;
-use crate::words::Shut;
+use crate::transport::Shut;
 use message_tree::Octets;
 use session::Said;
 

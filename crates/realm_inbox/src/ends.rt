@@ -3,19 +3,19 @@ ghost use Rattle.std.specs.Prelude.{◌≡◌, ◌≢◌, ◌≤◌, ◌+◌, []
 ghost use Rattle.crossbeam_channel.specs.Claims.{view, IsSeatAt};
 ghost use Rattle.crossbeam_channel.specs.Ends.{sends_on, receives_on};
 ghost use Rattle.wamp_ids.specs.Numbers.{seat_of};
-ghost use Rattle.ghost_state.specs.Past.{items_of};
+ghost use Rattle.ghost_state.specs.GhostList.{items_of};
 ghost use Rattle.realm_inbox.specs.Seats.{IsNext, BringsOwn};
 ghost use Rattle.realm_inbox.specs.Ends.{posted_in, is_seat, is_reader, is_door};
 
 use crate::act::Act;
+use crate::bells::{Bells, send};
 use crate::letter::{Letter, Post};
 use crate::room_bell::RoomBell;
 use crate::rule::{InTurn, Posts, Receives, Stops, View};
-use crate::sending::{Bells, send};
-use crate::words::Shut;
+use crate::transport::Shut;
 use crossbeam_channel::{Pass, RuledReceiver, RuledSender, TryRecvError};
 use crossbeam_utils::sync::Parker;
-use ghost_state::Past;
+use ghost_state::GhostList;
 use std::alloc::{AllocError, Global};
 use std::snapshot::Snapshot;
 use std::sync::{Arc, Wait};
@@ -43,7 +43,7 @@ pub struct Door<S: Shut> {
 /// Contracts see its number, what was posted there, each act with its connection, and which inbox it is of.
 pub struct Seat<S: Shut> {
     pub(crate) number: u64,
-    pub(crate) past: Past<(Conn, Act<S>)>,
+    pub(crate) past: GhostList<(Conn, Act<S>)>,
     pub(crate) sender: Sending<S>,
     pub(crate) bells: Bells,
     pub(crate) pass: Ticket<S>,
@@ -77,7 +77,7 @@ pub struct Inbox<S: Shut> {
 }
 
 impl<S: Shut> Inbox<S> {
-    ghost use Rattle.realm_inbox.specs.Shown.{received, capacity, inbox_of};
+    ghost use Rattle.realm_inbox.specs.EndViews.{received, capacity, inbox_of};
 
     /// Waits for a post. It is the next of its seat: what had been posted there before it is exactly what was received of the seat.
     /// `None` once each sender is gone: the door, each poster and each seat. Before it waits, it wakes who waits for room.
@@ -144,7 +144,7 @@ impl<S: Shut> Drop for Inbox<S> {
 }
 
 impl<S: Shut> Seat<S> {
-    ghost use Rattle.realm_inbox.specs.Shown.{posted_at, seat_number, inbox_of_seat};
+    ghost use Rattle.realm_inbox.specs.EndViews.{posted_at, seat_number, inbox_of_seat};
 
     /// Its number, from 1 to 256. The connections of this seat take turns there.
     pub fn number(&self) -> u64
@@ -194,7 +194,7 @@ impl<S: Shut> Drop for Seat<S> {
 }
 
 impl<S: Shut> Poster<S> {
-    ghost use Rattle.realm_inbox.specs.Shown.{posted, posted_at, poster_conn, seat_number, inbox_of_poster, inbox_of_seat};
+    ghost use Rattle.realm_inbox.specs.EndViews.{posted, posted_at, poster_conn, seat_number, inbox_of_poster, inbox_of_seat};
 
     /// Posts an act of its connection, and waits while the inbox is full. A Join brings an outbox of this connection.
     ///
@@ -227,7 +227,7 @@ impl<S: Shut> Poster<S> {
 }
 
 impl<S: Shut> Door<S> {
-    ghost use Rattle.realm_inbox.specs.Shown.{posted, posted_at, poster_conn, seat_number, stops, inbox_of_poster, inbox_of_seat, inbox_of_door};
+    ghost use Rattle.realm_inbox.specs.EndViews.{posted, posted_at, poster_conn, seat_number, stops, inbox_of_poster, inbox_of_seat, inbox_of_door};
 
     /// A poster of the connection at its seat, whose number is [`wamp_ids::seat`] of it.
     ///

@@ -15,7 +15,7 @@ pub struct RealmHistory {
 
 impl Model for RealmHistory {
     ghost use Rattle.realm.specs.History.{History};
-    ghost use Rattle.realm.specs.HistoryCode.{history_code};
+    ghost use Rattle.realm.specs.body.HistoryCode.{history_code};
 
     ghost Value = { History };
 
@@ -27,7 +27,7 @@ impl Model for RealmHistory {
 impl Owed<Item> for RealmHistory {
     ghost use Rattle.realm.specs.History.{Begins};
     ghost use Rattle.realm.specs.Yield.{owed as owed_by};
-    ghost use Rattle.realm_inbox.specs.Begins.{begins_same, begins_longer, owed_more};
+    ghost use Rattle.realm_inbox.specs.HistoryBeginnings.{begins_same, begins_longer, owed_more};
 
     ghost begins = { Begins };
 

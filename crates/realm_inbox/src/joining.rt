@@ -2,7 +2,7 @@
 ghost use Rattle.std.specs.Prelude.{◌≡◌, [], false};
 
 use crate::history::RealmHistory;
-use crate::words::Shut;
+use crate::transport::Shut;
 use message_tree::Text;
 use outbox_queue::Outbox;
 use session::Item;

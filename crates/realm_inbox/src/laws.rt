@@ -1,7 +1,7 @@
 //! What holds at every moment of an inbox: of each state that its rule allows.
 ghost use Rattle.realm_inbox.specs.Laws.{ReceivedBeginsPosted, StopsReceivedWerePosted};
 
-use crate::words::Shut;
+use crate::transport::Shut;
 use std::marker::PhantomData;
 
 /// What was received of a seat, and then what waits of it, is what was posted there.

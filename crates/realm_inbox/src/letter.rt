@@ -4,8 +4,8 @@ ghost use Rattle.realm_inbox.specs.declared.joining.Joining.{Joining as AJoining
 ghost use Rattle.realm_inbox.specs.declared.act.Act.TheVariants.{Join};
 
 use crate::act::Act;
-use crate::words::Shut;
-use ghost_state::Past;
+use crate::transport::Shut;
+use ghost_state::GhostList;
 use std::snapshot::Snapshot;
 use wamp_ids::Conn;
 
@@ -17,7 +17,7 @@ pub struct Letter<S: Shut> {
     /// The act.
     pub act: Act<S>,
     /// What had been posted at its seat before it. It takes no bytes.
-    pub before: Snapshot<Past<(Conn, Act<S>)>>,
+    pub before: Snapshot<GhostList<(Conn, Act<S>)>>,
     ghost own: { (joining : AJoining S) → act ≡ Join joining → joining.outbox.conn ≡ conn },
 }
 

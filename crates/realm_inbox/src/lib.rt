@@ -15,6 +15,7 @@
 #![tactic(auto)]
 
 mod act;
+mod bells;
 mod ends;
 mod history;
 mod joining;
@@ -24,15 +25,14 @@ pub mod opening;
 mod posting;
 mod room_bell;
 mod rule;
-mod sending;
-mod words;
+mod transport;
 
 pub use act::Act;
 pub use ends::{Door, Inbox, Poster, Seat};
-pub use ghost_state::Past;
+pub use ghost_state::GhostList;
 pub use history::RealmHistory;
 pub use joining::Joining;
 pub use letter::{Letter, Post};
 pub use posting::Posting;
 pub use rule::{InTurn, View};
-pub use words::{IdSource, Shut};
+pub use transport::{IdSource, Shut};

@@ -3,17 +3,17 @@ ghost use Rattle.std.specs.Prelude.{◌≡◌, ℕ, ◌+◌, ◌<◌, ◌≤◌,
 ghost use Rattle.crossbeam_channel.specs.Claims.{view, IsSeatAt};
 ghost use Rattle.crossbeam_channel.specs.Ends.{sends_on};
 ghost use Rattle.realm_inbox.specs.Ends.{place_of, received_in, stops_in, is_reader, is_door};
-ghost use Rattle.realm_inbox.specs.Shown.{received, capacity, stops, inbox_of, inbox_of_door, IsNewSeat, AreNewSeats};
+ghost use Rattle.realm_inbox.specs.EndViews.{received, capacity, stops, inbox_of, inbox_of_door, IsNewSeat, AreNewSeats};
 
+use crate::bells::Bells;
 use crate::ends::{Door, Inbox, Seat, Sending, Ticket};
 use crate::letter::Post;
 use crate::room_bell::RoomBell;
 use crate::rule::{CutDoor, CutSeat, InTurn, View};
-use crate::sending::Bells;
-use crate::words::Shut;
+use crate::transport::Shut;
 use crossbeam_channel::bounded_with;
 use crossbeam_utils::sync::Parker;
-use ghost_state::Past;
+use ghost_state::GhostList;
 use std::alloc::{AllocError, Global};
 use std::sync::Arc;
 
@@ -46,7 +46,7 @@ fn cut_seat<S: Shut>(
     let cut = sender.another::<CutSeat>(pass);
     Ok(Seat {
         number,
-        past: Past::new(),
+        past: GhostList::new(),
         sender: own,
         bells,
         pass: cut,

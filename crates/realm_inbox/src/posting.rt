@@ -5,7 +5,7 @@ ghost use Rattle.realm_inbox.specs.declared.act.Act.{Act as AnAct};
 
 use crate::act::Act;
 use crate::ends::Poster;
-use crate::words::Shut;
+use crate::transport::Shut;
 use std::sync::Wait;
 
 /// Where the acts of one connection go once it has asked for its session, one after another.
@@ -23,7 +23,7 @@ pub trait Posting<S: Shut> {
 }
 
 impl<S: Shut> Posting<S> for Poster<S> {
-    ghost use Rattle.realm_inbox.specs.Shown.{posted_acts};
+    ghost use Rattle.realm_inbox.specs.EndViews.{posted_acts};
 
     ghost posted = { posted_acts };
 

@@ -1,7 +1,7 @@
 //! The rule of an inbox, and the steps under it.
 use crate::act::Act;
 use crate::letter::Post;
-use crate::words::Shut;
+use crate::transport::Shut;
 use crossbeam_channel::protocol::{Lesson, Outcome, Protocol, Split};
 use std::collections::LinkedList;
 use wamp_ids::Conn;

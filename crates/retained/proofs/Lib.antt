@@ -1,2 +1,2 @@
-pub mod Retaining
-mod Putting
+pub mod StoreLemmas
+mod Insertion

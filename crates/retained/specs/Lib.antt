@@ -1,2 +1,2 @@
-pub mod Retained
-pub mod Places
+pub mod Store
+pub mod body

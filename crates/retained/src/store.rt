@@ -3,8 +3,8 @@ ghost use Rattle.std.specs.Cmp.Lexicographic.{slice_cmp};
 ghost use Rattle.std.specs.List.{filter};
 ghost use Rattle.std.specs.Ordering.{nat_cmp};
 ghost use Rattle.wamp_ids.specs.Pattern.{matches};
-ghost use Rattle.retained.specs.Places.{GoesAt, IsAt};
-ghost use Rattle.retained.specs.Retained.{AreByTopic, has_room, has_topic, set_topic};
+ghost use Rattle.retained.specs.body.Places.{GoesAt, IsAt};
+ghost use Rattle.retained.specs.Store.{AreByTopic, has_room, has_topic, set_topic};
 
 use crate::fault::Fault;
 use message_tree::Shared;
@@ -28,9 +28,9 @@ pub struct Store {
 impl Model for Store {
     ghost use Rattle.std.specs.Coded.{coded_list};
     ghost use Rattle.std.specs.Prelude.{List};
-    ghost use Rattle.retained.specs.Retained.{IsStore};
-    ghost use Rattle.session.specs.contracts.item.Publication.{the_row};
-    ghost use Rattle.session.specs.declared.item.Publication.{Publication};
+    ghost use Rattle.retained.specs.Store.{IsStore};
+    ghost use Rattle.session.specs.contracts.messages.item.Publication.{the_row};
+    ghost use Rattle.session.specs.declared.messages.item.Publication.{Publication};
 
     ghost Value = { List Publication };
 

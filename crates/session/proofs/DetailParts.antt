@@ -6,11 +6,11 @@ use Rattle.json_codec.proofs.Parts.{entries_text, dict_text}
 use Rattle.msgpack_codec.specs.Short.{entries_short, has_short}
 use Rattle.rawsocket.specs.declared.handshake.Serializer.{Serializer}
 use Rattle.rawsocket.specs.declared.handshake.Serializer.TheVariants.{Json, MsgPack}
-use Rattle.session.specs.Details.{publisher_entries, retained_entries, topic_entries}
-use Rattle.session.specs.Parts.{has_spelling, dict_opening, dict_closing, entries_from, entries_have_spelling}
-use Rattle.session.specs.Serializing.{serialized}
-use Rattle.session.specs.Telling.{number, put_if, event_details}
-use Rattle.session.specs.declared.item.Publication.{Publication}
+use Rattle.session.specs.body.EventDetails.{publisher_entries, retained_entries, topic_entries}
+use Rattle.session.specs.body.SerializedParts.{has_spelling, dict_opening, dict_closing, entries_from, entries_have_spelling}
+use Rattle.session.specs.Serializer.{serialized}
+use Rattle.session.specs.ToClient.{number, put_if, event_details}
+use Rattle.session.specs.declared.messages.item.Publication.{Publication}
 
 entries_json : (later : Bool) (es : Entries) → entries_text later es ≡ entries_from Json later es
 entries_json later no_entries = refl

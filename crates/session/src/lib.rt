@@ -5,35 +5,22 @@
 //! Which item answers what, `realm` says.
 #![tactic(auto)]
 
-mod appender;
-mod args;
-mod asked;
-mod details;
-mod elements;
-mod event_details;
 mod fault;
-mod first_message;
-mod item;
 pub mod laws;
-mod opened;
+mod messages;
 mod opening;
-mod reading;
-mod said;
-mod serializing;
-mod telling;
-mod verdict;
-mod writing;
+mod wire;
 
-pub use args::{Args, CarriedArgs};
-pub use asked::First;
 pub use eligibility::{Lists, Who};
 pub use fault::Fault;
-pub use first_message::{abort_reason, abort_uri, first};
-pub use item::{Item, Publication, Reason, Request};
-pub use opened::Opened;
+pub use messages::args::{Args, CarriedArgs};
+pub use messages::from_client::read_said;
+pub use messages::item::{Item, Publication, Reason, Request};
+pub use messages::said::Said;
+pub use messages::to_client::item_message;
+pub use opening::first_message::{abort_reason, abort_uri, first};
+pub use opening::hello::First;
 pub use opening::open_session;
-pub use reading::read_said;
-pub use said::Said;
-pub use serializing::decode;
-pub use telling::item_message;
-pub use writing::{write_item, write_payload};
+pub use opening::opened_session::Opened;
+pub use wire::item_frames::{write_item, write_payload};
+pub use wire::serializer::decode;

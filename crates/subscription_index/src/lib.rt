@@ -6,7 +6,7 @@
 #![tactic(auto)]
 
 mod fault;
-mod holdings;
+mod index;
 pub mod laws;
 mod names;
 mod node;
@@ -15,4 +15,4 @@ mod shares;
 mod table;
 
 pub use fault::Fault;
-pub use holdings::Index;
+pub use index::Index;

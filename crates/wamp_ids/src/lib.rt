@@ -5,17 +5,17 @@
 //! those, and which topics a pattern matches.
 #![tactic(auto)]
 
+mod components;
 mod conn;
 mod fault;
 mod id;
 pub mod laws;
-mod parts;
 mod pattern;
 mod topic;
 
+pub use components::{dot_in, fits};
 pub use conn::{Conn, seat};
 pub use fault::Fault;
 pub use id::Id;
-pub use parts::{dot_in, fits};
 pub use pattern::{Pattern, Policy};
 pub use topic::Topic;

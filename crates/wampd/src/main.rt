@@ -8,7 +8,7 @@ ghost use Rattle.rawsocket.specs.Devices.{GrowsByBeginning};
 ghost use Rattle.broker_server.specs.Commands.{IsServable, status_of};
 
 use broker_server::{Command, Config, Fault, TcpAcceptor, read_command, replay, report, serve_on};
-use rawsocket::{ReadSource, Sink, Turns, WriteSink, send};
+use rawsocket::devices::{ReadSource, Sink, Turns, WriteSink, send};
 use std::alloc::Global;
 use std::env;
 use std::net::{Net, TcpListener, TcpStream};

@@ -1,4 +1,4 @@
-use Rattle.broker_server.proofs.Decimal.{numbers-are-decimal as law}
+use Rattle.broker_server.proofs.NumbersAreDecimal.{numbers-are-decimal as law}
 use Rattle.broker_server.proofs.laws.numbers_are_decimal.Goals as goal
 
 pub returns : goal.returns

@@ -1,4 +1,4 @@
-use Rattle.broker_server.proofs.Once.{one-transcript as law}
+use Rattle.broker_server.proofs.OneTranscript.{one-transcript as law}
 use Rattle.broker_server.proofs.laws.one_transcript.Goals as goal
 
 pub returns : goal.returns

@@ -1,6 +1,6 @@
 use denote.Exit.{no}
 use denote.Param.Send.{param_send, arg_send}
-use Rattle.cases_inbox.proofs.Crossing.{door_send, seat_send, poster_send, inbox_send}
+use Rattle.cases_inbox.proofs.SendLemmas.{door_send, seat_send, poster_send, inbox_send}
 use Rattle.cases_inbox.proofs.case.ends_cross.Goals as goal
 
 pub may_be_sent-requires-send-T : goal.may_be_sent-requires-send-T

@@ -1,6 +1,6 @@
 use denote.Exit.{no}
 use denote.Param.Send.{param_send, arg_send}
-use Rattle.cases_inbox.proofs.Crossing.{numbered_send}
+use Rattle.cases_inbox.proofs.SendLemmas.{numbered_send}
 use Rattle.cases_inbox.proofs.threads.pass.Goals as goal
 
 pub start-requires-send-W : goal.start-requires-send-W

@@ -1,10 +1,10 @@
 use Rattle.std.proofs.Common.{◌≡◌, ℕ, Option, ap, ◌∙◌}
-use Rattle.ghost_state.specs.Past.{items_of}
-use Rattle.realm_actor.specs.Acting.{Acting}
-use Rattle.realm_actor.specs.Following.{Box}
-use Rattle.realm_actor.specs.Naming.{outbox_of}
+use Rattle.ghost_state.specs.GhostList.{items_of}
+use Rattle.realm_actor.specs.ActorView.{Acting}
+use Rattle.realm_actor.specs.OutboxHistory.{Box}
+use Rattle.realm_actor.specs.LastCut.{outbox_of}
 use Rattle.cases_settle.specs.declared.side.Side.{Side}
-use Rattle.case_actors.specs.declared.wire.Wire.{Wire}
+use Rattle.case_posts.specs.declared.wire.Wire.{Wire}
 use Rattle.cases_settle.specs.Sides.{Pairs, IsSide}
 use Rattle.cases_settle.proofs.hands.take_one.Goals as goal
 

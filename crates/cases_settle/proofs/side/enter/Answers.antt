@@ -1,16 +1,16 @@
 use Rattle.std.proofs.Common.{◌≡◌, ℕ, Some, refl, sym, ap, subst, ◌∙◌}
 use Rattle.wamp_ids.specs.Numbers.{seat_of}
-use Rattle.session.specs.declared.item.Item.{Item}
+use Rattle.session.specs.declared.messages.item.Item.{Item}
 use Rattle.realm.specs.History.{History}
 use Rattle.outbox_queue.specs.Ends.{Taking}
-use Rattle.ghost_state.specs.Past.{items_of}
-use Rattle.realm_actor.specs.Acting.{Acting}
-use Rattle.realm_actor.specs.Following.{Box}
-use Rattle.realm_actor.specs.Naming.{outbox_of}
-use Rattle.realm_actor.specs.Running.{stands_at}
-use Rattle.realm_actor.specs.Settling.{IsOther}
+use Rattle.ghost_state.specs.GhostList.{items_of}
+use Rattle.realm_actor.specs.ActorView.{Acting}
+use Rattle.realm_actor.specs.OutboxHistory.{Box}
+use Rattle.realm_actor.specs.LastCut.{outbox_of}
+use Rattle.realm_actor.specs.Run.{stands_at}
+use Rattle.realm_actor.specs.Settle.{IsOther}
 use Rattle.cases_settle.specs.declared.side.Side.{Side}
-use Rattle.case_actors.specs.declared.wire.Wire.{Wire}
+use Rattle.case_posts.specs.declared.wire.Wire.{Wire}
 use Rattle.cases_settle.specs.Sides.{Pairs, IsSide}
 use Rattle.cases_settle.proofs.side.enter.Goals as goal
 

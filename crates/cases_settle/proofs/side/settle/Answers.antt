@@ -1,6 +1,6 @@
 use Rattle.std.proofs.Common.{◌≡◌, ℕ, refl, sym, subst}
-use Rattle.realm_actor.specs.Acting.{Acting}
-use Rattle.case_actors.specs.declared.wire.Wire.{Wire}
+use Rattle.realm_actor.specs.ActorView.{Acting}
+use Rattle.case_posts.specs.declared.wire.Wire.{Wire}
 use Rattle.cases_settle.specs.Sides.{Stays}
 use Rattle.cases_settle.proofs.side.settle.Goals as goal
 

@@ -1,7 +1,7 @@
 use Rattle.std.proofs.Common.{◌≡◌, ℕ, ◌<◌, ◌^◌, ◌||◌, drop}
 use Rattle.std.specs.Ordering.{nat_cmp}
 use Rattle.std.specs.BTreeSet.{contains}
-use Rattle.eligibility.specs.Audience.{has_number}
+use Rattle.eligibility.specs.Lists.{has_number}
 use Rattle.eligibility.proofs.lookup.set_of_numbers.Given as goal
 
 abbrev pub invariant-loop-number : goal.invariant-loop-number

@@ -1,6 +1,6 @@
 use Rattle.std.proofs.Common.{◌≡◌, ℕ, ◌||◌, List}
 use Rattle.std.specs.BTreeSet.{contains_text}
-use Rattle.eligibility.specs.Audience.{has_text}
+use Rattle.eligibility.specs.Lists.{has_text}
 use Rattle.eligibility.proofs.lookup.set_of_texts.Given as goal
 
 abbrev pub invariant-loop-text : goal.invariant-loop-text

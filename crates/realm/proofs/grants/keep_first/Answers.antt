@@ -4,8 +4,8 @@ use Rattle.std.specs.Str.{bytes_eq}
 use Rattle.std.proofs.lemmas.Slice.Eq.{bytes_eq-Decides}
 use Rattle.std.proofs.lemmas.Map.Text.{hash_map_updates_text}
 use Rattle.indexmap.specs.IndexMap.{get_by_text}
-use Rattle.realm.specs.Granting.{first_of}
-use Rattle.realm.proofs.Choices.{not-some}
+use Rattle.realm.specs.Grants.{first_of}
+use Rattle.realm.proofs.Conditionals.{not-some}
 use Rattle.realm.proofs.grants.keep_first.Goals as goal
 
 first-kept : (b : Bool) (o : Option (List ℕ)) (role : List ℕ) → (b ≡ true → o ≡ None) → cond b (Some role) o ≡ first_of o (cond b (Some role) None)

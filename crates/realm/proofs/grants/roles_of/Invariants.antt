@@ -1,6 +1,6 @@
 use Rattle.std.proofs.Common.{◌≡◌, ℕ, List}
 use Rattle.indexmap.specs.IndexMap.{get_by_text}
-use Rattle.realm.specs.Granting.{first_of, pairs_of, role_in}
+use Rattle.realm.specs.Grants.{first_of, pairs_of, role_in}
 use Rattle.realm.proofs.grants.roles_of.Given as goal
 
 abbrev pub invariant-loop-authid : goal.invariant-loop-authid

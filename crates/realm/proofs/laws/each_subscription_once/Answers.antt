@@ -1,4 +1,4 @@
-use Rattle.realm.proofs.Once.{once}
+use Rattle.realm.proofs.EachSubscriptionOnce.{once}
 use Rattle.realm.proofs.laws.each_subscription_once.Goals as goal
 
 pub returns : goal.returns

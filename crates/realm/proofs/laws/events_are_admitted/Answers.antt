@@ -1,4 +1,4 @@
-use Rattle.realm.proofs.Admitted.{admitted, excluded, empty}
+use Rattle.realm.proofs.EventsAreAdmitted.{admitted, excluded, empty}
 use Rattle.realm.proofs.laws.events_are_admitted.Goals as goal
 
 pub returns : goal.returns

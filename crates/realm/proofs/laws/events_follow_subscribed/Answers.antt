@@ -1,4 +1,4 @@
-use Rattle.realm.proofs.Following.{events-follow}
+use Rattle.realm.proofs.EventsFollowSubscribed.{events-follow}
 use Rattle.realm.proofs.laws.events_follow_subscribed.Goals as goal
 
 pub returns : goal.returns

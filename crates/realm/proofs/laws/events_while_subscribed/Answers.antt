@@ -1,4 +1,4 @@
-use Rattle.realm.proofs.Following.{events-while}
+use Rattle.realm.proofs.EventsFollowSubscribed.{events-while}
 use Rattle.realm.proofs.laws.events_while_subscribed.Goals as goal
 
 pub returns : goal.returns

@@ -1,4 +1,4 @@
-use Rattle.realm.proofs.Sent.{last, sent}
+use Rattle.realm.proofs.LastIsRetained.{last, sent}
 use Rattle.realm.proofs.laws.last_is_retained.Goals as goal
 
 pub returns : goal.returns

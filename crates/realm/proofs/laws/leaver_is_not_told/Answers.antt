@@ -1,4 +1,4 @@
-use Rattle.realm.proofs.Leaving.{leaver}
+use Rattle.realm.proofs.LeaverIsNotTold.{leaver}
 use Rattle.realm.proofs.laws.leaver_is_not_told.Goals as goal
 
 pub returns : goal.returns

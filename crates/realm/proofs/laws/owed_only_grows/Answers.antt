@@ -1,4 +1,4 @@
-use Rattle.realm.proofs.Growing.{owed-Begins}
+use Rattle.realm.proofs.OwedOnlyGrows.{owed-Begins}
 use Rattle.realm.proofs.laws.owed_only_grows.Goals as goal
 
 pub returns : goal.returns

@@ -1,4 +1,4 @@
-use Rattle.realm.proofs.Drawn.{drawn}
+use Rattle.realm.proofs.PublishedUnderItsWord.{drawn}
 use Rattle.realm.proofs.laws.published_under_its_word.Goals as goal
 
 pub returns : goal.returns

@@ -1,4 +1,4 @@
-use Rattle.realm.proofs.Told.{arrivals, departures}
+use Rattle.realm.proofs.SessionsAreAnnounced.{arrivals, departures}
 use Rattle.realm.proofs.laws.sessions_are_announced.Goals as goal
 
 pub returns : goal.returns

@@ -1,6 +1,6 @@
 use Rattle.std.proofs.Common.{rules}
 use Rattle.std.proofs.lemmas.Fn.{always_returns_same}
-use Rattle.realm.proofs.Ordered.{found-place}
+use Rattle.realm.proofs.LiveListOrder.{found-place}
 use Rattle.realm.proofs.sessions.place_of.Goals as goal
 
 -- the closure gives a session's connection

@@ -1,4 +1,4 @@
-use Rattle.realm_actor.proofs.Ordering.{run_keeps}
+use Rattle.realm_actor.proofs.RunKeepsOrder.{run_keeps}
 use Rattle.realm_actor.proofs.laws.run_keeps_order.Goals as goal
 
 pub returns : goal.returns

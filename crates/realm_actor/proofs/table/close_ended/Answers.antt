@@ -1,6 +1,6 @@
 use Rattle.std.proofs.Common.{ap, ◌∙◌}
-use Rattle.realm_actor.proofs.Passing.{row_at}
-use Rattle.realm_actor.proofs.Entering.{ends_live, ends_nowhere, ends_here}
+use Rattle.realm_actor.proofs.RowDelivery.{row_at}
+use Rattle.realm_actor.proofs.EntryLemmas.{ends_live, ends_nowhere, ends_here}
 use Rattle.realm_actor.proofs.table.close_ended.Goals as goal
 
 pub returns-then-is_live : goal.returns-then-is_live

@@ -1,8 +1,8 @@
 use Rattle.std.proofs.Common.{◌≡◌, sym, ◌∙◌, subst, length}
 use Rattle.realm_actor.specs.Rows.{EachGoes, NoneRose}
 use Rattle.realm_actor.specs.Tables.{EachEnds}
-use Rattle.realm_actor.proofs.Passing.{Ascending-goes}
-use Rattle.realm_actor.proofs.Entering.{taken_whole, none_ends}
+use Rattle.realm_actor.proofs.RowDelivery.{Ascending-goes}
+use Rattle.realm_actor.proofs.EntryLemmas.{taken_whole, none_ends}
 use Rattle.realm_actor.proofs.table.deliver.Goals as goal
 
 pub close_ended-requires : goal.close_ended-requires

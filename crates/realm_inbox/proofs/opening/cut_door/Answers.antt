@@ -1,4 +1,4 @@
-use Rattle.realm_inbox.proofs.Told.{cuts_door_by}
+use Rattle.realm_inbox.proofs.StepEffects.{cuts_door_by}
 use Rattle.realm_inbox.proofs.opening.cut_door.Goals as goal
 
 pub another-requires-clause-rule : goal.another-requires-clause-rule

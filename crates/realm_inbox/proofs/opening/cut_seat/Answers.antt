@@ -1,4 +1,4 @@
-use Rattle.realm_inbox.proofs.Told.{cuts_by}
+use Rattle.realm_inbox.proofs.StepEffects.{cuts_by}
 use Rattle.realm_inbox.proofs.opening.cut_seat.Goals as goal
 
 pub another-cut-requires-clause-rule : goal.another-cut-requires-clause-rule

@@ -1,6 +1,6 @@
 use Rattle.std.proofs.Common.{◌≡◌, ◌+◌, ◌∷◌, [], length, length-append, sym, ap, ◌∙◌}
 use Rattle.realm_inbox.specs.Ends.{place_of}
-use Rattle.realm_inbox.proofs.Seating.{seats_snoc}
+use Rattle.realm_inbox.proofs.SeatCuts.{seats_snoc}
 use Rattle.realm_inbox.proofs.opening.cut_seats.Goals as goal
 
 pub loop-i-preserved : goal.loop-i-preserved

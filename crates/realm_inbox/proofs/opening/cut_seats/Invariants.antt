@@ -2,7 +2,7 @@ use Rattle.std.proofs.Common.{◌≡◌, ◌+◌, [], true, length}
 use Rattle.crossbeam_channel.specs.Claims.{view, IsSeatAt}
 use Rattle.crossbeam_channel.specs.Ends.{sends_on}
 use Rattle.realm_inbox.specs.Ends.{place_of, received_in, is_reader}
-use Rattle.realm_inbox.specs.Shown.{AreNewSeats}
+use Rattle.realm_inbox.specs.EndViews.{AreNewSeats}
 use Rattle.realm_inbox.proofs.opening.cut_seats.Given as goal
 
 abbrev pub invariant-loop-i : goal.invariant-loop-i

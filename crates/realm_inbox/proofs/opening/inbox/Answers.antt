@@ -1,4 +1,4 @@
-use Rattle.realm_inbox.proofs.Rules.{begins}
+use Rattle.realm_inbox.proofs.RuleSteps.{begins}
 use Rattle.realm_inbox.proofs.opening.inbox.Goals as goal
 
 pub bounded_with-requires-clause-rule : goal.bounded_with-requires-clause-rule

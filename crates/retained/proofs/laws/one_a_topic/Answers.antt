@@ -1,4 +1,4 @@
-use Rattle.retained.proofs.Retaining.{last_alone, ascending-retained}
+use Rattle.retained.proofs.StoreLemmas.{last_alone, ascending-retained}
 use Rattle.retained.proofs.laws.one_a_topic.Goals as goal
 
 pub returns : goal.returns

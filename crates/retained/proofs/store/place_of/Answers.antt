@@ -2,7 +2,7 @@ use Rattle.std.proofs.Common.{rules}
 use Rattle.std.proofs.lemmas.Fn.{always_returns_same}
 use Rattle.std.specs.Cmp.Lexicographic.{slice_cmp}
 use Rattle.std.specs.Ordering.{nat_cmp}
-use Rattle.retained.proofs.Putting.{found-place}
+use Rattle.retained.proofs.Insertion.{found-place}
 use Rattle.retained.proofs.store.place_of.Goals as goal
 
 -- the closure compares a publication's topic with the topic that is looked for

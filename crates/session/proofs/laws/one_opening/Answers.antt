@@ -1,4 +1,4 @@
-use Rattle.session.proofs.Once.{one-opening as law}
+use Rattle.session.proofs.OneVerdict.{one-opening as law}
 use Rattle.session.proofs.laws.one_opening.Goals as goal
 
 pub returns : goal.returns

@@ -1,6 +1,6 @@
 use Rattle.std.proofs.Common.{sym, ◌∙◌}
-use Rattle.subscription_index.specs.Tables.{number_by_ending}
-use Rattle.subscription_index.proofs.Adding.{adds_number, adds_no_number}
+use Rattle.subscription_index.specs.body.Tables.{number_by_ending}
+use Rattle.subscription_index.proofs.FoundLemmas.{adds_number, adds_no_number}
 use Rattle.subscription_index.proofs.table.add_beginning.Goals as goal
 
 pub returns-in_ok-push : goal.returns-in_ok-push

@@ -2,7 +2,7 @@ use Rattle.std.proofs.Common.{◌≡◌, ℕ, List, Some, length, sym, rules}
 use Rattle.std.proofs.lemmas.Result.{on_err_weaker}
 use Rattle.std.specs.BTreeMap.{get}
 use Rattle.std.specs.Ordering.{nat_cmp}
-use Rattle.subscription_index.specs.Tables.{number_by_ending}
+use Rattle.subscription_index.specs.body.Tables.{number_by_ending}
 use Rattle.subscription_index.proofs.Texts.{by_length-kept}
 use Rattle.subscription_index.proofs.table.put_by_length.Goals as goal
 

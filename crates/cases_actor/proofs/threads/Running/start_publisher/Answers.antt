@@ -1,6 +1,6 @@
 use denote.Exit.{no}
 use denote.Param.Send.{param_send, arg_send}
-use Rattle.cases_actor.proofs.Crossing.{publisher_send}
+use Rattle.cases_actor.proofs.SendLemmas.{publisher_send}
 use Rattle.cases_actor.proofs.threads.Running.start_publisher.Goals as goal
 
 pub start-requires-send-W : goal.start-requires-send-W

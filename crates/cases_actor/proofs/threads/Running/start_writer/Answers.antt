@@ -1,6 +1,6 @@
 use denote.Exit.{no}
 use denote.Param.Send.{param_send, arg_send}
-use Rattle.cases_actor.proofs.Crossing.{writer_send, taken_send}
+use Rattle.cases_actor.proofs.SendLemmas.{writer_send, taken_send}
 use Rattle.cases_actor.proofs.threads.Running.start_writer.Goals as goal
 
 pub start-requires-send-W : goal.start-requires-send-W

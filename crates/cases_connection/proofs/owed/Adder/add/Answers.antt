@@ -1,7 +1,7 @@
 use Rattle.std.proofs.Common.{Option, Some, List, [], sym, ap, subst}
 use Rattle.outbox_queue.specs.Ends.{Sending}
 use Rattle.outbox_queue.specs.Rule.{Grows}
-use Rattle.session.specs.declared.item.Item.{Item}
+use Rattle.session.specs.declared.messages.item.Item.{Item}
 use Rattle.cases_connection.proofs.Next.{none_is_left}
 use Rattle.cases_connection.specs.Listing.{Same, Owes}
 use Rattle.cases_connection.specs.declared.owed.Listed.{Listed}

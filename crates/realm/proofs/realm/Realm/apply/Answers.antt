@@ -1,10 +1,10 @@
 use Rattle.std.proofs.Common.{◌≡◌, ◌+◌, ◌≤◌, true, [], ◌∷◌, ◌++◌, map, length, vec_capacity, sym, ap, subst, ◌∙◌, arith, length-append}
 use Rattle.realm.specs.History.{begun, ◌▷◌}
 use Rattle.realm.specs.Sessions.{may_come, IsHistory}
-use Rattle.realm.specs.Agreeing.{Agrees}
-use Rattle.realm.specs.Turns.{history_after}
-use Rattle.realm.proofs.Beginning.{history-next, may-turn}
-use Rattle.realm.proofs.Rooms.{room-left}
+use Rattle.realm.specs.body.Refinement.{Agrees}
+use Rattle.realm.specs.body.Apply.{history_after}
+use Rattle.realm.proofs.EmptyHistory.{history-next, may-turn}
+use Rattle.realm.proofs.RoomForCuts.{room-left}
 use Rattle.realm.proofs.realm.Realm.apply.Goals as goal
 
 pub answer-requires : goal.answer-requires

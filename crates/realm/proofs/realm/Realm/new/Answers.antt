@@ -1,5 +1,5 @@
 use Rattle.std.proofs.Common.{arith}
-use Rattle.realm.proofs.Beginning.{agrees-begun}
+use Rattle.realm.proofs.EmptyHistory.{agrees-begun}
 use Rattle.realm.proofs.realm.Realm.new.Goals as goal
 
 pub invariant_of-result : goal.invariant_of-result

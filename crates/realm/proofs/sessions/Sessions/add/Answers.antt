@@ -1,6 +1,6 @@
 use Rattle.std.proofs.Common.{◌≡◌, None, sym, ap, ◌∙◌}
-use Rattle.realm.specs.Live.{session_of, added}
-use Rattle.realm.proofs.Ordered.{stands, belongs-insert, ordered-added}
+use Rattle.realm.specs.body.LiveSessions.{session_of, added}
+use Rattle.realm.proofs.LiveListOrder.{stands, belongs-insert, ordered-added}
 use Rattle.realm.proofs.sessions.Sessions.add.Goals as goal
 
 pub unreachable-requires : goal.unreachable-requires

@@ -1,6 +1,6 @@
 use Rattle.std.proofs.Common.{Some, sym, ap, ◌∙◌}
-use Rattle.realm.specs.Live.{session_of}
-use Rattle.realm.proofs.Ordered.{stands, belongs-none}
+use Rattle.realm.specs.body.LiveSessions.{session_of}
+use Rattle.realm.proofs.LiveListOrder.{stands, belongs-none}
 use Rattle.realm.proofs.sessions.Sessions.find.Goals as goal
 
 pub returns-in-Ok : goal.returns-in-Ok

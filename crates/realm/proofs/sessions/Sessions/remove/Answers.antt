@@ -1,6 +1,6 @@
 use Rattle.std.proofs.Common.{sym, ap, ◌∙◌}
-use Rattle.realm.specs.Live.{others}
-use Rattle.realm.proofs.Ordered.{stands-remove, belongs-others, ordered-others}
+use Rattle.realm.specs.body.LiveSessions.{others}
+use Rattle.realm.proofs.LiveListOrder.{stands-remove, belongs-others, ordered-others}
 use Rattle.realm.proofs.sessions.Sessions.remove.Goals as goal
 
 pub invariant_of-self : goal.invariant_of-self

@@ -1,5 +1,5 @@
 use Rattle.std.proofs.Common.{ap, length, arith}
-use Rattle.realm_actor.proofs.Leaving.{stands_new}
+use Rattle.realm_actor.proofs.RowRemoval.{stands_new}
 use Rattle.realm_actor.proofs.actor.Actor.new.Goals as goal
 
 pub invariant_of-result : goal.invariant_of-result

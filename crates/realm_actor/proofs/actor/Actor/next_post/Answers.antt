@@ -1,5 +1,5 @@
-use Rattle.realm_inbox.specs.Shown.{received}
-use Rattle.realm_actor.proofs.Receiving.{next_there, next_given}
+use Rattle.realm_inbox.specs.EndViews.{received}
+use Rattle.realm_actor.proofs.ReceivedAhead.{next_there, next_given}
 use Rattle.realm_actor.proofs.actor.Actor.next_post.Goals as goal
 
 pub returns-in-Some : goal.returns-in-Some

@@ -1,8 +1,8 @@
 use Rattle.std.proofs.Common.{sym, ◌∙◌}
-use Rattle.realm_inbox.specs.Shown.{received}
-use Rattle.realm_actor.proofs.Turning.{progress_none, progress_on, ends_left, ends_stopped}
-use Rattle.realm_actor.proofs.Making.{ran_begins}
-use Rattle.realm_actor.proofs.Holding.{ran_holds}
+use Rattle.realm_inbox.specs.EndViews.{received}
+use Rattle.realm_actor.proofs.RunLemmas.{progress_none, progress_on, ends_left, ends_stopped}
+use Rattle.realm_actor.proofs.RunHistory.{ran_begins}
+use Rattle.realm_actor.proofs.LiveThroughRun.{ran_holds}
 use Rattle.realm_actor.proofs.actor.Actor.run.Goals as goal
 
 pub loop-init : goal.loop-init

@@ -1,5 +1,5 @@
-use Rattle.realm_inbox.specs.Shown.{received}
-use Rattle.realm_actor.proofs.Turning.{Progress}
+use Rattle.realm_inbox.specs.EndViews.{received}
+use Rattle.realm_actor.proofs.RunLemmas.{Progress}
 use Rattle.realm_actor.proofs.actor.Actor.run.Given as goal
 
 abbrev pub invariant-loop : goal.invariant-loop

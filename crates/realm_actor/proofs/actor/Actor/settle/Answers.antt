@@ -1,13 +1,13 @@
 use Rattle.std.proofs.Common.{map, ap, sym, subst, arith}
 use Rattle.std.proofs.lemmas.Result.{IfOk-weaker}
 use Rattle.std.specs.Prelude.{IfOk, vec_capacity}
-use Rattle.ghost_state.specs.Past.{items_of}
+use Rattle.ghost_state.specs.GhostList.{items_of}
 use Rattle.realm_inbox.specs.Seats.{said}
-use Rattle.ghost_state.specs.declared.past.Past.{Past}
-use Rattle.realm_actor.specs.Acting.{Acting}
-use Rattle.realm_actor.specs.Settling.{Settles}
-use Rattle.realm_actor.specs.Standing.{Stands}
-use Rattle.realm_actor.proofs.Leaving.{stands_either, stands_one, length_one, settles}
+use Rattle.ghost_state.specs.declared.ghost_list.GhostList.{GhostList}
+use Rattle.realm_actor.specs.ActorView.{Acting}
+use Rattle.realm_actor.specs.Settle.{Settles}
+use Rattle.realm_actor.specs.Invariant.{Stands}
+use Rattle.realm_actor.proofs.RowRemoval.{stands_either, stands_one, length_one, settles}
 use Rattle.realm_actor.proofs.actor.Actor.settle.Goals as goal
 
 pub invariant_of-self : goal.invariant_of-self
@@ -35,5 +35,5 @@ returns-clause-ok g c =
     let new : Acting g.row.S.Denot = record { history = b.table.realm; rows = b.table.rows.items; words = g.W.IdSource.given b.words; last_cut = b.last_cut.items; handled = map said (items_of b.handled) } in
     subst (λ (o : Acting g.row.S.Denot). IfOk c.settle.result (λ rest. Settles c.args.drain.conn c.args.drain rest.items.items o new)) c.self.view_is
     (IfOk-weaker c.settle.result _ _
-    (λ rest e. settles c.args.drain.conn c.args.drain rest.items.items old new c.self.invariant.0 e n.realm (ap (g.W.IdSource.given) n.words) (ap (λ v. v.items) n.last_cut) (ap (λ (p : Past _). map said (items_of p)) n.handled))
+    (λ rest e. settles c.args.drain.conn c.args.drain rest.items.items old new c.self.invariant.0 e n.realm (ap (g.W.IdSource.given) n.words) (ap (λ v. v.items) n.last_cut) (ap (λ (p : GhostList _). map said (items_of p)) n.handled))
     n.rows)

@@ -1,13 +1,13 @@
 use Rattle.std.proofs.Common.{map, ap, sym, subst, length, arith}
 use Rattle.std.specs.Prelude.{vec_capacity}
 use Rattle.realm.specs.Sessions.{live}
-use Rattle.ghost_state.specs.Past.{items_of}
+use Rattle.ghost_state.specs.GhostList.{items_of}
 use Rattle.realm_inbox.specs.Seats.{said}
-use Rattle.ghost_state.specs.declared.past.Past.{Past}
-use Rattle.realm_actor.specs.Acting.{Acting}
-use Rattle.realm_actor.specs.Settling.{Sweeps}
-use Rattle.realm_actor.specs.Standing.{Stands}
-use Rattle.realm_actor.proofs.Leaving.{stands_swept, sweeps, fewer}
+use Rattle.ghost_state.specs.declared.ghost_list.GhostList.{GhostList}
+use Rattle.realm_actor.specs.ActorView.{Acting}
+use Rattle.realm_actor.specs.Settle.{Sweeps}
+use Rattle.realm_actor.specs.Invariant.{Stands}
+use Rattle.realm_actor.proofs.RowRemoval.{stands_swept, sweeps, fewer}
 use Rattle.realm_actor.proofs.actor.Actor.sweep.Goals as goal
 
 pub invariant_of-self : goal.invariant_of-self
@@ -30,4 +30,4 @@ returns g c =
     let old : Acting g.row.S.Denot = record { history = a.table.realm; rows = a.table.rows.items; words = g.W.IdSource.given a.words; last_cut = a.last_cut.items; handled = map said (items_of a.handled) } in
     let new : Acting g.row.S.Denot = record { history = b.table.realm; rows = b.table.rows.items; words = g.W.IdSource.given b.words; last_cut = b.last_cut.items; handled = map said (items_of b.handled) } in
     subst (λ (o : Acting g.row.S.Denot). Sweeps o new) c.self.view_is
-    (sweeps old new c.self.invariant.0 n.rows n.realm (ap (g.W.IdSource.given) n.words) (ap (λ v. v.items) n.last_cut) (ap (λ (p : Past _). map said (items_of p)) n.handled))
+    (sweeps old new c.self.invariant.0 n.rows n.realm (ap (g.W.IdSource.given) n.words) (ap (λ v. v.items) n.last_cut) (ap (λ (p : GhostList _). map said (items_of p)) n.handled))

@@ -1,7 +1,7 @@
 use Rattle.std.proofs.Common.{[], ◌∷◌, sym, ap, arith, append-nil}
 use Rattle.std.specs.Prelude.{vec_capacity}
-use Rattle.realm_actor.proofs.Doing.{as_many}
-use Rattle.realm_actor.proofs.Spoken.{by_outcome, applies_plain, applies_word, loses_by, no_joining}
+use Rattle.realm_actor.proofs.HandleLemmas.{as_many}
+use Rattle.realm_actor.proofs.AppliedActs.{by_outcome, applies_plain, applies_word, loses_by, no_joining}
 use Rattle.realm_actor.proofs.state.State.enter.Goals as goal
 
 pub returns-then-not-draws-clause-outcome : goal.returns-then-not-draws-clause-outcome

@@ -1,7 +1,7 @@
 use Rattle.std.proofs.Common.{ap, sym, subst}
-use Rattle.realm_actor.specs.Handling.{Does}
-use Rattle.realm_actor.specs.Standing.{Stands}
-use Rattle.realm_actor.proofs.Doing.{does, stands_after, none_after}
+use Rattle.realm_actor.specs.Handle.{Does}
+use Rattle.realm_actor.specs.Invariant.{Stands}
+use Rattle.realm_actor.proofs.HandleLemmas.{does, stands_after, none_after}
 use Rattle.realm_actor.proofs.state.State.handle_act.Goals as goal
 
 pub returns-clause-does : goal.returns-clause-does

@@ -2,12 +2,12 @@ use Rattle.std.proofs.Common.{◌≡◌, ap, sym, ◌∙◌, true, subst, ◌++�
 use Rattle.realm.specs.History.{◌▷◌}
 use Rattle.realm.specs.declared.entry.Entry.TheVariants.{Join}
 use Rattle.std.specs.Prelude.{vec_capacity}
-use Rattle.realm_actor.proofs.Fullness.{not_err}
+use Rattle.realm_actor.proofs.FoundFull.{not_err}
 use Rattle.realm.specs.Sessions.{may_join}
 use Rattle.realm_actor.specs.Tables.{Sound}
-use Rattle.realm_actor.specs.Cutting.{NoneFull}
-use Rattle.realm_actor.proofs.Spoken.{loses_early, loses_join, applies_join}
-use Rattle.realm_actor.proofs.Named.{insert_length, length_all}
+use Rattle.realm_actor.specs.Cuts.{NoneFull}
+use Rattle.realm_actor.proofs.AppliedActs.{loses_early, loses_join, applies_join}
+use Rattle.realm_actor.proofs.LastCutLemmas.{insert_length, length_all}
 use Rattle.realm_actor.proofs.state.State.join.Goals as goal
 
 pub admit-requires-clause-sound : goal.admit-requires-clause-sound

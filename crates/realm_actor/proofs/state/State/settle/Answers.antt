@@ -1,5 +1,5 @@
 use Rattle.std.proofs.Common.{refl}
-use Rattle.realm_actor.proofs.Knowing.{knows_settled}
+use Rattle.realm_actor.proofs.TableInvariant.{knows_settled}
 use Rattle.realm_actor.proofs.state.State.settle.Goals as goal
 
 pub returns-clause-knows : goal.returns-clause-knows

@@ -1,8 +1,8 @@
 use Rattle.std.proofs.Common.{sym, ◌∙◌, subst, arith}
-use Rattle.realm_actor.specs.Closing.{Stops}
-use Rattle.realm_actor.specs.Standing.{Stands}
-use Rattle.realm_actor.proofs.Stopping.{stops, closes_moved, outcome_applied, outcome_refused}
-use Rattle.realm_actor.proofs.Doing.{stands_after}
+use Rattle.realm_actor.specs.Stop.{Stops}
+use Rattle.realm_actor.specs.Invariant.{Stands}
+use Rattle.realm_actor.proofs.StopLemmas.{stops, closes_moved, outcome_applied, outcome_refused}
+use Rattle.realm_actor.proofs.HandleLemmas.{stands_after}
 use Rattle.realm_actor.proofs.state.State.stop.Goals as goal
 
 pub returns-then-all_closed-clause-stops : goal.returns-then-all_closed-clause-stops

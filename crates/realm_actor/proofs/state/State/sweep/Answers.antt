@@ -1,5 +1,5 @@
 use Rattle.std.proofs.Common.{refl}
-use Rattle.realm_actor.proofs.Knowing.{knows_swept, none_swept}
+use Rattle.realm_actor.proofs.TableInvariant.{knows_swept, none_swept}
 use Rattle.realm_actor.proofs.state.State.sweep.Goals as goal
 
 pub returns-then-not-has_ended-clause-rows : goal.returns-then-not-has_ended-clause-rows

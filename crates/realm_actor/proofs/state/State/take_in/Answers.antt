@@ -1,7 +1,7 @@
 use Rattle.std.proofs.Common.{ap, ◌∙◌, subst, ◌++◌, ◌∷◌}
 use Rattle.realm_actor.specs.Tables.{EachMarked}
-use Rattle.realm_actor.specs.Cutting.{Accepted}
-use Rattle.realm_actor.proofs.Fullness.{ready_live}
+use Rattle.realm_actor.specs.Cuts.{Accepted}
+use Rattle.realm_actor.proofs.FoundFull.{ready_live}
 use Rattle.realm_actor.proofs.state.State.take_in.Goals as goal
 
 pub accept-requires-clause-ready : goal.accept-requires-clause-ready

@@ -1,6 +1,6 @@
 use Rattle.std.proofs.Common.{subst}
 use Rattle.realm_actor.specs.Tables.{Sound}
-use Rattle.realm_actor.specs.Cutting.{Cuts}
+use Rattle.realm_actor.specs.Cuts.{Cuts}
 use Rattle.realm_actor.proofs.table.Table.accept.Goals as goal
 
 pub cut_found-requires-clause-none : goal.cut_found-requires-clause-none

@@ -3,11 +3,11 @@ use Rattle.std.specs.List.{insert}
 use Rattle.realm.specs.Sessions.{live}
 use Rattle.realm_actor.specs.Rows.{Ascending, PartsAt, EachDue}
 use Rattle.realm_actor.specs.Tables.{EachEnds, EachWent, Ready, Sound}
-use Rattle.realm_actor.specs.Cutting.{NoneFull}
-use Rattle.realm_actor.proofs.Entering.{due_all, went_all, sound_after}
-use Rattle.realm_actor.proofs.Knowing.{still_none, knows_join, none_inserted}
+use Rattle.realm_actor.specs.Cuts.{NoneFull}
+use Rattle.realm_actor.proofs.EntryLemmas.{due_all, went_all, sound_after}
+use Rattle.realm_actor.proofs.TableInvariant.{still_none, knows_join, none_inserted}
 use Rattle.realm_actor.specs.Rows.{NoneRose}
-use Rattle.realm_actor.proofs.Inserting.{ready_join}
+use Rattle.realm_actor.proofs.RowInsertion.{ready_join}
 use Rattle.realm_actor.proofs.table.Table.admit.Goals as goal
 
 pub place_in-place-requires : goal.place_in-place-requires

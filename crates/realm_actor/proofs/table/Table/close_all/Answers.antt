@@ -1,6 +1,6 @@
 use Rattle.std.proofs.Common.{refl, sym, ap, ◌∙◌, subst, [], ◌++◌, append-nil, append_assoc, add-one, arith}
-use Rattle.realm_actor.specs.Closing.{Closes, first, one_more}
-use Rattle.realm_actor.proofs.Stopping.{nil_append, closes_moved}
+use Rattle.realm_actor.specs.Stop.{Closes, first, one_more}
+use Rattle.realm_actor.proofs.StopLemmas.{nil_append, closes_moved}
 use Rattle.realm_actor.proofs.table.Table.close_all.Goals as goal
 
 pub loop-place-init : goal.loop-place-init

@@ -1,9 +1,9 @@
 use Rattle.std.proofs.Common.{◌≡◌, ◌++◌}
 use Rattle.std.specs.Prelude.{List, ℕ}
 use Rattle.realm_actor.specs.Tables.{Sound}
-use Rattle.realm_actor.specs.Cutting.{NoneFull}
-use Rattle.realm_actor.specs.Closing.{Closes, is_nil}
-use Rattle.realm_actor.specs.Standing.{Knows}
+use Rattle.realm_actor.specs.Cuts.{NoneFull}
+use Rattle.realm_actor.specs.Stop.{Closes, is_nil}
+use Rattle.realm_actor.specs.Invariant.{Knows}
 use Rattle.realm_actor.proofs.table.Table.close_all.Given as goal
 
 abbrev pub invariant-loop-place : goal.invariant-loop-place

@@ -1,9 +1,9 @@
 use Rattle.std.proofs.Common.{refl, sym, ap, ◌∙◌, subst, [], ◌∷◌, ◌++◌, append-nil, append_assoc, length}
 use Rattle.std.proofs.lemmas.Option.{slice_get_read}
 use Rattle.realm_actor.specs.Tables.{EachMarked}
-use Rattle.realm_actor.specs.Cutting.{Accepted}
-use Rattle.realm_actor.specs.Closing.{passed, closed, refused}
-use Rattle.realm_actor.proofs.Fullness.{ready_live}
+use Rattle.realm_actor.specs.Cuts.{Accepted}
+use Rattle.realm_actor.specs.Stop.{passed, closed, refused}
+use Rattle.realm_actor.proofs.FoundFull.{ready_live}
 use Rattle.realm_actor.proofs.table.Table.close_at.Goals as goal
 
 pub returns-then-not-is_live-clause-closes : goal.returns-then-not-is_live-clause-closes

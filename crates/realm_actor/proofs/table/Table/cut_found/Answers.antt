@@ -1,5 +1,5 @@
 use Rattle.std.proofs.Common.{sym, [], append-nil}
-use Rattle.realm_actor.specs.Cutting.{none}
+use Rattle.realm_actor.specs.Cuts.{none}
 use Rattle.realm_actor.proofs.table.Table.cut_found.Goals as goal
 
 pub returns-else-is_full-clause-cuts : goal.returns-else-is_full-clause-cuts

@@ -1,7 +1,7 @@
 use Rattle.std.proofs.Common.{sym, ap, ◌∙◌, subst, [], ◌∷◌, ◌++◌, append-nil, append_assoc}
 use Rattle.realm_actor.specs.Rows.{Ascending}
-use Rattle.realm_actor.specs.Cutting.{none, one_more, IsLeastFull}
-use Rattle.realm_actor.proofs.Fullness.{full_live}
+use Rattle.realm_actor.specs.Cuts.{none, one_more, IsLeastFull}
+use Rattle.realm_actor.proofs.FoundFull.{full_live}
 use Rattle.realm_actor.proofs.table.Table.cut_full.Goals as goal
 
 pub loop-init : goal.loop-init

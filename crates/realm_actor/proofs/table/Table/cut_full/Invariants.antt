@@ -1,8 +1,8 @@
 use Rattle.std.proofs.Common.{◌≡◌, ◌++◌}
 use Rattle.std.specs.Prelude.{List, ℕ}
 use Rattle.realm_actor.specs.Tables.{Sound}
-use Rattle.realm_actor.specs.Cutting.{Cuts}
-use Rattle.realm_actor.specs.Standing.{Knows}
+use Rattle.realm_actor.specs.Cuts.{Cuts}
+use Rattle.realm_actor.specs.Invariant.{Knows}
 use Rattle.realm_actor.proofs.table.Table.cut_full.Given as goal
 
 abbrev pub invariant-loop : goal.invariant-loop

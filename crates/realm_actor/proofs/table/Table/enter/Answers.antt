@@ -2,8 +2,8 @@ use Rattle.std.proofs.Common.{refl, sym, ap, ◌∙◌, subst, []}
 use Rattle.realm.specs.Sessions.{live}
 use Rattle.realm_actor.specs.Rows.{EachDue}
 use Rattle.realm_actor.specs.Tables.{EachEnds, Sound}
-use Rattle.realm_actor.proofs.Entering.{due_all, went_all, sound_after}
-use Rattle.realm_actor.proofs.Knowing.{still_none, knows_entry}
+use Rattle.realm_actor.proofs.EntryLemmas.{due_all, went_all, sound_after}
+use Rattle.realm_actor.proofs.TableInvariant.{still_none, knows_entry}
 use Rattle.realm_actor.proofs.table.Table.enter.Goals as goal
 
 pub deliver-is_full-requires-clause-due : goal.deliver-is_full-requires-clause-due

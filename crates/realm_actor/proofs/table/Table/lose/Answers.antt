@@ -2,8 +2,8 @@ use Rattle.std.proofs.Common.{sym, ap, ◌∙◌, subst, ◌++◌, ◌∷◌, []
 use Rattle.realm.specs.History.{◌▷◌}
 use Rattle.realm_actor.specs.Rows.{Ascending}
 use Rattle.realm_actor.specs.Tables.{Sound}
-use Rattle.realm_actor.specs.Cutting.{Cuts}
-use Rattle.realm_actor.proofs.Doing.{sound_same, same_marked}
+use Rattle.realm_actor.specs.Cuts.{Cuts}
+use Rattle.realm_actor.proofs.HandleLemmas.{sound_same, same_marked}
 use Rattle.realm_actor.proofs.table.Table.lose.Goals as goal
 
 pub cut-requires-clause-sound : goal.cut-requires-clause-sound

@@ -1,5 +1,5 @@
 use Rattle.std.proofs.Common.{refl}
-use Rattle.realm_actor.proofs.Knowing.{knows_marked}
+use Rattle.realm_actor.proofs.TableInvariant.{knows_marked}
 use Rattle.realm_actor.proofs.table.Table.mark_lost.Goals as goal
 
 pub returns-clause-knows : goal.returns-clause-knows

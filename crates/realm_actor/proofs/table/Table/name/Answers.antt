@@ -1,6 +1,6 @@
 use Rattle.std.proofs.Common.{refl, sym, ◌∙◌}
-use Rattle.realm_actor.proofs.Marks.{unmarked_names, unmarked_same}
-use Rattle.realm_actor.proofs.Knowing.{knows_unmarked}
+use Rattle.realm_actor.proofs.MarkedRows.{unmarked_names, unmarked_same}
+use Rattle.realm_actor.proofs.TableInvariant.{knows_unmarked}
 use Rattle.realm_actor.proofs.table.Table.name.Goals as goal
 
 pub returns-then-not-self-clause-named : goal.returns-then-not-self-clause-named

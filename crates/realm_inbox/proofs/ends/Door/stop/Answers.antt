@@ -1,4 +1,4 @@
-use Rattle.realm_inbox.proofs.Told.{stops_by}
+use Rattle.realm_inbox.proofs.StepEffects.{stops_by}
 use Rattle.realm_inbox.proofs.ends.Door.stop.Goals as goal
 
 pub send-requires-clause-rule : goal.send-requires-clause-rule

@@ -1,4 +1,4 @@
-use Rattle.realm_inbox.proofs.Told.{receives_by, looked}
+use Rattle.realm_inbox.proofs.StepEffects.{receives_by, looked}
 use Rattle.realm_inbox.proofs.ends.Inbox.look.Goals as goal
 
 pub try_recv_as-requires-clause-rule : goal.try_recv_as-requires-clause-rule

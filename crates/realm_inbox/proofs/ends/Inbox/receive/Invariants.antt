@@ -1,5 +1,5 @@
 use Rattle.std.proofs.Common.{◌≡◌}
-use Rattle.realm_inbox.specs.Shown.{received, capacity, inbox_of}
+use Rattle.realm_inbox.specs.EndViews.{received, capacity, inbox_of}
 use Rattle.realm_inbox.proofs.ends.Inbox.receive.Given as goal
 
 abbrev pub invariant-loop : goal.invariant-loop

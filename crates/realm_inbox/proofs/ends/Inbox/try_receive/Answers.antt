@@ -1,4 +1,4 @@
-use Rattle.realm_inbox.proofs.Told.{given_by}
+use Rattle.realm_inbox.proofs.StepEffects.{given_by}
 use Rattle.realm_inbox.proofs.ends.Inbox.try_receive.Goals as goal
 
 pub returns-clause-given : goal.returns-clause-given

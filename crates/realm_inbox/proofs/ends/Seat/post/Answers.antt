@@ -1,6 +1,6 @@
 use Rattle.std.proofs.Common.{[], ◌∷◌, ◌++◌, sym, ap, ◌∙◌}
-use Rattle.ghost_state.specs.Past.{items_of}
-use Rattle.realm_inbox.proofs.Told.{posts_by, post_told}
+use Rattle.ghost_state.specs.GhostList.{items_of}
+use Rattle.realm_inbox.proofs.StepEffects.{posts_by, post_told}
 use Rattle.realm_inbox.proofs.ends.Seat.post.Goals as goal
 
 pub send-requires-clause-rule : goal.send-requires-clause-rule

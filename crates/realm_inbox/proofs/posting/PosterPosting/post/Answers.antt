@@ -1,4 +1,4 @@
-use Rattle.realm_inbox.proofs.Joined.{posts_acts}
+use Rattle.realm_inbox.proofs.PosterLemmas.{posts_acts}
 use Rattle.realm_inbox.proofs.posting.PosterPosting.post.Goals as goal
 
 pub returns : goal.returns

@@ -1,6 +1,6 @@
 use Rattle.std.proofs.Common.{◌≤◌, length, sym, ap, ◌∙◌, arith}
-use Rattle.retained.specs.Retained.{has_room}
-use Rattle.retained.proofs.Putting.{is_found, room-full}
+use Rattle.retained.specs.Store.{has_room}
+use Rattle.retained.proofs.Insertion.{is_found, room-full}
 use Rattle.retained.proofs.store.Store.has_room.Goals as goal
 
 pub returns-else-len-lt-MOST_RETAINED : goal.returns-else-len-lt-MOST_RETAINED

@@ -1,9 +1,9 @@
 use Rattle.std.proofs.Common.{◌≡◌, ◌≤◌, ◌+◌, true, false, length, refl, sym, ap, ◌∙◌, is_ok, length-set, arith}
 use Rattle.std.proofs.lemmas.Bool.{both_ways, true≢false}
 use Rattle.std.proofs.lemmas.List.Edits.{length-insert}
-use Rattle.retained.specs.Retained.{has_room, has_topic, set_topic}
-use Rattle.retained.proofs.Putting.{set-at, insert-at, has-at, none-at, room-full, room-has}
-use Rattle.retained.proofs.Retaining.{AreByTopic-set_topic}
+use Rattle.retained.specs.Store.{has_room, has_topic, set_topic}
+use Rattle.retained.proofs.Insertion.{set-at, insert-at, has-at, none-at, room-full, room-has}
+use Rattle.retained.proofs.StoreLemmas.{AreByTopic-set_topic}
 use Rattle.retained.proofs.store.Store.keep.Goals as goal
 
 pub invariant_of-self : goal.invariant_of-self

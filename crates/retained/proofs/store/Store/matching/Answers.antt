@@ -1,7 +1,7 @@
 use Rattle.std.proofs.Common.{◌∙◌}
 use Rattle.std.proofs.lemmas.List.{take_all}
 use Rattle.wamp_ids.specs.Pattern.{matches}
-use Rattle.retained.proofs.Retaining.{AreByTopic-filter}
+use Rattle.retained.proofs.StoreLemmas.{AreByTopic-filter}
 use Rattle.retained.proofs.store.Store.matching.Goals as goal
 
 pub returns-clause-order : goal.returns-clause-order

@@ -1,0 +1,6 @@
+//! The words of the command line, and what is told of a fault.
+
+pub(crate) mod command;
+pub(crate) mod diagnostics;
+pub(crate) mod grammar;
+pub(crate) mod grants;

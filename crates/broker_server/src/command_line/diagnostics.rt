@@ -1,0 +1,88 @@
+ghost use Rattle.std.specs.Prelude.{◌≡◌, ◌⊎◌, ◌+◌, ◌++◌, ◌<◌, ◌≢◌, ◌≤◌, Err, IfErr, OnOk, string_bytes};
+ghost use Rattle.rawsocket.specs.Devices.{GrowsByBeginning};
+ghost use Rattle.rawsocket.specs.declared.fault.Fault.TheVariants.{WriteFault as WriteFailed};
+ghost use Rattle.session.specs.Opened.{AreUsedUp, AreWithinTurns};
+ghost use Rattle.broker_server.specs.Commands.{fault_line, line_number, name_of, status_of};
+
+use crate::fault::Fault;
+use itoa::Buffer;
+use rawsocket::devices::{Sink, Turns, send, write_all};
+
+/// The name of a fault, without the line's number.
+fn name(fault: &Fault) -> &'static str
+    ensures { result.now ≡ name_of fault.now }
+{
+    match fault {
+        Fault::NoMemory => "E1 no memory",
+        Fault::ReadFault => "E16 read fault",
+        Fault::WriteFault => "E17 write fault",
+        Fault::Usage => "E19 usage",
+        Fault::BadLine(_) => "E20 bad line ",
+        Fault::TooManyTurns => "E25 too many turns",
+        Fault::ListenFault => "E26 listen fault",
+    }
+}
+
+/// Writes the number of the line that is at fault, if one is.
+fn write_number<S: Sink>(
+    fault: &Fault,
+    sink: &mut S,
+    turns: &mut Turns,
+) -> Result<(), rawsocket::Fault>
+    ensures written { OnOk result (S.taken sink.new ≡ S.taken sink.old ++ line_number fault.now) }
+    ensures fine { OnOk result (S.failures sink.new ≡ S.failures sink.old) }
+    ensures begun { GrowsByBeginning (S.taken sink.old) (S.taken sink.new) (line_number fault.now) }
+    ensures calls { S.calls sink.new + turns.new ≡ S.calls sink.old + turns.old }
+    ensures failures { S.failures sink.old ≤ S.failures sink.new }
+    ensures device { result ≡ Err WriteFailed → S.failures sink.old < S.failures sink.new }
+    ensures turns { IfErr result (λ of. of ≢ WriteFailed → turns.new ≡ 0) }
+{
+    match fault {
+        Fault::BadLine(line) => {
+            let mut digits = Buffer::new();
+            write_all(sink, digits.format(*line).as_bytes(), turns)
+        }
+        _ => Ok(()),
+    }
+}
+
+/// Writes the line of a fault.
+fn write_fault<S: Sink>(
+    fault: &Fault,
+    sink: &mut S,
+    turns: &mut Turns,
+) -> Result<(), rawsocket::Fault>
+    ensures written { OnOk result (S.taken sink.new ≡ S.taken sink.old ++ fault_line fault.now) }
+    ensures begun { GrowsByBeginning (S.taken sink.old) (S.taken sink.new) (fault_line fault.now) }
+    ensures calls { S.calls sink.new + turns.new ≡ S.calls sink.old + turns.old }
+    ensures failures { S.failures sink.old ≤ S.failures sink.new }
+    ensures device { result ≡ Err WriteFailed → S.failures sink.old < S.failures sink.new }
+    ensures turns { IfErr result (λ of. of ≢ WriteFailed → turns.new ≡ 0) }
+{
+    write_all(sink, b"wampd: ", turns)?;
+    write_all(sink, name(fault).as_bytes(), turns)?;
+    write_number(fault, sink, turns)?;
+    send(sink, b"\n", turns)
+}
+
+/// Writes the line of a fault, and gives the exit status: 2 for a command line or a line of input
+/// that isn't accepted, 1 for the others. A sink that fails is passed over; a beginning of the line
+/// is written then. It takes no memory.
+pub fn report<S: Sink>(fault: &Fault, sink: &mut S) -> u8
+    ensures status { result ≡ status_of fault.now }
+    ensures line { S.failures sink.new ≡ S.failures sink.old → (S.taken sink.new ≡ S.taken sink.old ++ fault_line fault.now) ⊎ AreUsedUp (S.calls sink.old) (S.calls sink.new) }
+    ensures begun { GrowsByBeginning (S.taken sink.old) (S.taken sink.new) (fault_line fault.now) }
+    ensures writes { AreWithinTurns (S.calls sink.old) (S.calls sink.new) }
+{
+    let mut turns = Turns::new();
+    let _ = write_fault(fault, sink, &mut turns);
+    match fault {
+        Fault::Usage => 2,
+        Fault::BadLine(_) => 2,
+        Fault::NoMemory => 1,
+        Fault::ReadFault => 1,
+        Fault::WriteFault => 1,
+        Fault::TooManyTurns => 1,
+        Fault::ListenFault => 1,
+    }
+}

@@ -1,0 +1,153 @@
+ghost use Rattle.std.specs.Prelude.{◌≡◌, ◌≢◌, ◌++◌, ◌+◌, ◌<◌, ◌≤◌, ◌⊎◌, ℕ, [], length, take, true, IfErr, IfOk, OnErr, OnOk};
+ghost use Rattle.broker_server.specs.Grants.{bytes_of};
+ghost use Rattle.broker_server.specs.Outcome.{BeginsReplay, IsReplayed, StopsAt, IsFresh, FromRealm, HasCause};
+ghost use Rattle.session.specs.Opened.{AreUsedUp, AreWithinTurns};
+
+use crate::fault::Fault;
+use crate::transcript::replay_input::ReplayInput;
+use rawsocket::devices::{PIECE, Sink, Source, Turns, read_turn};
+use std::alloc::Global;
+use threaded_server::Config;
+
+/// Reads the next octets of the input; none at its end.
+fn read_piece<I: Source>(
+    source: &mut I,
+    buffer: &mut [u8],
+    turns: &mut Turns,
+) -> Result<usize, Fault>
+    requires { 0 < length buffer.old }
+    ensures within { IfOk result (λ n. n ≤ length buffer.new) }
+    ensures given { IfOk result (λ n. I.given source.new ≡ I.given source.old ++ take n buffer.new) }
+    ensures end { IfOk result (λ n. n ≡ 0 → I.is_ended source.new ≡ true) }
+    ensures kept { OnErr result (I.given source.new ≡ I.given source.old) }
+    ensures turn { OnOk result (turns.old ≡ turns.new + 1) }
+    ensures calls { I.calls source.new + turns.new ≡ I.calls source.old + turns.old }
+    ensures failures { I.failures source.old ≤ I.failures source.new }
+    ensures fine { OnOk result (I.failures source.new ≡ I.failures source.old) }
+    ensures reads_told { IfErr result (λ fault. fault ≢ Fault.ReadFault → I.failures source.new ≡ I.failures source.old) }
+    ensures cause { IfErr result (HasCause (I.failures source.old < I.failures source.new) ⊥ (turns.new ≡ 0)) }
+    ensures fault { (k : ℕ) → result ≢ Err (Fault.BadLine k) }
+{
+    match read_turn(source, buffer, turns) {
+        Ok(count) => Ok(count),
+        Err(rawsocket::Fault::ReadFault) => Err(Fault::ReadFault),
+        Err(_) => Err(Fault::TooManyTurns),
+    }
+}
+
+/// Reads the input to its end, in pieces of the buffer, and writes what each piece gives.
+fn replay_all<I: Source, O: Sink>(
+    alloc: Global,
+    source: &mut I,
+    sink: &mut O,
+    told: &mut ReplayInput,
+    writing: &mut Turns,
+    buffer: &mut [u8],
+) -> Result<(), Fault>
+    requires fresh { IsFresh told.old }
+    requires wide { length buffer.old ≡ 65536 }
+    ensures ended { OnOk result (I.is_ended source.new ≡ true) }
+    ensures told { OnOk result (IsReplayed told.old.replay (I.given source.old) (I.given source.new) (O.taken sink.old) (O.taken sink.new) told.new.out) }
+    ensures bad { (k : ℕ) → result ≡ Err (Fault.BadLine k) → StopsAt told.old.replay (I.given source.old) (I.given source.new) (I.is_ended source.new) (O.taken sink.old) (O.taken sink.new) told.new.out k }
+    ensures begun { OnErr result (BeginsReplay told.old.replay (I.given source.old) (I.given source.new) (I.is_ended source.new) (O.taken sink.old) (O.taken sink.new)) }
+    ensures calls { O.calls sink.new + writing.new ≡ O.calls sink.old + writing.old }
+    ensures failures { O.failures sink.old ≤ O.failures sink.new }
+    ensures fine { OnOk result ((I.failures source.new ≡ I.failures source.old) × (O.failures sink.new ≡ O.failures sink.old)) }
+    ensures reads_told { IfErr result (λ fault. fault ≢ Fault.ReadFault → I.failures source.new ≡ I.failures source.old) }
+    ensures writes_told { IfErr result (λ fault. fault ≢ Fault.WriteFault → O.failures sink.new ≡ O.failures sink.old) }
+    ensures reads { AreWithinTurns (I.calls source.old) (I.calls source.new) }
+    ensures cause { IfErr result (HasCause (I.failures source.old < I.failures source.new) (O.failures sink.old < O.failures sink.new) ((AreUsedUp (I.calls source.old) (I.calls source.new)) ⊎ (writing.new ≡ 0))) }
+{
+    let mut reading = Turns::new();
+    'pieces: loop {
+        let count = match read_piece(source, buffer, &mut reading) {
+            Ok(count) => count,
+            Err(fault) => return Err(fault),
+        };
+        if count == 0 {
+            if let Err(fault) = told.finish(alloc) {
+                return Err(fault);
+            }
+            return Ok(());
+        }
+        if let Err(fault) = told.feed(alloc, &buffer[..count]) {
+            return Err(fault);
+        }
+        if let Err(fault) = told.write_rest(sink, writing) {
+            return Err(fault);
+        }
+    }
+}
+
+/// Tells the input to its end, or to its first bad line, and writes all that it gives. It is apart from `replay`, which owns what is
+/// lent here: what is owned at each way out is what a check costs.
+fn replay_to_end<I: Source, O: Sink>(
+    alloc: Global,
+    source: &mut I,
+    sink: &mut O,
+    told: &mut ReplayInput,
+    buffer: &mut [u8],
+) -> Result<(), Fault>
+    requires fresh { IsFresh told.old }
+    requires wide { length buffer.old ≡ 65536 }
+    ensures ended { OnOk result (I.is_ended source.new ≡ true) }
+    ensures told { OnOk result (IsReplayed told.old.replay (I.given source.old) (I.given source.new) (O.taken sink.old) (O.taken sink.new) []) }
+    ensures bad { (k : ℕ) → result ≡ Err (Fault.BadLine k) → StopsAt told.old.replay (I.given source.old) (I.given source.new) (I.is_ended source.new) (O.taken sink.old) (O.taken sink.new) [] k }
+    ensures begun { OnErr result (BeginsReplay told.old.replay (I.given source.old) (I.given source.new) (I.is_ended source.new) (O.taken sink.old) (O.taken sink.new)) }
+    ensures fine { OnOk result ((I.failures source.new ≡ I.failures source.old) × (O.failures sink.new ≡ O.failures sink.old)) }
+    ensures reads_told { IfErr result (λ fault. fault ≢ Fault.ReadFault → I.failures source.new ≡ I.failures source.old) }
+    ensures writes_told { IfErr result (λ fault. fault ≢ Fault.WriteFault → O.failures sink.new ≡ O.failures sink.old) }
+    ensures reads { AreWithinTurns (I.calls source.old) (I.calls source.new) }
+    ensures writes { AreWithinTurns (O.calls sink.old) (O.calls sink.new) }
+    ensures cause { IfErr result (HasCause (I.failures source.old < I.failures source.new) (O.failures sink.old < O.failures sink.new) ((AreUsedUp (I.calls source.old) (I.calls source.new)) ⊎ (AreUsedUp (O.calls sink.old) (O.calls sink.new)))) }
+{
+    let mut writing = Turns::new();
+    match replay_all(alloc, source, sink, told, &mut writing, buffer) {
+        Ok(()) => {
+            if let Err(fault) = told.write_rest(sink, &mut writing) {
+                return Err(fault);
+            }
+            Ok(())
+        }
+        Err(Fault::BadLine(line)) => {
+            if let Err(fault) = told.write_rest(sink, &mut writing) {
+                return Err(fault);
+            }
+            Err(Fault::BadLine(line))
+        }
+        Err(fault) => Err(fault),
+    }
+}
+
+/// Runs the first realm on the lines of the source, and writes their transcript.
+///
+/// # Errors
+/// `BadLine` with the number of the first bad line; the transcript of the lines before it is
+/// written then. `ReadFault`, `WriteFault`, `TooManyTurns` of the devices, and `NoMemory`; a
+/// beginning of the transcript of the whole lines that were read is written then.
+pub fn replay<I: Source, O: Sink>(
+    alloc: Global,
+    source: &mut I,
+    sink: &mut O,
+    config: &Config,
+) -> Result<(), Fault>
+    requires { 0 < length config.now.realms.items }
+    ensures ended { OnOk result (I.is_ended source.new ≡ true) }
+    ensures told { OnOk result (FromRealm config.now.realms.items (bytes_of config.now.grants.items) (λ start. IsReplayed start (I.given source.old) (I.given source.new) (O.taken sink.old) (O.taken sink.new) [])) }
+    ensures bad { (k : ℕ) → result ≡ Err (Fault.BadLine k) → FromRealm config.now.realms.items (bytes_of config.now.grants.items) (λ start. StopsAt start (I.given source.old) (I.given source.new) (I.is_ended source.new) (O.taken sink.old) (O.taken sink.new) [] k) }
+    ensures begun { OnErr result (FromRealm config.now.realms.items (bytes_of config.now.grants.items) (λ start. BeginsReplay start (I.given source.old) (I.given source.new) (I.is_ended source.new) (O.taken sink.old) (O.taken sink.new))) }
+    ensures fine { OnOk result ((I.failures source.new ≡ I.failures source.old) × (O.failures sink.new ≡ O.failures sink.old)) }
+    ensures reads_told { IfErr result (λ fault. fault ≢ Fault.ReadFault → I.failures source.new ≡ I.failures source.old) }
+    ensures writes_told { IfErr result (λ fault. fault ≢ Fault.WriteFault → O.failures sink.new ≡ O.failures sink.old) }
+    ensures reads { AreWithinTurns (I.calls source.old) (I.calls source.new) }
+    ensures writes { AreWithinTurns (O.calls sink.old) (O.calls sink.new) }
+    ensures cause { IfErr result (HasCause (I.failures source.old < I.failures source.new) (O.failures sink.old < O.failures sink.new) ((AreUsedUp (I.calls source.old) (I.calls source.new)) ⊎ (AreUsedUp (O.calls sink.old) (O.calls sink.new)))) }
+{
+    let Ok(mut told) = ReplayInput::new(alloc, &config.realms[0], &config.grants) else {
+        return Err(Fault::NoMemory);
+    };
+    let Ok(mut buffer) = vec![in alloc; 0; PIECE] else {
+        return Err(Fault::NoMemory);
+    };
+    replay_to_end(alloc, source, sink, &mut told, &mut buffer)
+}

@@ -1,0 +1,258 @@
+-- A stream that is read piece by piece and posted.
+use Rattle.std.proofs.Common.{◌≡◌, ◌≢◌, ℕ, List, [], ◌∷◌, ◌++◌, None, Ok, Err, inl, inr, refl, sym, ap, ◌∙◌, subst, append_assoc, append-nil, ◌≤◌, ◌<◌, arith}
+use Rattle.rawsocket.specs.Frames.{Content, Reads, fault_of}
+use Rattle.rawsocket.specs.declared.handshake.Serializer.{Serializer}
+use Rattle.rawsocket.proofs.DeframerLemmas.{pieces_join}
+use Rattle.connection.specs.Posts.{Course, GoesOn, Leaves, Breaks, Posts}
+use Rattle.connection.specs.Reader.{PostsAll, PostsSome, IsReadAll, IsReadPartly, ThenGone, IsReadUpTo, IsReadBy, ReadsSince, IsAdvance, GoesWith, Departs, IsStreamEnd}
+use Rattle.realm_inbox.specs.declared.act.Act.{Act}
+use Rattle.realm_inbox.specs.declared.act.Act.TheVariants.{Gone}
+use Rattle.connection.specs.declared.reader.ReadEnd.{ReadEnd}
+use Rattle.connection.specs.declared.reader.ReadEnd.TheVariants.{Left, Violation, Ended, Device, TooManyTurns, NoMemory, ActorGone}
+use Rattle.connection.proofs.FramesPosted.{Posts-join, Posts-open}
+
+-- the frames of both
+both : (before octets piece held new : List ℕ) (frames more : List Content) → Reads (before ++ octets) frames held → Reads (held ++ piece) more new → Reads (before ++ (octets ++ piece)) (frames ++ more) new
+both before octets piece held new frames more a b = subst (λ o. Reads o (frames ++ more) new) (append_assoc before octets piece) (pieces_join (before ++ octets) piece held new frames more a b)
+
+module _ {S : Type 0} (s : Serializer) (early : List Content) (held₀ : List ℕ) where
+  -- what was read so far is posted, and this is held
+  pub record Onward (given_before given : List ℕ) (before now : List (Act S)) (held : List ℕ) : Type 0 where
+    pub octets : List ℕ
+    pub frames : List Content
+    pub acts : List (Act S)
+    pub read : given ≡ given_before ++ octets
+    pub posted : now ≡ before ++ acts
+    pub reads : Reads (held₀ ++ octets) frames held
+    pub posts : Posts s (fault_of held) (early ++ frames) acts GoesOn
+
+  pub Onward-start : (given : List ℕ) (before now : List (Act S)) (new : List ℕ) → IsAdvance s early held₀ [] new before now (Ok tt) → Onward given given before now new
+  Onward-start given before now new (inr none) = absurd (let never : Ok tt ≡ Err NoMemory = none.0 in cc)
+  Onward-start given before now new (inl w) = record {
+    octets = [];
+    frames = w.frames;
+    acts = w.posted.acts;
+    read = sym (append-nil given);
+    posted = w.posted.posted;
+    reads = w.reads;
+    posts = w.posted.posts;
+  }
+
+  posts_both : (held new : List ℕ) (frames more : List Content) (acts others : List (Act S)) (course : Course) → Posts s (fault_of held) (early ++ frames) acts GoesOn → Posts s (fault_of new) more others course
+      → Posts s (fault_of new) (early ++ (frames ++ more)) (acts ++ others) course
+  posts_both held new frames more acts others course a b = subst (λ fs. Posts s (fault_of new) fs (acts ++ others) course) (append_assoc early frames more) (Posts-join s (fault_of held) (fault_of new) (early ++ frames) more acts others course a b)
+
+  pub Onward-more : (given_before given after piece : List ℕ) (before now later : List (Act S)) (held new : List ℕ) → Onward given_before given before now held → after ≡ given ++ piece → IsAdvance s [] held piece new now later (Ok tt)
+      → Onward given_before after before later new
+  Onward-more given_before given after piece before now later held new o more (inr none) = absurd (let never : Ok tt ≡ Err NoMemory = none.0 in cc)
+  Onward-more given_before given after piece before now later held new o more (inl w) = record {
+    octets = o.octets ++ piece;
+    frames = o.frames ++ w.frames;
+    acts = o.acts ++ w.posted.acts;
+    read = more ∙ ap (λ g. g ++ piece) o.read ∙ append_assoc given_before o.octets piece;
+    posted = w.posted.posted ∙ ap (λ p. p ++ w.posted.acts) o.posted ∙ append_assoc before o.acts w.posted.acts;
+    reads = both held₀ o.octets piece held new o.frames w.frames o.reads w.reads;
+    posts = posts_both held new o.frames w.frames o.acts w.posted.acts GoesOn o.posts w.posted.posts;
+  }
+
+  all_then : (course : Course) (given_before given after piece : List ℕ) (before now later : List (Act S)) (held new : List ℕ) (more : List Content) → Onward given_before given before now held → after ≡ given ++ piece
+      → Reads (held ++ piece) more new → PostsAll s (fault_of new) more course now later → ReadsSince given_before after before later (IsReadAll s early held₀ course)
+  all_then course given_before given after piece before now later held new more o grows reads w = record {
+    octets = o.octets ++ piece;
+    acts = o.acts ++ w.acts;
+    read = grows ∙ ap (λ g. g ++ piece) o.read ∙ append_assoc given_before o.octets piece;
+    posted = w.posted ∙ ap (λ p. p ++ w.acts) o.posted ∙ append_assoc before o.acts w.acts;
+    holds = record { frames = o.frames ++ more; new = new; reads = both held₀ o.octets piece held new o.frames more o.reads reads; posts = posts_both held new o.frames more o.acts w.acts course o.posts w.posts };
+  }
+
+  some_then : (given_before given after piece : List ℕ) (before now later : List (Act S)) (held new : List ℕ) (more : List Content) → Onward given_before given before now held → after ≡ given ++ piece
+      → Reads (held ++ piece) more new → PostsSome s more now later → ReadsSince given_before after before later (IsReadPartly s early held₀)
+  some_then given_before given after piece before now later held new more o grows reads w = record {
+    octets = o.octets ++ piece;
+    acts = o.acts ++ w.acts;
+    read = grows ∙ ap (λ g. g ++ piece) o.read ∙ append_assoc given_before o.octets piece;
+    posted = w.posted ∙ ap (λ p. p ++ w.acts) o.posted ∙ append_assoc before o.acts w.acts;
+    holds = inr (record {
+      front = o.octets ++ piece;
+      back = [];
+      octets_are = sym (append-nil (o.octets ++ piece));
+      frames = o.frames ++ more;
+      new = new;
+      reads = both held₀ o.octets piece held new o.frames more o.reads reads;
+      done = (early ++ o.frames) ++ w.done;
+      left = w.left;
+      frames_are = sym (append_assoc early o.frames more) ∙ ap (λ fs. (early ++ o.frames) ++ fs) w.frames_are ∙ sym (append_assoc (early ++ o.frames) w.done w.left);
+      posts = Posts-join s (fault_of held) None (early ++ o.frames) w.done o.acts w.acts GoesOn o.posts w.posts;
+    });
+  }
+
+  -- nothing more is posted, of a piece that is read
+  none_then : (given_before given after piece : List ℕ) (before now later : List (Act S)) (held : List ℕ) → Onward given_before given before now held → after ≡ given ++ piece → later ≡ now → ReadsSince given_before after before later (IsReadPartly s early held₀)
+  none_then given_before given after piece before now later held o grows same = record {
+    octets = o.octets ++ piece;
+    acts = o.acts;
+    read = grows ∙ ap (λ g. g ++ piece) o.read ∙ append_assoc given_before o.octets piece;
+    posted = same ∙ o.posted;
+    holds = inr (record {
+      front = o.octets;
+      back = piece;
+      octets_are = refl;
+      frames = o.frames;
+      new = held;
+      reads = o.reads;
+      done = early ++ o.frames;
+      left = [];
+      frames_are = sym (append-nil (early ++ o.frames));
+      posts = Posts-open s (fault_of held) (early ++ o.frames) o.acts o.posts;
+    });
+  }
+
+  pub Onward-ends : (end : ReadEnd) (given_before given after piece : List ℕ) (before now later : List (Act S)) (held new : List ℕ) → Onward given_before given before now held → after ≡ given ++ piece → IsAdvance s [] held piece new now later (Err end)
+      → ReadsSince given_before after before later (IsReadUpTo s early held₀ end)
+  Onward-ends Left given_before given after piece before now later held new o grows (inl w) = all_then Leaves given_before given after piece before now later held new w.frames o grows w.reads w.posted
+  Onward-ends (Violation f) given_before given after piece before now later held new o grows (inl w) = all_then (Breaks f) given_before given after piece before now later held new w.frames o grows w.reads w.posted
+  Onward-ends NoMemory given_before given after piece before now later held new o grows (inl w) = some_then given_before given after piece before now later held new w.frames o grows w.reads w.posted
+  Onward-ends ActorGone given_before given after piece before now later held new o grows (inl w) = some_then given_before given after piece before now later held new w.frames o grows w.reads w.posted
+  Onward-ends Ended given_before given after piece before now later held new o grows (inl w) = absurd w.posted
+  Onward-ends Device given_before given after piece before now later held new o grows (inl w) = absurd w.posted
+  Onward-ends TooManyTurns given_before given after piece before now later held new o grows (inl w) = absurd w.posted
+  Onward-ends NoMemory given_before given after piece before now later held new o grows (inr none) = none_then given_before given after piece before now later held o grows none.1
+  Onward-ends Left given_before given after piece before now later held new o grows (inr none) = absurd (let never : Err Left ≡ Err NoMemory = none.0 in cc)
+  Onward-ends (Violation f) given_before given after piece before now later held new o grows (inr none) = absurd (let never : Err (Violation f) ≡ Err NoMemory = none.0 in cc)
+  Onward-ends ActorGone given_before given after piece before now later held new o grows (inr none) = absurd (let never : Err ActorGone ≡ Err NoMemory = none.0 in cc)
+  Onward-ends Ended given_before given after piece before now later held new o grows (inr none) = absurd (let never : Err Ended ≡ Err NoMemory = none.0 in cc)
+  Onward-ends Device given_before given after piece before now later held new o grows (inr none) = absurd (let never : Err Device ≡ Err NoMemory = none.0 in cc)
+  Onward-ends TooManyTurns given_before given after piece before now later held new o grows (inr none) = absurd (let never : Err TooManyTurns ≡ Err NoMemory = none.0 in cc)
+
+  -- the stream ends
+  so_far : (given_before given after : List ℕ) (before now : List (Act S)) (held : List ℕ) → Onward given_before given before now held → after ≡ given → ReadsSince given_before after before now (IsReadAll s early held₀ GoesOn)
+  so_far given_before given after before now held o same = record {
+    octets = o.octets;
+    acts = o.acts;
+    read = same ∙ o.read;
+    posted = o.posted;
+    holds = record { frames = o.frames; new = held; reads = o.reads; posts = o.posts };
+  }
+
+  pub Onward-stops : (end : ReadEnd) (given_before given after : List ℕ) (before now : List (Act S)) (held : List ℕ) → IsStreamEnd end → Onward given_before given before now held → after ≡ given
+      → ReadsSince given_before after before now (IsReadUpTo s early held₀ end)
+  Onward-stops Ended given_before given after before now held is o same = so_far given_before given after before now held o same
+  Onward-stops Device given_before given after before now held is o same = so_far given_before given after before now held o same
+  Onward-stops TooManyTurns given_before given after before now held is o same = so_far given_before given after before now held o same
+  Onward-stops Left given_before given after before now held is o same = absurd is
+  Onward-stops (Violation f) given_before given after before now held is o same = absurd is
+  Onward-stops NoMemory given_before given after before now held is o same = absurd is
+  Onward-stops ActorGone given_before given after before now held is o same = absurd is
+
+  early_all : (course : Course) (given new : List ℕ) (before now : List (Act S)) (frames : List Content) → Reads (held₀ ++ []) frames new → PostsAll s (fault_of new) (early ++ frames) course before now → ReadsSince given given before now (IsReadAll s early held₀ course)
+  early_all course given new before now frames reads w = record { octets = []; acts = w.acts; read = sym (append-nil given); posted = w.posted; holds = record { frames = frames; new = new; reads = reads; posts = w.posts } }
+
+  early_some : (given new : List ℕ) (before now : List (Act S)) (frames : List Content) → Reads (held₀ ++ []) frames new → PostsSome s (early ++ frames) before now → ReadsSince given given before now (IsReadPartly s early held₀)
+  early_some given new before now frames reads w = record {
+    octets = [];
+    acts = w.acts;
+    read = sym (append-nil given);
+    posted = w.posted;
+    holds = inr (record { front = []; back = []; octets_are = refl; frames = frames; new = new; reads = reads; done = w.done; left = w.left; frames_are = w.frames_are; posts = w.posts });
+  }
+
+  pub nothing_posted : (given : List ℕ) (before now : List (Act S)) → now ≡ before → ReadsSince given given before now (IsReadPartly s early held₀)
+  nothing_posted given before now same = record { octets = []; acts = []; read = sym (append-nil given); posted = same ∙ sym (append-nil before); holds = inl refl }
+
+  pub early_ends : (end : ReadEnd) (given new : List ℕ) (before now : List (Act S)) → IsAdvance s early held₀ [] new before now (Err end) → ReadsSince given given before now (IsReadUpTo s early held₀ end)
+  early_ends Left given new before now (inl w) = early_all Leaves given new before now w.frames w.reads w.posted
+  early_ends (Violation f) given new before now (inl w) = early_all (Breaks f) given new before now w.frames w.reads w.posted
+  early_ends NoMemory given new before now (inl w) = early_some given new before now w.frames w.reads w.posted
+  early_ends ActorGone given new before now (inl w) = early_some given new before now w.frames w.reads w.posted
+  early_ends Ended given new before now (inl w) = absurd w.posted
+  early_ends Device given new before now (inl w) = absurd w.posted
+  early_ends TooManyTurns given new before now (inl w) = absurd w.posted
+  early_ends NoMemory given new before now (inr none) = nothing_posted given before now none.1
+  early_ends Left given new before now (inr none) = absurd (let never : Err Left ≡ Err NoMemory = none.0 in cc)
+  early_ends (Violation f) given new before now (inr none) = absurd (let never : Err (Violation f) ≡ Err NoMemory = none.0 in cc)
+  early_ends ActorGone given new before now (inr none) = absurd (let never : Err ActorGone ≡ Err NoMemory = none.0 in cc)
+  early_ends Ended given new before now (inr none) = absurd (let never : Err Ended ≡ Err NoMemory = none.0 in cc)
+  early_ends Device given new before now (inr none) = absurd (let never : Err Device ≡ Err NoMemory = none.0 in cc)
+  early_ends TooManyTurns given new before now (inr none) = absurd (let never : Err TooManyTurns ≡ Err NoMemory = none.0 in cc)
+
+  -- with the act that says that the client is gone
+  gone : (P : List ℕ → List (Act S) → Type 0) (given_before given : List ℕ) (before now later : List (Act S)) → later ≡ now ++ Gone ∷ [] → ReadsSince given_before given before now P
+      → ReadsSince given_before given before later (λ octets acts. ThenGone (P octets) acts)
+  gone P given_before given before now later more w = record {
+    octets = w.octets;
+    acts = w.acts ++ Gone ∷ [];
+    read = w.read;
+    posted = more ∙ ap (λ p. p ++ Gone ∷ []) w.posted ∙ append_assoc before w.acts (Gone ∷ []);
+    holds = record { front = w.acts; acts_are = refl; before = w.holds };
+  }
+
+  moved : (P Q : List ℕ → List (Act S) → Type 0) (given_before given : List ℕ) (before now later : List (Act S)) → ((octets : List ℕ) (acts : List (Act S)) → P octets acts → Q octets acts) → later ≡ now → ReadsSince given_before given before now P → ReadsSince given_before given before later Q
+  moved P Q given_before given before now later to same w = record { octets = w.octets; acts = w.acts; read = w.read; posted = same ∙ w.posted; holds = to w.octets w.acts w.holds }
+
+  all_is_part : (octets : List ℕ) (acts : List (Act S)) → IsReadAll s early held₀ GoesOn octets acts → IsReadPartly s early held₀ octets acts
+  all_is_part octets acts w = inr (record {
+    front = octets;
+    back = [];
+    octets_are = sym (append-nil octets);
+    frames = w.frames;
+    new = w.new;
+    reads = w.reads;
+    done = early ++ w.frames;
+    left = [];
+    frames_are = sym (append-nil (early ++ w.frames));
+    posts = Posts-open s (fault_of w.new) (early ++ w.frames) acts w.posts;
+  })
+
+  stream_goes : (end result : ReadEnd) (given_before given : List ℕ) (before now later : List (Act S)) → ((octets : List ℕ) (acts : List (Act S)) → ThenGone (IsReadAll s early held₀ GoesOn octets) acts → IsReadBy s early held₀ end octets acts)
+      → ReadsSince given_before given before now (IsReadAll s early held₀ GoesOn) → GoesWith end now later result → ReadsSince given_before given before later (IsReadBy s early held₀ result)
+  stream_goes end result given_before given before now later to w (inl p) =
+      let so : ReadsSince given_before given before later (λ octets acts. ThenGone (IsReadAll s early held₀ GoesOn octets) acts) = gone (IsReadAll s early held₀ GoesOn) given_before given before now later p.1 w in
+      subst (λ r. ReadsSince given_before given before later (IsReadBy s early held₀ r)) (sym p.0)
+      (record { octets = so.octets; acts = so.acts; read = so.read; posted = so.posted; holds = to so.octets so.acts so.holds })
+  stream_goes end result given_before given before now later to w (inr p) =
+      subst (λ r. ReadsSince given_before given before later (IsReadBy s early held₀ r)) (sym p.0)
+      (moved (IsReadAll s early held₀ GoesOn) (IsReadPartly s early held₀) given_before given before now later all_is_part p.1 w)
+
+  stays : (end result : ReadEnd) (P : List ℕ → List (Act S) → Type 0) (given_before given : List ℕ) (before now later : List (Act S)) → result ≡ end → later ≡ now → ReadsSince given_before given before now (IsReadBy s early held₀ end)
+      → ReadsSince given_before given before later (IsReadBy s early held₀ result)
+  stays end result P given_before given before now later is same w =
+      subst (λ r. ReadsSince given_before given before later (IsReadBy s early held₀ r)) (sym is) (moved (IsReadBy s early held₀ end) (IsReadBy s early held₀ end) given_before given before now later (λ octets acts h. h) same w)
+
+  pub departs_ends : (end result : ReadEnd) (given_before given : List ℕ) (before now later : List (Act S)) → ReadsSince given_before given before now (IsReadUpTo s early held₀ end) → Departs end now later result
+      → ReadsSince given_before given before later (IsReadBy s early held₀ result)
+  departs_ends Left result given_before given before now later w d = stays Left result (IsReadAll s early held₀ Leaves) given_before given before now later d.0 d.1 w
+  departs_ends (Violation f) result given_before given before now later w d = stays (Violation f) result (IsReadAll s early held₀ (Breaks f)) given_before given before now later d.0 d.1 w
+  departs_ends ActorGone result given_before given before now later w d = stays ActorGone result (IsReadPartly s early held₀) given_before given before now later d.0 d.1 w
+  departs_ends Ended result given_before given before now later w d = stream_goes Ended result given_before given before now later (λ octets acts h. h) w d
+  departs_ends Device result given_before given before now later w d = stream_goes Device result given_before given before now later (λ octets acts h. h) w d
+  departs_ends TooManyTurns result given_before given before now later w d = stream_goes TooManyTurns result given_before given before now later (λ octets acts h. h) w d
+  departs_ends NoMemory result given_before given before now later w (inl p) =
+      subst (λ r. ReadsSince given_before given before later (IsReadBy s early held₀ r)) (sym p.0) (gone (IsReadPartly s early held₀) given_before given before now later p.1 w)
+  departs_ends NoMemory result given_before given before now later w (inr p) =
+      subst (λ r. ReadsSince given_before given before later (IsReadBy s early held₀ r)) (sym p.0) (moved (IsReadPartly s early held₀) (IsReadPartly s early held₀) given_before given before now later (λ octets acts h. h) p.1 w)
+
+-- a reader's end is what it was, unless the actor is gone
+pub departs_same : {S : Type 0} (end result : ReadEnd) (now later : List (Act S)) → Departs end now later result → result ≢ ActorGone → result ≡ end
+departs_same Left result now later d here = d.0
+departs_same (Violation f) result now later d here = d.0
+departs_same ActorGone result now later d here = d.0
+departs_same Ended result now later (inl p) here = p.0
+departs_same Ended result now later (inr p) here = absurd (here p.0)
+departs_same Device result now later (inl p) here = p.0
+departs_same Device result now later (inr p) here = absurd (here p.0)
+departs_same TooManyTurns result now later (inl p) here = p.0
+departs_same TooManyTurns result now later (inr p) here = absurd (here p.0)
+departs_same NoMemory result now later (inl p) here = p.0
+departs_same NoMemory result now later (inr p) here = absurd (here p.0)
+
+pub departs_as : {S : Type 0} (end result wanted : ReadEnd) (now later : List (Act S)) → Departs end now later result → wanted ≢ ActorGone → result ≡ wanted → end ≡ wanted
+departs_as end result wanted now later d other is = sym (departs_same end result now later d (λ gone. other (sym is ∙ gone))) ∙ is
+
+pub failures_grow : (end : ReadEnd) (before after : ℕ) → (end ≡ Device → before < after) → (end ≢ Device → after ≡ before) → before ≤ after
+failures_grow Left before after rose same = let e : after ≡ before = same (λ (d : Left ≡ Device). cc) in omega arith
+failures_grow (Violation f) before after rose same = let e : after ≡ before = same (λ (d : Violation f ≡ Device). cc) in omega arith
+failures_grow Ended before after rose same = let e : after ≡ before = same (λ (d : Ended ≡ Device). cc) in omega arith
+failures_grow Device before after rose same = let e : before < after = rose refl in omega arith
+failures_grow TooManyTurns before after rose same = let e : after ≡ before = same (λ (d : TooManyTurns ≡ Device). cc) in omega arith
+failures_grow NoMemory before after rose same = let e : after ≡ before = same (λ (d : NoMemory ≡ Device). cc) in omega arith
+failures_grow ActorGone before after rose same = let e : after ≡ before = same (λ (d : ActorGone ≡ Device). cc) in omega arith

@@ -1,0 +1,11 @@
+use Rattle.std.proofs.Common.{◌≡◌, ◌+◌}
+use Rattle.connection.specs.Writer.{IsWhole, WritesSince, IsLater}
+use Rattle.connection.proofs.writer.write_items.Given as goal
+
+abbrev pub invariant-items : goal.invariant-items
+invariant-items g l = record {
+  done : WritesSince l.fn.drain.taken l.drain.taken (g.S.Sink.taken l.fn.sink) (g.S.Sink.taken l.sink) (IsWhole l.serializer l.limit);
+  later : IsLater g.H.Owed.begins l.fn.drain l.drain;
+  calls : g.S.Sink.calls l.sink + l.turns ≡ g.S.Sink.calls l.fn.sink + 4294967296;
+  failures : g.S.Sink.failures l.sink ≡ g.S.Sink.failures l.fn.sink;
+}

@@ -1,0 +1,122 @@
+-- What a reader has posted of the octets that it read, when it ends.
+use Rattle.std.specs.Prelude.{◌≡◌, ◌⊎◌, ℕ, List, [], ◌∷◌, ◌++◌, None, Result, Ok, Err}
+use Rattle.std.specs.declared.option.Option.{Option}
+use Rattle.rawsocket.specs.Frames.{Content, Reads, fault_of}
+use Rattle.rawsocket.specs.declared.fault.Fault as stream
+use Rattle.rawsocket.specs.declared.handshake.Serializer.{Serializer}
+use Rattle.realm_inbox.specs.declared.act.Act.{Act}
+use Rattle.realm_inbox.specs.declared.act.Act.TheVariants.{Gone}
+use Rattle.connection.specs.Posts.{Course, GoesOn, Leaves, Breaks, Posts}
+use Rattle.connection.specs.declared.reader.ReadEnd.{ReadEnd}
+use Rattle.connection.specs.declared.reader.ReadEnd.TheVariants.{Left, Violation, Ended, Device, TooManyTurns, NoMemory, ActorGone}
+
+module _ {S : Type 0} where
+  -- the posts of the early frames, and of those that the octets give behind what the deframer held
+  pub record IsReadAll (s : Serializer) (early : List Content) (held : List ℕ) (course : Course) (octets : List ℕ) (acts : List (Act S)) : Type 0 where
+    pub frames : List Content
+    pub new : List ℕ
+    pub reads : Reads (held ++ octets) frames new
+    pub posts : Posts s (fault_of new) (early ++ frames) acts course
+
+  -- the posts of the first frames that the first of the octets give
+  pub record IsPart (s : Serializer) (early : List Content) (held : List ℕ) (octets : List ℕ) (acts : List (Act S)) : Type 0 where
+    pub front : List ℕ
+    pub back : List ℕ
+    pub octets_are : octets ≡ front ++ back
+    pub frames : List Content
+    pub new : List ℕ
+    pub reads : Reads (held ++ front) frames new
+    pub done : List Content
+    pub left : List Content
+    pub frames_are : early ++ frames ≡ done ++ left
+    pub posts : Posts s None done acts GoesOn
+
+  -- none, or these
+  abbrev pub IsReadPartly : Serializer → List Content → List ℕ → List ℕ → List (Act S) → Type 0
+  IsReadPartly s early held octets acts = (acts ≡ []) ⊎ IsPart s early held octets acts
+
+  -- and then that the client is gone
+  pub record ThenGone (Before : List (Act S) → Type 0) (acts : List (Act S)) : Type 0 where
+    pub front : List (Act S)
+    pub acts_are : acts ≡ front ++ Gone ∷ []
+    pub before : Before front
+
+  -- by the reader's end
+  abbrev pub IsReadBy : Serializer → List Content → List ℕ → ReadEnd → List ℕ → List (Act S) → Type 0
+  IsReadBy s early held Left octets acts = IsReadAll s early held Leaves octets acts
+  IsReadBy s early held (Violation fault) octets acts = IsReadAll s early held (Breaks fault) octets acts
+  IsReadBy s early held Ended octets acts = ThenGone (IsReadAll s early held GoesOn octets) acts
+  IsReadBy s early held Device octets acts = ThenGone (IsReadAll s early held GoesOn octets) acts
+  IsReadBy s early held TooManyTurns octets acts = ThenGone (IsReadAll s early held GoesOn octets) acts
+  IsReadBy s early held NoMemory octets acts = ThenGone (IsReadPartly s early held octets) acts
+  IsReadBy s early held ActorGone octets acts = IsReadPartly s early held octets acts
+
+  -- by the reader's end, before it posts that the client is gone
+  abbrev pub IsReadUpTo : Serializer → List Content → List ℕ → ReadEnd → List ℕ → List (Act S) → Type 0
+  IsReadUpTo s early held Left octets acts = IsReadAll s early held Leaves octets acts
+  IsReadUpTo s early held (Violation fault) octets acts = IsReadAll s early held (Breaks fault) octets acts
+  IsReadUpTo s early held Ended octets acts = IsReadAll s early held GoesOn octets acts
+  IsReadUpTo s early held Device octets acts = IsReadAll s early held GoesOn octets acts
+  IsReadUpTo s early held TooManyTurns octets acts = IsReadAll s early held GoesOn octets acts
+  IsReadUpTo s early held NoMemory octets acts = IsReadPartly s early held octets acts
+  IsReadUpTo s early held ActorGone octets acts = IsReadPartly s early held octets acts
+
+  -- these octets were read, and these acts posted, since
+  pub record ReadsSince (given_before given : List ℕ) (before now : List (Act S)) (Read : List ℕ → List (Act S) → Type 0) : Type 0 where
+    pub octets : List ℕ
+    pub acts : List (Act S)
+    pub read : given ≡ given_before ++ octets
+    pub posted : now ≡ before ++ acts
+    pub holds : Read octets acts
+
+  -- all of them were posted since
+  pub record PostsAll (s : Serializer) (fault : Option stream.Fault) (frames : List Content) (course : Course) (before now : List (Act S)) : Type 0 where
+    pub acts : List (Act S)
+    pub posted : now ≡ before ++ acts
+    pub posts : Posts s fault frames acts course
+
+  -- those of the first frames were
+  pub record PostsSome (s : Serializer) (frames : List Content) (before now : List (Act S)) : Type 0 where
+    pub done : List Content
+    pub left : List Content
+    pub frames_are : frames ≡ done ++ left
+    pub acts : List (Act S)
+    pub posted : now ≡ before ++ acts
+    pub posts : Posts s None done acts GoesOn
+
+  -- by what ends it, if anything does
+  abbrev pub IsPosted : Serializer → Option stream.Fault → List Content → List (Act S) → List (Act S) → Result Unit ReadEnd → Type 0
+  IsPosted s fault frames before now (Ok _) = PostsAll s fault frames GoesOn before now
+  IsPosted s fault frames before now (Err Left) = PostsAll s fault frames Leaves before now
+  IsPosted s fault frames before now (Err (Violation broken)) = PostsAll s fault frames (Breaks broken) before now
+  IsPosted s fault frames before now (Err NoMemory) = PostsSome s frames before now
+  IsPosted s fault frames before now (Err ActorGone) = PostsSome s frames before now
+  IsPosted s fault frames before now (Err _) = ⊥
+
+  -- a piece completes these frames, and they are posted behind the early ones
+  pub record Advances (s : Serializer) (early : List Content) (old piece new : List ℕ) (before now : List (Act S)) (result : Result Unit ReadEnd) : Type 0 where
+    pub frames : List Content
+    pub reads : Reads (old ++ piece) frames new
+    pub posted : IsPosted s (fault_of new) (early ++ frames) before now result
+
+  -- or there was no memory for it, and nothing is posted
+  abbrev pub IsAdvance : Serializer → List Content → List ℕ → List ℕ → List ℕ → List (Act S) → List (Act S) → Result Unit ReadEnd → Type 0
+  IsAdvance s early old piece new before now result = Advances s early old piece new before now result ⊎ ((result ≡ Err NoMemory) × (now ≡ before))
+
+  -- that the client is gone is posted, or comes back
+  abbrev pub GoesWith : ReadEnd → List (Act S) → List (Act S) → ReadEnd → Type 0
+  GoesWith end before now result = ((result ≡ end) × (now ≡ before ++ Gone ∷ [])) ⊎ ((result ≡ ActorGone) × (now ≡ before))
+
+  -- it is posted where nothing that the client sent ended it
+  abbrev pub Departs : ReadEnd → List (Act S) → List (Act S) → ReadEnd → Type 0
+  Departs Left before now result = (result ≡ Left) × (now ≡ before)
+  Departs (Violation fault) before now result = (result ≡ Violation fault) × (now ≡ before)
+  Departs ActorGone before now result = (result ≡ ActorGone) × (now ≡ before)
+  Departs end before now result = GoesWith end before now result
+
+-- the ends that the stream makes
+abbrev pub IsStreamEnd : ReadEnd → Type 0
+IsStreamEnd Ended = Unit {0}
+IsStreamEnd Device = Unit {0}
+IsStreamEnd TooManyTurns = Unit {0}
+IsStreamEnd _ = ⊥

@@ -1,0 +1,315 @@
+//! The reader of a connection: it reads octets, and posts what they say.
+ghost use Rattle.std.specs.Prelude.{◌≡◌, ◌≢◌, ◌≤◌, ◌<◌, ◌+◌, ◌++◌, ◌∷◌, [], None, length, take, IfOk, IfErr, OnOk, OnErr, true, false};
+ghost use Rattle.rawsocket.specs.Frames.{content, contents, fault_of};
+ghost use Rattle.rawsocket.specs.declared.handshake.Serializer.{Serializer};
+ghost use Rattle.session.specs.Opened.{AreUsedUp, AreWithinTurns};
+ghost use Rattle.realm_inbox.specs.Joins.{is_join};
+ghost use Rattle.connection.specs.Posts.{Says, SaysNothing, is_farewell};
+ghost use Rattle.connection.specs.Reader.{IsPosted, IsAdvance, IsReadUpTo, IsReadBy, IsStreamEnd, ReadsSince, Departs};
+
+use message_tree::Octets;
+use rawsocket::devices::{PIECE, Source, Turns, read_turn};
+use rawsocket::{Deframer, Frame, Kind, Serializer};
+use realm_inbox::{Act, Posting, Shut};
+use session::{Fault, Opened, Said, decode, read_said};
+use std::alloc::Global;
+use std::collections::VecDeque;
+use std::sync::Wait;
+
+/// Why a reader ended.
+#[derive(Clone, Copy, Debug, Drop, PartialEq, Eq)]
+pub enum ReadEnd {
+    /// The client said GOODBYE or ABORT, which is posted last.
+    Left,
+    /// The client broke the protocol, by this fault: `Spoilt` is posted last.
+    Violation(Fault),
+    /// The stream ended. `Gone` is posted last.
+    Ended,
+    /// The device failed. `Gone` is posted last.
+    Device,
+    /// The device was read 2^32 times. `Gone` is posted last.
+    TooManyTurns,
+    /// A growth of memory was refused. `Gone` is posted last, and what was read may not be posted whole.
+    NoMemory,
+    /// Nobody receives posts any more: one came back.
+    ActorGone,
+}
+
+// Whether a client says no more after this.
+fn is_last(said: &Said) -> bool
+    ensures { result ≡ is_farewell said.now }
+{
+    matches!(said, Said::Abort | Said::Goodbye)
+}
+
+// What a payload says.
+fn read_message(alloc: Global, serializer: Serializer, payload: &[u8]) -> Result<Said, Fault>
+    ensures ok { IfOk result (λ said. Says serializer payload.now said) }
+    ensures bad { IfErr result (λ f. f ≢ Fault.NoMemory → SaysNothing serializer payload.now f) }
+{
+    let message = match decode(alloc, serializer, payload) {
+        Ok(message) => message,
+        Err(fault) => return Err(fault),
+    };
+    read_said(alloc, message)
+}
+
+// Lets go of an act that came back.
+fn let_go<S: Shut>(_back: Act<S>) {}
+
+// Posts an act that is no Join.
+fn post<R: Wait, S: Shut, P: Posting<S>>(rt: &R, poster: &mut P, act: Act<S>) -> Result<(), ReadEnd>
+    requires { is_join act ≡ false }
+    ensures posted { OnOk result (P.posted poster.new ≡ P.posted poster.old ++ act ∷ []) }
+    ensures back { OnErr result (P.posted poster.new ≡ P.posted poster.old) }
+    ensures end { IfErr result (λ e. e ≡ ReadEnd.ActorGone) }
+{
+    match poster.post(rt, act) {
+        Ok(()) => Ok(()),
+        Err(back) => {
+            let_go(back);
+            Err(ReadEnd::ActorGone)
+        }
+    }
+}
+
+// Posts what a payload says.
+fn post_message<R: Wait, S: Shut, P: Posting<S>>(
+    rt: &R,
+    alloc: Global,
+    serializer: Serializer,
+    payload: &[u8],
+    poster: &mut P,
+) -> Result<(), ReadEnd>
+    ensures { IsPosted serializer None (record { kind = Kind.Message; payload = payload.now } ∷ []) (P.posted poster.old) (P.posted poster.new) result }
+{
+    let said = match read_message(alloc, serializer, payload) {
+        Ok(said) => said,
+        Err(Fault::NoMemory) => return Err(ReadEnd::NoMemory),
+        Err(fault) => {
+            if let Err(end) = post(rt, poster, Act::Spoilt) {
+                return Err(end);
+            }
+            return Err(ReadEnd::Violation(fault));
+        }
+    };
+    let last = is_last(&said);
+    if let Err(end) = post(rt, poster, Act::Said(said)) {
+        return Err(end);
+    }
+    if last {
+        return Err(ReadEnd::Left);
+    }
+    Ok(())
+}
+
+// Posts what a frame is.
+fn post_frame<R: Wait, S: Shut, P: Posting<S>>(
+    rt: &R,
+    alloc: Global,
+    serializer: Serializer,
+    frame: Frame,
+    poster: &mut P,
+) -> Result<(), ReadEnd>
+    ensures { IsPosted serializer None (content frame ∷ []) (P.posted poster.old) (P.posted poster.new) result }
+{
+    match frame.kind {
+        Kind::Message => post_message(rt, alloc, serializer, &frame.payload, poster),
+        Kind::Ping => post(rt, poster, Act::Ping(Octets::from_vec(frame.payload))),
+        Kind::Pong => Ok(()),
+    }
+}
+
+// Posts that what stands behind the last frame is at fault, if it is.
+fn post_fault<R: Wait, S: Shut, P: Posting<S>>(
+    rt: &R,
+    fault: Option<rawsocket::Fault>,
+    poster: &mut P,
+) -> Result<(), ReadEnd>
+    ensures { (s : Serializer) → IsPosted s fault [] (P.posted poster.old) (P.posted poster.new) result }
+{
+    let Some(fault) = fault else {
+        return Ok(());
+    };
+    match post(rt, poster, Act::Spoilt) {
+        Ok(()) => Err(ReadEnd::Violation(Fault::from(fault))),
+        Err(end) => Err(end),
+    }
+}
+
+// Posts what frames are, and that what stands behind them is at fault, if it is.
+fn post_frames<R: Wait, S: Shut, P: Posting<S>>(
+    rt: &R,
+    alloc: Global,
+    serializer: Serializer,
+    frames: Vec<Frame>,
+    fault: Option<rawsocket::Fault>,
+    poster: &mut P,
+) -> Result<(), ReadEnd>
+    ensures { IsPosted serializer fault (contents frames.items) (P.posted poster.old) (P.posted poster.new) result }
+{
+    let mut left = VecDeque::from_vec(frames);
+    'frames: while let Some(frame) = left.pop_front() {
+        if let Err(end) = post_frame(rt, alloc, serializer, frame, poster) {
+            return Err(end);
+        }
+    }
+    post_fault(rt, fault, poster)
+}
+
+// Takes the next octets of the stream, and posts the early frames and those that the octets complete.
+fn advance<R: Wait, S: Shut, P: Posting<S>>(
+    rt: &R,
+    alloc: Global,
+    serializer: Serializer,
+    early: Vec<Frame>,
+    deframer: &mut Deframer,
+    piece: &[u8],
+    poster: &mut P,
+) -> Result<(), ReadEnd>
+    ensures { IsAdvance serializer (contents early.items) deframer.old piece.now deframer.new (P.posted poster.old) (P.posted poster.new) result }
+{
+    let fed = match deframer.feed(alloc, piece) {
+        Ok(fed) => fed,
+        Err(_) => return Err(ReadEnd::NoMemory),
+    };
+    if let Err(end) = post_frames(rt, alloc, serializer, early, None, poster) {
+        return Err(end);
+    }
+    post_frames(rt, alloc, serializer, fed.frames, fed.fault, poster)
+}
+
+// Reads the next octets, at least one.
+fn read_piece<I: Source>(
+    source: &mut I,
+    buffer: &mut [u8],
+    turns: &mut Turns,
+) -> Result<usize, ReadEnd>
+    requires { 0 < length buffer.old }
+    ensures within { IfOk result (λ n. n ≤ length buffer.new) }
+    ensures given { IfOk result (λ n. I.given source.new ≡ I.given source.old ++ take n buffer.new) }
+    ensures turn { OnOk result (turns.old ≡ turns.new + 1) }
+    ensures fine { OnOk result (I.failures source.new ≡ I.failures source.old) }
+    ensures kept { OnErr result (I.given source.new ≡ I.given source.old) }
+    ensures end { IfErr result IsStreamEnd }
+    ensures ended { result ≡ Err ReadEnd.Ended → I.is_ended source.new ≡ true }
+    ensures device { result ≡ Err ReadEnd.Device → I.failures source.old < I.failures source.new }
+    ensures told { IfErr result (λ e. e ≢ ReadEnd.Device → I.failures source.new ≡ I.failures source.old) }
+    ensures calls { I.calls source.new + turns.new ≡ I.calls source.old + turns.old }
+    ensures turns { result ≡ Err ReadEnd.TooManyTurns → turns.new ≡ 0 }
+{
+    match read_turn(source, buffer, turns) {
+        Ok(0) => Err(ReadEnd::Ended),
+        Ok(count) => Ok(count),
+        Err(rawsocket::Fault::ReadFault) => Err(ReadEnd::Device),
+        Err(_) => Err(ReadEnd::TooManyTurns),
+    }
+}
+
+// Posts the early frames and those that the deframer holds, and then reads and posts until something ends it.
+fn read_on<R: Wait, S: Shut, I: Source, P: Posting<S>>(
+    rt: &R,
+    alloc: Global,
+    source: &mut I,
+    serializer: Serializer,
+    early: Vec<Frame>,
+    deframer: Deframer,
+    buffer: &mut [u8],
+    poster: &mut P,
+) -> ReadEnd
+    requires { 0 < length buffer.old }
+    ensures posted { ReadsSince (I.given source.old) (I.given source.new) (P.posted poster.old) (P.posted poster.new) (IsReadUpTo serializer (contents early.items) deframer result) }
+    ensures ended { result ≡ ReadEnd.Ended → I.is_ended source.new ≡ true }
+    ensures device { result ≡ ReadEnd.Device → I.failures source.old < I.failures source.new }
+    ensures reads_told { result ≢ ReadEnd.Device → I.failures source.new ≡ I.failures source.old }
+    ensures reads { AreWithinTurns (I.calls source.old) (I.calls source.new) }
+    ensures turns { result ≡ ReadEnd.TooManyTurns → AreUsedUp (I.calls source.old) (I.calls source.new) }
+{
+    let mut deframer = deframer;
+    let mut turns = Turns::new();
+    if let Err(end) = advance(rt, alloc, serializer, early, &mut deframer, &[], poster) {
+        return end;
+    }
+    'pieces: loop {
+        let count = match read_piece(source, buffer, &mut turns) {
+            Ok(count) => count,
+            Err(end) => return end,
+        };
+        let piece = &buffer[..count];
+        let none = Vec::new(alloc);
+        if let Err(end) = advance(rt, alloc, serializer, none, &mut deframer, piece, poster) {
+            return end;
+        }
+    }
+}
+
+// Posts that the client is gone, where nothing that it sent ended it.
+fn leave<R: Wait, S: Shut, P: Posting<S>>(rt: &R, poster: &mut P, end: ReadEnd) -> ReadEnd
+    ensures { Departs end (P.posted poster.old) (P.posted poster.new) result }
+{
+    match end {
+        ReadEnd::Left => return end,
+        ReadEnd::Violation(_) => return end,
+        ReadEnd::ActorGone => return end,
+        _ => {}
+    }
+    if let Err(end) = post(rt, poster, Act::Gone) {
+        return end;
+    }
+    end
+}
+
+// The same as `read_on`, with a buffer of its own.
+fn read_up_to<R: Wait, S: Shut, I: Source, P: Posting<S>>(
+    rt: &R,
+    alloc: Global,
+    source: &mut I,
+    opened: Opened,
+    poster: &mut P,
+) -> ReadEnd
+    ensures posted { ReadsSince (I.given source.old) (I.given source.new) (P.posted poster.old) (P.posted poster.new) (IsReadUpTo opened.serializer (contents opened.early.items) opened.deframer result) }
+    ensures ended { result ≡ ReadEnd.Ended → I.is_ended source.new ≡ true }
+    ensures device { result ≡ ReadEnd.Device → I.failures source.old < I.failures source.new }
+    ensures reads_told { result ≢ ReadEnd.Device → I.failures source.new ≡ I.failures source.old }
+    ensures reads { AreWithinTurns (I.calls source.old) (I.calls source.new) }
+    ensures turns { result ≡ ReadEnd.TooManyTurns → AreUsedUp (I.calls source.old) (I.calls source.new) }
+{
+    let Ok(mut buffer) = vec![in alloc; 0; PIECE] else {
+        return ReadEnd::NoMemory;
+    };
+    read_on(
+        rt,
+        alloc,
+        source,
+        opened.serializer,
+        opened.early,
+        opened.deframer,
+        &mut buffer,
+        poster,
+    )
+}
+
+/// Posts what a client does after its HELLO: first what the opening of the session read already, then what is read from here on, until
+/// the client leaves or breaks the protocol, or something fails. A PING is posted, a PONG is passed over. A read takes up to 65,536
+/// octets, and gives as many posts as it completes frames. Nothing is read or posted after what ends it, but that the client is gone.
+///
+/// A failed read is told by [`ReadEnd::Device`], unless nobody receives any more that the client is gone: then by
+/// [`ReadEnd::ActorGone`].
+pub fn read_posts<R: Wait, S: Shut, I: Source, P: Posting<S>>(
+    rt: &R,
+    alloc: Global,
+    source: &mut I,
+    opened: Opened,
+    poster: &mut P,
+) -> ReadEnd
+    ensures posted { ReadsSince (I.given source.old) (I.given source.new) (P.posted poster.old) (P.posted poster.new) (IsReadBy opened.serializer (contents opened.early.items) opened.deframer result) }
+    ensures ended { result ≡ ReadEnd.Ended → I.is_ended source.new ≡ true }
+    ensures device { result ≡ ReadEnd.Device → I.failures source.old < I.failures source.new }
+    ensures failures { I.failures source.old ≤ I.failures source.new }
+    ensures reads_told { result ≢ ReadEnd.Device → result ≢ ReadEnd.ActorGone → I.failures source.new ≡ I.failures source.old }
+    ensures reads { AreWithinTurns (I.calls source.old) (I.calls source.new) }
+    ensures turns { result ≡ ReadEnd.TooManyTurns → AreUsedUp (I.calls source.old) (I.calls source.new) }
+{
+    let end = read_up_to(rt, alloc, source, opened, poster);
+    leave(rt, poster, end)
+}

@@ -1,0 +1,84 @@
+-- Who is to receive a publication.
+use Rattle.std.specs.Prelude.{ℕ, ℤ, pos, negsuc, Bool, true, false, not, ◌==◌, ◌&&◌, List, codes, None, Some}
+use Rattle.std.specs.declared.option.Option.{Option}
+use Rattle.std.specs.List.{list_any}
+use Rattle.std.specs.Str.{bytes_eq}
+use Rattle.message_tree.specs.Data.{Entries, find_entry}
+use Rattle.eligibility.specs.Options.{flag_or, list_or_none, number_of, text_of}
+use Rattle.eligibility.specs.declared.who.Who.{Who}
+
+-- the six lists of a PUBLISH, each where it is given, and whether its publisher is left out
+pub record Audience : Type 0 where
+  pub exclude_me : Bool
+  pub exclude : Option (List ℤ)
+  pub exclude_authid : Option (List (List ℕ))
+  pub exclude_authrole : Option (List (List ℕ))
+  pub eligible : Option (List ℤ)
+  pub eligible_authid : Option (List (List ℕ))
+  pub eligible_authrole : Option (List (List ℕ))
+
+-- what a PUBLISH that gives none of the seven options says
+abbrev pub everyone : Audience
+everyone = record {
+  exclude_me = true;
+  exclude = None;
+  exclude_authid = None;
+  exclude_authrole = None;
+  eligible = None;
+  eligible_authid = None;
+  eligible_authrole = None;
+}
+
+abbrev pub is_number : ℕ → ℤ → Bool
+is_number n (pos m) = m == n
+is_number n (negsuc m) = false
+
+abbrev pub has_number : ℕ → List ℤ → Bool
+has_number n zs = list_any (is_number n) zs
+
+abbrev pub has_text : List ℕ → List (List ℕ) → Bool
+has_text s texts = list_any (λ t. bytes_eq t s) texts
+
+-- the list isn't given, or hasn't got it
+abbrev pub is_free_of : {X : Type 0} → (List X → Bool) → Option (List X) → Bool
+is_free_of has None = true
+is_free_of has (Some xs) = not (has xs)
+
+-- the list isn't given, or has it
+abbrev pub allows : {X : Type 0} → (List X → Bool) → Option (List X) → Bool
+allows has None = true
+allows has (Some xs) = has xs
+
+-- this receiver is to get what that publisher publishes: all seven tests hold
+abbrev pub admits : Audience → Who → Who → Bool
+admits a w publisher =
+    is_free_of (has_number w.id) a.exclude && is_free_of (has_text w.authid) a.exclude_authid && is_free_of (has_text w.authrole) a.exclude_authrole
+    && allows (has_number w.id) a.eligible && allows (has_text w.authid) a.eligible_authid && allows (has_text w.authrole) a.eligible_authrole
+    && not (w.conn == publisher.conn && a.exclude_me)
+
+abbrev pub audience_by : Option Bool → Option (Option (List ℤ)) → Option (Option (List (List ℕ))) → Option (Option (List (List ℕ)))
+    → Option (Option (List ℤ)) → Option (Option (List (List ℕ))) → Option (Option (List (List ℕ))) → Option Audience
+audience_by (Some exclude_me) (Some exclude) (Some exclude_authid) (Some exclude_authrole) (Some eligible) (Some eligible_authid) (Some eligible_authrole) =
+    Some (record {
+      exclude_me = exclude_me;
+      exclude = exclude;
+      exclude_authid = exclude_authid;
+      exclude_authrole = exclude_authrole;
+      eligible = eligible;
+      eligible_authid = eligible_authid;
+      eligible_authrole = eligible_authrole;
+    })
+audience_by _ _ _ _ _ _ _ = None
+
+abbrev pub numbers_at : List ℕ → Entries → Option (Option (List ℤ))
+numbers_at key options = list_or_none number_of (find_entry key options)
+
+abbrev pub texts_at : List ℕ → Entries → Option (Option (List (List ℕ)))
+texts_at key options = list_or_none text_of (find_entry key options)
+
+-- what the options of a PUBLISH say of its receivers; none where one of the seven has a wrong type
+unfoldable pub audience_of : Entries → Option Audience
+audience_of options =
+    audience_by (flag_or true (find_entry (codes "exclude_me") options)) (numbers_at (codes "exclude") options) (texts_at (codes "exclude_authid") options)
+    (texts_at (codes "exclude_authrole") options) (numbers_at (codes "eligible") options) (texts_at (codes "eligible_authid") options)
+    (texts_at (codes "eligible_authrole") options)

@@ -1,0 +1,71 @@
+-- The two ends of an outbox may go to other threads where the items may.
+use denote.RattleType.{RattleType}
+use denote.Struct.Field.{row_field}
+use denote.Param.Send.{IsSend, IsSync, view_send, sendable}
+use denote.Param.SendFields.{declared_send, as_row_send}
+use Rattle.std.proofs.Crossing.{crosses}
+use Rattle.std.proofs.Crossing as heap
+use Rattle.std.specs.contracts.alloc.Global as Global
+use Rattle.std.specs.contracts.impls.GlobalAllocator.TheImpl as global
+use Rattle.std.specs.contracts.option.Option as Option
+use Rattle.std.specs.contracts.sync.Arc as Arc
+use Rattle.atomic_table.proofs.shared.Seat.TheSendSync as seat
+use Rattle.atomic_table.specs.contracts.shared.Seat as Seat
+use Rattle.crossbeam_queue.proofs.array_queue.Slotted.TheSendSync as slotted
+use Rattle.crossbeam_queue.specs.contracts.array_queue.Doing as Doing
+use Rattle.crossbeam_queue.specs.contracts.array_queue.Slotted as Slotted
+use Rattle.crossbeam_queue.specs.contracts.array_queue.Turns as Turns
+use Rattle.crossbeam_queue.specs.contracts.array_queue.TurnsTableRuleOptionDoingUnit.TheImpl as turns
+use Rattle.crossbeam_utils.proofs.sync.parker.RuledParker.TheSendSync as parker
+use Rattle.crossbeam_utils.proofs.sync.parker.RuledUnparker.TheSendSync as unparker
+use Rattle.ghost_state.proofs.SendLemmas.{count_send}
+use Rattle.outbox_queue.specs.contracts.drain.Drain as Drain
+use Rattle.outbox_queue.specs.contracts.drain.Drain.TheInside as drain
+use Rattle.outbox_queue.specs.contracts.ends.Producer as Producer
+use Rattle.outbox_queue.specs.contracts.ends.Producer.TheInside as adding
+use Rattle.outbox_queue.specs.contracts.ends.Consumer as Consumer
+use Rattle.outbox_queue.specs.contracts.ends.Consumer.TheInside as taking
+use Rattle.outbox_queue.specs.contracts.outbox.Outbox as Outbox
+use Rattle.outbox_queue.specs.contracts.outbox.Outbox.TheInside as outbox
+use Rattle.outbox_queue.specs.contracts.owed.Stamped as Stamped
+use Rattle.outbox_queue.specs.contracts.owed.Stamped.TheInside as stamped
+use Rattle.outbox_queue.specs.contracts.rule.InStep as InStep
+use Rattle.outbox_queue.specs.contracts.rule.InStepProtocolStampedView.TheImpl as in_step
+use Rattle.outbox_queue.specs.contracts.rule.View as View
+use Rattle.outbox_queue.specs.declared.owed.Owed.{Ghosts}
+
+option_send : (R : RattleType) → IsSend R → IsSend (Option.the_row R)
+option_send R s = search (sendable, crosses) depth 40
+
+module _ (T H : RattleType) (owed : Ghosts H.Denot T.Denot) where
+  abbrev item : RattleType
+  item = Stamped.the_row T H owed
+
+  abbrev view : RattleType
+  view = View.the_row T H
+
+  abbrev queue : RattleType
+  queue = Slotted.the_row (Option.the_row item) (Doing.the_row item view) (Turns.the_row InStep.the_row) Global.the_row (turns.ghosts item view InStep.the_row (in_step.ghosts T H owed in_step.no_dict) turns.no_dict) global.ghosts
+
+  stamped_send : IsSend T → IsSend item
+  stamped_send t = view_send _ _ _ _ _ (declared_send (stamped.the_type T H owed) (as_row_send (row_field T) t, (search (crosses, sendable) depth 60, (search (count_send, crosses, sendable) depth 60, (search (crosses, sendable) depth 60, tt)))))
+
+  queue_send : IsSend T → IsSend queue
+  queue_send t = slotted.the_send _ _ _ _ (turns.ghosts item view InStep.the_row (in_step.ghosts T H owed in_step.no_dict) turns.no_dict) global.ghosts (option_send _ (stamped_send t)) heap.send heap.frees
+
+  queue_sync : IsSend T → IsSync queue
+  queue_sync t = slotted.the_sync _ _ _ _ (turns.ghosts item view InStep.the_row (in_step.ghosts T H owed in_step.no_dict) turns.no_dict) global.ghosts (option_send _ (stamped_send t)) heap.send heap.sync heap.frees
+
+  adding_send : IsSend T → IsSend (Producer.the_row T H owed)
+  adding_send t =
+      view_send _ _ _ _ _ (declared_send (adding.the_type T H owed) (as_row_send (Arc.the_field queue Global.the_row global.ghosts) (heap.Arc-send queue (queue_send t) (queue_sync t)), (as_row_send (Seat.the_field (Option.the_row item) (Doing.the_row item view)) (seat.the_send (Option.the_row item) (Doing.the_row item view) (option_send item (stamped_send t))), (search sendable, (search (count_send, crosses, sendable) depth 60, (search (count_send, crosses, sendable) depth 60, tt))))))
+
+  taking_send : IsSend T → IsSend (Consumer.the_row T H owed)
+  taking_send t =
+      view_send _ _ _ _ _ (declared_send (taking.the_type T H owed) (as_row_send (Arc.the_field queue Global.the_row global.ghosts) (heap.Arc-send queue (queue_send t) (queue_sync t)), (as_row_send (Seat.the_field (Option.the_row item) (Doing.the_row item view)) (seat.the_send (Option.the_row item) (Doing.the_row item view) (option_send item (stamped_send t))), (search sendable, (search (count_send, crosses, sendable) depth 60, tt)))))
+
+  pub outbox_send : IsSend T → IsSend (Outbox.the_row T H owed)
+  outbox_send t = view_send _ _ _ _ _ (declared_send (outbox.the_type T H owed) (as_row_send (Producer.the_field T H owed) (adding_send t), (search sendable, (search (crosses, sendable) depth 60, (search (unparker.the_field_send, unparker.the_send, crosses, heap.send, heap.sync, heap.frees, sendable) depth 60, tt)))))
+
+  pub drain_send : IsSend T → IsSend (Drain.the_row T H owed)
+  drain_send t = view_send _ _ _ _ _ (declared_send (drain.the_type T H owed) (as_row_send (Consumer.the_field T H owed) (taking_send t), (search (crosses, sendable) depth 60, (search (parker.the_field_send, parker.the_send, crosses, heap.send, heap.sync, heap.frees, sendable) depth 60, tt))))

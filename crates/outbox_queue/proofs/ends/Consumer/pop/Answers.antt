@@ -1,0 +1,26 @@
+use Rattle.std.proofs.Common.{◌≡◌, ℕ, length, sym, ap, ◌∙◌, subst, Some}
+use Rattle.std.specs.Prelude.{slice_get}
+use Rattle.crossbeam_queue.specs.Passes.{view}
+use Rattle.outbox_queue.specs.Rule.{with_taken, taking}
+use Rattle.outbox_queue.specs.Ends.{Owes}
+use Rattle.outbox_queue.specs.declared.rule.View.{View}
+use Rattle.outbox_queue.proofs.RuleSteps.{takes}
+use Rattle.outbox_queue.proofs.OwedBeginnings.{owes_next}
+use Rattle.outbox_queue.proofs.ends.Consumer.pop.Goals as goal
+
+pub pop_as-requires-clause-rule : goal.pop_as-requires-clause-rule
+pop_as-requires-clause-rule g c = let o = g.H.Owed in (takes o.begins o.begins_itself o.begins_on _ _ (ap (λ v. v.takes) c.self.invariant.1), λ _ _ _ _. tt)
+
+pub invariant_of-self : goal.invariant_of-self
+invariant_of-self g c =
+    let o = g.H.Owed in let old = c.self.invariant in let x = c.in-Some.item in let v = view c.self.inside.place in
+    let same = c.in-Some.ensures.queue in let told = c.in-Some.ensures.rule in let eq = told.0 in
+    let owes : slice_get (o.owed x.history v.conn) (length v.taken) ≡ Some x.item = subst (λ (y : ℕ × ℕ). slice_get (o.owed x.history y.0) y.1 ≡ Some x.item) (λ i. (told.1 i, told.2 i)) c.shows.ensures in
+    let P : View g.row.T.Denot g.row.H.Denot → Type 0 = λ u. u ≡ taking u.conn u.seen u.taken in
+    let Q : View g.row.T.Denot g.row.H.Denot → Type 0 = λ u. Owes o.owed u.seen u.conn u.taken in (
+      (same.0 ∙ old.0.0, same.2 ∙ old.0.1),
+      subst P (sym eq) (ap (λ u. with_taken u x) old.1),
+      old.2,
+      subst Q (sym eq) (owes_next o.begins o.owed o.owes_on v.seen v.conn v.taken x.history x.item old.3 told.3 owes),
+      old.4 ∙ sym (ap (λ u. u.conn) eq),
+    )

@@ -1,0 +1,136 @@
+//! How often a call may read or write one stream, and what is read and written in turns.
+ghost use Rattle.std.specs.Prelude.{◌≡◌, ◌≢◌, ◌<◌, ◌≤◌, ◌+◌, ◌++◌, ◌||◌, length, take, IfOk, IfErr, OnOk, OnErr, true, false};
+ghost use Rattle.rawsocket.specs.Devices.{GrowsByBeginning, tells_end};
+ghost use Rattle.std.specs.Io.KnownBytes.{ReadConsumes};
+
+use crate::devices::device::{Sink, Source};
+use crate::fault::Fault;
+use std::marker::Model;
+
+/// How many octets are read at once.
+pub const PIECE: usize = 65536;
+
+/// How often a call may read or write one stream.
+const MOST: u64 = 0x1_0000_0000;
+
+/// The turns that are left, seen as their number.
+#[derive(Drop)]
+pub struct Turns {
+    left: u64,
+}
+
+impl Model for Turns {
+    ghost use Rattle.std.specs.Prelude.{ℕ};
+
+    ghost Value = { ℕ };
+
+    ghost view = { λ t. t.left };
+}
+
+impl Turns {
+    /// So many turns, for a part of a call or a test.
+    pub fn of(left: u64) -> Turns
+        ensures { result ≡ left }
+    {
+        Turns { left }
+    }
+
+    /// All turns of one call on one stream: 2^32.
+    pub fn new() -> Turns
+        ensures { result ≡ 4294967296 }
+    {
+        Turns { left: MOST }
+    }
+
+    /// Takes one, if one is left.
+    fn take(&mut self) -> bool
+        ensures taken { result ≡ true → self.old ≡ self.new + 1 }
+        ensures none { result ≡ false → (self.old ≡ 0) × (self.new ≡ 0) }
+    {
+        if self.left == 0 {
+            return false;
+        }
+        self.left -= 1;
+        true
+    }
+}
+
+/// One read, if a turn is left: how many octets it gave. None, into a buffer that isn't empty, are
+/// the stream's end.
+///
+/// # Errors
+/// [`Fault::ReadFault`] where the device failed; [`Fault::TooManyTurns`] where no turn was left.
+pub fn read_turn<S: Source>(
+    source: &mut S,
+    buffer: &mut [u8],
+    turns: &mut Turns,
+) -> Result<usize, Fault>
+    ensures within { IfOk result (λ n. n ≤ length buffer.new) }
+    ensures given { IfOk result (λ n. S.given source.new ≡ S.given source.old ++ take n buffer.new) }
+    ensures left { ReadConsumes (S.left source.old) (S.left source.new) result buffer.new }
+    ensures end { IfOk result (λ n. S.is_ended source.new ≡ (S.is_ended source.old || tells_end n buffer.new)) }
+    ensures kept { OnErr result (S.given source.new ≡ S.given source.old) }
+    ensures goes_on { OnErr result (S.is_ended source.new ≡ S.is_ended source.old) }
+    ensures turn { OnOk result (turns.old ≡ turns.new + 1) }
+    ensures fine { OnOk result (S.failures source.new ≡ S.failures source.old) }
+    ensures calls { S.calls source.new + turns.new ≡ S.calls source.old + turns.old }
+    ensures failures { S.failures source.old ≤ S.failures source.new }
+    ensures device { result ≡ Err Fault.ReadFault → S.failures source.old < S.failures source.new }
+    ensures told { IfErr result (λ e. e ≢ Fault.ReadFault → S.failures source.new ≡ S.failures source.old) }
+    ensures turns { result ≡ Err Fault.TooManyTurns → turns.new ≡ 0 }
+    ensures which { IfErr result (λ e. e ≢ Fault.ReadFault → e ≡ Fault.TooManyTurns) }
+{
+    if !turns.take() {
+        return Err(Fault::TooManyTurns);
+    }
+    source.read_some(buffer)
+}
+
+/// Writes all octets, in as many turns as it takes.
+///
+/// # Errors
+/// [`Fault::WriteFault`] where the device failed; [`Fault::TooManyTurns`] where no turn was left. A
+/// beginning of the octets is written then.
+pub fn write_all<S: Sink>(sink: &mut S, octets: &[u8], turns: &mut Turns) -> Result<(), Fault>
+    ensures written { OnOk result (S.taken sink.new ≡ S.taken sink.old ++ octets.now) }
+    ensures fine { OnOk result (S.failures sink.new ≡ S.failures sink.old) }
+    ensures begun { GrowsByBeginning (S.taken sink.old) (S.taken sink.new) octets.now }
+    ensures calls { S.calls sink.new + turns.new ≡ S.calls sink.old + turns.old }
+    ensures failures { S.failures sink.old ≤ S.failures sink.new }
+    ensures device { result ≡ Err Fault.WriteFault → S.failures sink.old < S.failures sink.new }
+    ensures told { IfErr result (λ e. e ≢ Fault.WriteFault → S.failures sink.new ≡ S.failures sink.old) }
+    ensures turns { result ≡ Err Fault.TooManyTurns → turns.new ≡ 0 }
+    ensures which { IfErr result (λ e. e ≢ Fault.WriteFault → e ≡ Fault.TooManyTurns) }
+{
+    let mut rest = octets;
+    while !rest.is_empty() {
+        if !turns.take() {
+            return Err(Fault::TooManyTurns);
+        }
+        let count = sink.write_some(rest)?;
+        rest = &rest[count..];
+    }
+    Ok(())
+}
+
+/// Writes all octets, and passes them on.
+///
+/// # Errors
+/// As [`write_all`]; a flush that failed is a [`Fault::WriteFault`] too, and all octets are written
+/// then. Where a write failed, or no turn was left, nothing is flushed.
+pub fn send<S: Sink>(sink: &mut S, octets: &[u8], turns: &mut Turns) -> Result<(), Fault>
+    ensures written { OnOk result (S.taken sink.new ≡ S.taken sink.old ++ octets.now) }
+    ensures fine { OnOk result (S.failures sink.new ≡ S.failures sink.old) }
+    ensures begun { GrowsByBeginning (S.taken sink.old) (S.taken sink.new) octets.now }
+    ensures calls { S.calls sink.new + turns.new ≡ S.calls sink.old + turns.old }
+    ensures failures { S.failures sink.old ≤ S.failures sink.new }
+    ensures device { result ≡ Err Fault.WriteFault → S.failures sink.old < S.failures sink.new }
+    ensures told { IfErr result (λ e. e ≢ Fault.WriteFault → S.failures sink.new ≡ S.failures sink.old) }
+    ensures turns { result ≡ Err Fault.TooManyTurns → turns.new ≡ 0 }
+    ensures which { IfErr result (λ e. e ≢ Fault.WriteFault → e ≡ Fault.TooManyTurns) }
+{
+    match write_all(sink, octets, turns) {
+        Ok(()) => sink.flush(),
+        Err(fault) => Err(fault),
+    }
+}

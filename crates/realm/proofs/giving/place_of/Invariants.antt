@@ -1,5 +1,0 @@
-use Rattle.realm.proofs.Places.{PassedOver}
-use Rattle.realm.proofs.giving.place_of.Given as goal
-
-abbrev pub invariant-loop-i : goal.invariant-loop-i
-invariant-loop-i l = PassedOver l.given l.i l.conn

@@ -1,0 +1,168 @@
+ghost use Rattle.std.specs.Prelude.{◌≡◌, ◌≤◌, ◌++◌, cond, length, [], ◌∷◌, IfOk, OnOk};
+ghost use Rattle.std.specs.List.{insert};
+ghost use Rattle.subscription_index.specs.Index.{matching, pattern_of};
+ghost use Rattle.session.specs.declared.messages.item.Item.{Item};
+ghost use Rattle.realm.specs.Yield.{names_topic};
+ghost use Rattle.realm.specs.Publications.{admits};
+ghost use Rattle.realm.specs.Yield.{admits_who};
+ghost use Rattle.realm.specs.body.LiveSessions.{session_of};
+ghost use Rattle.realm.specs.body.Outputs.{all_for, event_by, events_at, put_before, put_first, IsAnswer};
+
+use crate::fault::Fault;
+use crate::sessions::Sessions;
+use message_tree::Shared;
+use session::{Item, Publication, Who};
+use std::alloc::Global;
+use subscription_index::Index;
+use wamp_ids::{Conn, Id, Policy, Topic};
+
+/// What an entry gives: for each item the connection that it is for.
+pub type Given = Vec<(Conn, Item)>;
+
+/// One item for one connection.
+pub fn one(alloc: Global, conn: Conn, item: Item) -> Result<Given, Fault>
+    ensures { IfOk result (λ given. given.items ≡ all_for conn (item ∷ [])) }
+{
+    let mut given = Vec::new(alloc);
+    given.push((conn, item))?;
+    Ok(given)
+}
+
+/// Where the items of the connection begin.
+fn place_of(given: &[(Conn, Item)], conn: Conn) -> usize
+    ensures within { result ≤ length given.now }
+    ensures place { (item : Item) → insert given.now result (conn, item) ≡ put_before conn item given.now }
+{
+    for i in 0..given.len() {
+        if given[i].0.value() >= conn.value() {
+            return i;
+        }
+    }
+    given.len()
+}
+
+/// Puts an item before what the connection is given.
+pub fn put_before(given: &mut Given, conn: Conn, item: Item) -> Result<(), Fault>
+    ensures { OnOk result (given.new.items ≡ put_before conn item given.old.items) }
+{
+    let place = place_of(given, conn);
+    given.insert(place, (conn, item))?;
+    Ok(())
+}
+
+/// Puts an item, where there is one, before what the connection is given.
+pub fn put_first(given: &mut Given, conn: Conn, item: Option<Item>) -> Result<(), Fault>
+    ensures { OnOk result (given.new.items ≡ put_first conn item given.old.items) }
+{
+    match item {
+        None => Ok(()),
+        Some(item) => put_before(given, conn, item),
+    }
+}
+
+/// Whether EVENT.Details names the topic: where the pattern doesn't.
+pub fn names_topic(policy: Policy) -> bool
+    ensures { result ≡ names_topic policy }
+{
+    match policy {
+        Policy::Exact => false,
+        Policy::Prefix => true,
+        Policy::Wildcard => true,
+    }
+}
+
+/// Whether the publication admits the session.
+pub fn admits(publication: &Publication, who: &Who) -> bool
+    ensures { result ≡ admits publication.now who.now }
+{
+    publication.lists.admits(who, &publication.publisher)
+}
+
+/// Whether the publication admits the session of the connection.
+fn is_admitted(sessions: &Sessions, publication: &Publication, conn: Conn) -> bool
+    ensures { result ≡ admits_who publication.now (session_of sessions.now conn) }
+{
+    match sessions.find(conn) {
+        None => false,
+        Some(who) => admits(publication, who),
+    }
+}
+
+/// The same, where the last answer may be that of the connection.
+fn is_admitted_after(
+    last: Option<(Conn, bool)>,
+    sessions: &Sessions,
+    publication: &Publication,
+    conn: Conn,
+) -> bool
+    requires { IsAnswer sessions.now publication.now last }
+    ensures { result ≡ admits_who publication.now (session_of sessions.now conn) }
+{
+    if let Some((asked, answer)) = last {
+        if asked == conn {
+            return answer;
+        }
+    }
+    is_admitted(sessions, publication, conn)
+}
+
+/// Adds the EVENT of a publication for one subscription, where its session is admitted.
+fn add_event(
+    given: &mut Given,
+    admitted: bool,
+    index: &Index,
+    made: &Shared<Publication>,
+    conn: Conn,
+    number: Id,
+) -> Result<(), Fault>
+    ensures { OnOk result (given.new.items ≡ given.old.items ++ all_for conn (cond admitted (event_by number made.now (pattern_of index.now.rows conn number)) [])) }
+{
+    if !admitted {
+        return Ok(());
+    }
+    let Some(pattern) = index.pattern_of(conn, number) else {
+        return Ok(());
+    };
+    given.push((
+        conn,
+        Item::Event {
+            subscription: number,
+            publication: made.twin()?,
+            with_topic: names_topic(pattern.policy()),
+            retained: false,
+        },
+    ))?;
+    Ok(())
+}
+
+/// The subscriptions that match a topic.
+pub fn matching(alloc: Global, index: &Index, topic: &Topic) -> Result<Vec<(Conn, Id)>, Fault>
+    ensures { IfOk result (λ keys. keys.items ≡ matching index.now.rows topic.now) }
+{
+    match index.matching(alloc, topic) {
+        Ok(keys) => Ok(keys),
+        Err(_) => Err(Fault::NoMemory),
+    }
+}
+
+/// The EVENTs of a publication, for these subscriptions; `admits` is asked once where those of one
+/// connection stand together.
+pub fn events_at(
+    alloc: Global,
+    sessions: &Sessions,
+    index: &Index,
+    made: &Shared<Publication>,
+    keys: &[(Conn, Id)],
+) -> Result<Given, Fault>
+    ensures { IfOk result (λ given. given.items ≡ events_at sessions.now index.now.rows made.now keys.now) }
+{
+    let mut given = Vec::new(alloc);
+    given.reserve_exact(keys.len())?;
+    let mut last = None;
+    for (conn, number) in keys {
+        let admitted = is_admitted_after(last, sessions, made.value(), *conn);
+        last = Some((*conn, admitted));
+        add_event(&mut given, admitted, index, made, *conn, *number)?;
+    }
+    Ok(given)
+}

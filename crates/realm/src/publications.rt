@@ -1,0 +1,240 @@
+ghost use Rattle.std.specs.Prelude.{◌≡◌, ℕ, true, not, ◌&&◌, is_some, None, Some, IfOk, OnOk, OnErr, IfSome};
+ghost use Rattle.wamp_ids.specs.Uri.{is_topic, is_reserved};
+ghost use Rattle.session.specs.Arguments.{is_all_carried};
+ghost use Rattle.retained.specs.Store.{has_room, set_topic};
+ghost use Rattle.eligibility.specs.declared.who.Who.{Who};
+ghost use Rattle.realm.specs.Options.{acknowledge_of};
+ghost use Rattle.realm.specs.body.LiveSessions.{session_of};
+ghost use Rattle.realm.specs.Publications.{published_by, publish_options_of, made_by};
+ghost use Rattle.realm.specs.body.Transitions.{IsPublished, made_with, is_some_true, refused, told};
+
+use crate::events::{Given, events_at, matching, one, put_before};
+use crate::fault::Fault;
+use crate::publish_options::{PublishOptions, flag, read_publish_options};
+use crate::state::State;
+use message_tree::{Options, Shared, Text};
+use retained::Store;
+use session::{Args, CarriedArgs, Item, Publication, Reason, Request, Who};
+use std::alloc::Global;
+use wamp_ids::{Conn, Id, Topic};
+
+/// A PUBLISH. Answering spends it: its options' texts, topic and arguments are moved.
+#[derive(Drop)]
+pub struct PublishRequest {
+    pub conn: Conn,
+    pub word: u64,
+    pub request: Id,
+    pub options: Options,
+    pub topic: Text,
+    pub args: Args,
+}
+
+/// Who asks, and whether for an answer; where its option has a wrong type, it doesn't.
+#[derive(Drop)]
+struct Requester {
+    conn: Conn,
+    request: Id,
+    acknowledge: Option<bool>,
+}
+
+/// A PUBLISH that is accepted.
+#[derive(Drop)]
+pub struct AcceptedPublication {
+    pub topic: Topic,
+    pub publish_options: PublishOptions,
+    pub args: CarriedArgs,
+}
+
+/// The arguments, where they can be carried.
+fn carried(args: Args) -> Option<CarriedArgs>
+    ensures same { IfSome result (λ carried. carried ≡ args) }
+    ensures carried { is_some result ≡ is_all_carried args }
+{
+    match CarriedArgs::of(args) {
+        Ok(carried) => Some(carried),
+        Err(_) => None,
+    }
+}
+
+/// The topic of a PUBLISH; none where it is no topic, or a reserved one.
+fn open_topic(text: Text) -> Option<Topic>
+    ensures same { IfSome result (λ topic. topic ≡ text) }
+    ensures open { is_some result ≡ (is_topic text && not (is_reserved text)) }
+{
+    match Topic::from_string(text.into_string()) {
+        Ok(topic) if !topic.is_reserved() => Some(topic),
+        _ => None,
+    }
+}
+
+/// What a PUBLISH with these publish_options asks for where it is accepted, or why it is refused.
+fn accepted_with(
+    store: &Store,
+    publish_options: PublishOptions,
+    topic: Text,
+    args: Args,
+) -> Result<AcceptedPublication, Reason>
+    ensures answer { (word : ℕ) (w : Who) → published_by (has_room store.now topic) word w topic args (Some publish_options) ≡ made_with word w result }
+    ensures room { IfOk result (λ a. a.publish_options.retained ≡ true → has_room store.now a.topic ≡ true) }
+{
+    let Some(topic) = open_topic(topic) else {
+        return Err(Reason::InvalidUri);
+    };
+    let Some(args) = carried(args) else {
+        return Err(Reason::InvalidArgument);
+    };
+    if publish_options.retained && !store.has_room(topic.text()) {
+        return Err(Reason::RetainedFull);
+    }
+    Ok(AcceptedPublication {
+        topic,
+        publish_options,
+        args,
+    })
+}
+
+/// What a PUBLISH asks for where it is accepted, or why it is refused.
+fn accepted(
+    alloc: Global,
+    store: &Store,
+    options: Options,
+    topic: Text,
+    args: Args,
+) -> Result<Result<AcceptedPublication, Reason>, Fault>
+    ensures answer { IfOk result (λ accepted. (word : ℕ) (w : Who) → published_by (has_room store.now topic) word w topic args (publish_options_of options) ≡ made_with word w accepted) }
+    ensures room { IfOk result (λ accepted. IfOk accepted (λ a. a.publish_options.retained ≡ true → has_room store.now a.topic ≡ true)) }
+{
+    match read_publish_options(alloc, options)? {
+        Some(publish_options) => Ok(accepted_with(store, publish_options, topic, args)),
+        None => Ok(Err(Reason::InvalidArgument)),
+    }
+}
+
+/// The arguments of a publication. Those of one that is retained lose the octets that they are
+/// encoded as: it is kept for long, and given to few.
+fn kept(args: CarriedArgs, retained: bool) -> CarriedArgs
+    ensures { result ≡ args }
+{
+    if retained { args.unencoded() } else { args }
+}
+
+/// The publication that an accepted PUBLISH makes. The arguments are moved.
+fn publication(
+    alloc: Global,
+    publisher: &Who,
+    word: u64,
+    accepted: AcceptedPublication,
+) -> Result<Publication, Fault>
+    ensures { IfOk result (λ p. p ≡ (made_by word publisher.now accepted.topic accepted.args accepted.publish_options).publication) }
+{
+    let publisher = publisher.twin()?;
+    let AcceptedPublication {
+        topic,
+        publish_options,
+        args,
+    } = accepted;
+    Ok(Publication {
+        id: Id::of_word(word),
+        topic,
+        args: kept(args, publish_options.retained),
+        lists: publish_options.lists,
+        publisher,
+        disclosed: publish_options.disclosed,
+    })
+}
+
+fn is_acknowledged(requester: &Requester) -> bool
+    ensures { result ≡ is_some_true requester.now.acknowledge }
+{
+    match requester.acknowledge {
+        Some(flag) => flag,
+        None => false,
+    }
+}
+
+/// ERROR for a PUBLISH that is refused, where it asked for an answer.
+fn refused(alloc: Global, requester: &Requester, reason: Reason) -> Result<Given, Fault>
+    ensures { IfOk result (λ given. given.items ≡ refused requester.now.conn requester.now.request requester.now.acknowledge reason) }
+{
+    if !is_acknowledged(requester) {
+        return Ok(Vec::new(alloc));
+    }
+    let item = Item::Error {
+        kind: Request::Publish,
+        request: requester.request,
+        reason,
+    };
+    one(alloc, requester.conn, item)
+}
+
+/// What an accepted publication gives: EVENTs, and PUBLISHED where that was asked for.
+fn told(
+    alloc: Global,
+    state: &State,
+    requester: &Requester,
+    made: &Shared<Publication>,
+) -> Result<Given, Fault>
+    ensures { IfOk result (λ given. given.items ≡ told state.now requester.now.conn requester.now.request requester.now.acknowledge made.now) }
+{
+    let keys = matching(alloc, &state.index, &made.value().topic)?;
+    let mut given = events_at(alloc, &state.sessions, &state.index, made, &keys)?;
+    if is_acknowledged(requester) {
+        let published = Item::Published {
+            request: requester.request,
+            publication: made.value().id,
+        };
+        put_before(&mut given, requester.conn, published)?;
+    }
+    Ok(given)
+}
+
+/// Retains a publication for which there is room.
+fn retain(alloc: Global, store: &mut Store, made: Shared<Publication>) -> Result<(), Fault>
+    requires { has_room store.old made.topic ≡ true }
+    ensures kept { OnOk result (store.new ≡ set_topic made store.old) }
+    ensures unchanged { OnErr result (store.new ≡ store.old) }
+{
+    match store.keep(alloc, made) {
+        Ok(()) => Ok(()),
+        Err(retained::Fault::NoMemory) => Err(Fault::NoMemory),
+        Err(retained::Fault::RetainedFull) => unreachable!(),
+    }
+}
+
+/// Answers a PUBLISH of a live session.
+pub fn publish(alloc: Global, state: &mut State, asked: PublishRequest) -> Result<Given, Fault>
+    requires { is_some (session_of state.old.sessions asked.conn) ≡ true }
+    ensures ok { IfOk result (λ given. (w : Who) → session_of state.old.sessions asked.conn ≡ Some w
+        → IsPublished state.old asked.conn asked.request (acknowledge_of asked.options)
+        (published_by (has_room state.old.store asked.topic) asked.word w asked.topic asked.args (publish_options_of asked.options)) state.new given.items) }
+    ensures unchanged { OnErr result (state.new ≡ state.old) }
+{
+    let PublishRequest {
+        conn,
+        word,
+        request,
+        options,
+        topic,
+        args,
+    } = asked;
+    let requester = Requester {
+        conn,
+        request,
+        acknowledge: flag(&options, "acknowledge"),
+    };
+    let accepted = match accepted(alloc, &state.store, options, topic, args)? {
+        Ok(accepted) => accepted,
+        Err(reason) => return refused(alloc, &requester, reason),
+    };
+    let Some(publisher) = state.sessions.find(conn) else {
+        unreachable!()
+    };
+    let retained = accepted.publish_options.retained;
+    let made = publication(alloc, publisher, word, accepted)?;
+    let made = Shared::new(alloc, made)?;
+    let given = told(alloc, state, &requester, &made)?;
+    if retained {
+        retain(alloc, &mut state.store, made)?;
+    }
+    Ok(given)
+}

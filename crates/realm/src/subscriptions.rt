@@ -1,0 +1,224 @@
+ghost use Rattle.std.specs.Prelude.{◌≡◌, ◌+◌, ◌≤◌, ◌++◌, ◌∷◌, [], true, length, vec_len, map, is_some, None, Some, Ok, Err, IfOk, OnOk, OnErr};
+ghost use Rattle.std.specs.Vec.{vec_capacity};
+ghost use Rattle.std.specs.List.{filter};
+ghost use Rattle.eligibility.specs.declared.who.Who.{Who};
+ghost use Rattle.realm.specs.Options.{match_of, policy_named, get_retained_of};
+ghost use Rattle.realm.specs.Subscriptions.{pattern_of};
+ghost use Rattle.realm.specs.Publications.{admits};
+ghost use Rattle.realm.specs.body.LiveSessions.{session_of};
+ghost use Rattle.realm.specs.body.Outputs.{all_for};
+ghost use Rattle.realm.specs.body.Transitions.{IsHeld, IsSubscribed, IsUnsubscribed, wanted, retained_event};
+
+use crate::events::{Given, admits, names_topic, one};
+use crate::fault::Fault;
+use crate::publish_options::flag;
+use crate::state::State;
+use message_tree::{Options, Shared, Text, Tree};
+use retained::Store;
+use session::{Item, Publication, Reason, Request, Who};
+use std::alloc::Global;
+use wamp_ids::{Conn, Id, Pattern, Policy};
+
+/// A SUBSCRIBE.
+#[derive(Drop)]
+pub struct SubscribeRequest<'a> {
+    pub conn: Conn,
+    pub request: Id,
+    pub options: &'a Options,
+    pub topic: &'a Text,
+}
+
+/// The policy of this name.
+fn policy_named(name: &str) -> Option<Policy>
+    ensures { result ≡ policy_named name.now }
+{
+    if name == "exact" {
+        Some(Policy::Exact)
+    } else if name == "prefix" {
+        Some(Policy::Prefix)
+    } else if name == "wildcard" {
+        Some(Policy::Wildcard)
+    } else {
+        None
+    }
+}
+
+/// How the pattern is to be compared; `None` where the options say nothing that is known.
+fn policy_of(options: &Options) -> Option<Policy>
+    ensures { result ≡ match_of options.now }
+{
+    match options.get("match") {
+        None => Some(Policy::Exact),
+        Some(Tree::Null) => Some(Policy::Exact),
+        Some(Tree::Text(name)) => policy_named(name.as_str()),
+        Some(_) => None,
+    }
+}
+
+/// The pattern that a SUBSCRIBE asks for, or why it is malformed.
+fn pattern_of(
+    alloc: Global,
+    options: &Options,
+    topic: &Text,
+) -> Result<Result<Pattern, Reason>, Fault>
+    ensures { IfOk result (λ pattern. pattern ≡ pattern_of options.now topic.now) }
+{
+    let Some(policy) = policy_of(options) else {
+        return Ok(Err(Reason::InvalidArgument));
+    };
+    if flag(options, "get_retained").is_none() {
+        return Ok(Err(Reason::InvalidArgument));
+    }
+    match Pattern::read(alloc, policy, topic.as_str()) {
+        Ok(pattern) => Ok(Ok(pattern)),
+        Err(wamp_ids::Fault::BadUri) => Ok(Err(Reason::InvalidUri)),
+        Err(_) => Err(Fault::NoMemory),
+    }
+}
+
+/// Those of the publications that admit the session.
+fn admitted(
+    alloc: Global,
+    found: Vec<Shared<Publication>>,
+    who: &Who,
+) -> Result<Vec<Shared<Publication>>, Fault>
+    ensures { IfOk result (λ kept. kept.items ≡ filter (λ p. admits p who.now) found.items) }
+{
+    let mut kept = Vec::new(alloc);
+    for publication in found {
+        if admits(publication.value(), who) {
+            kept.push(publication)?;
+        }
+    }
+    Ok(kept)
+}
+
+/// The retained publications that a SUBSCRIBE asks for, of those that match and admit the session.
+fn wanted(
+    alloc: Global,
+    store: &Store,
+    options: &Options,
+    pattern: &Pattern,
+    who: &Who,
+) -> Result<Vec<Shared<Publication>>, Fault>
+    ensures { IfOk result (λ kept. kept.items ≡ wanted store.now (get_retained_of options.now) pattern.now who.now) }
+{
+    match flag(options, "get_retained") {
+        Some(true) => admitted(alloc, store.matching(alloc, pattern)?, who),
+        _ => Ok(Vec::new(alloc)),
+    }
+}
+
+/// Gives the connection the EVENTs of what is retained, for which there is room.
+fn give_retained(
+    given: &mut Given,
+    conn: Conn,
+    subscription: Id,
+    policy: Policy,
+    publications: Vec<Shared<Publication>>,
+)
+    requires { vec_len given.old + length publications.items ≤ vec_capacity given.old }
+    ensures { given.new.items ≡ given.old.items ++ all_for conn (map (retained_event subscription policy) publications.items) }
+{
+    for publication in publications {
+        given.push_reserved((
+            conn,
+            Item::Event {
+                subscription,
+                publication,
+                with_topic: names_topic(policy),
+                retained: true,
+            },
+        ));
+    }
+}
+
+/// The ERROR that refuses a request.
+fn refusal(kind: Request, request: Id, reason: Reason) -> Item
+    ensures { result ≡ Item.Error kind request reason }
+{
+    Item::Error {
+        kind,
+        request,
+        reason,
+    }
+}
+
+/// Answers a SUBSCRIBE of a live session.
+pub fn subscribe(
+    alloc: Global,
+    state: &mut State,
+    asked: &SubscribeRequest<'_>,
+) -> Result<Given, Fault>
+    requires { is_some (session_of state.old.sessions asked.now.conn) ≡ true }
+    ensures ok { IfOk result (λ given. (w : Who) → session_of state.old.sessions asked.now.conn ≡ Some w
+        → IsSubscribed state.old asked.now.conn asked.now.request (get_retained_of asked.now.options.now) w (pattern_of asked.now.options.now asked.now.topic.now) state.new given.items) }
+    ensures unchanged { OnErr result (state.new ≡ state.old) }
+{
+    let pattern = match pattern_of(alloc, asked.options, asked.topic)? {
+        Ok(pattern) => pattern,
+        Err(reason) => {
+            let item = refusal(Request::Subscribe, asked.request, reason);
+            return one(alloc, asked.conn, item);
+        }
+    };
+    let Some(who) = state.sessions.find(asked.conn) else {
+        unreachable!()
+    };
+    let retained = wanted(alloc, &state.store, asked.options, &pattern, who)?;
+    hold(alloc, state, asked, pattern, retained)
+}
+
+/// Answers a SUBSCRIBE of a pattern, after which these retained publications are given.
+fn hold(
+    alloc: Global,
+    state: &mut State,
+    asked: &SubscribeRequest<'_>,
+    pattern: Pattern,
+    retained: Vec<Shared<Publication>>,
+) -> Result<Given, Fault>
+    ensures ok { IfOk result (λ given. IsHeld state.old asked.now.conn asked.now.request pattern retained.items state.new given.items) }
+    ensures unchanged { OnErr result (state.new ≡ state.old) }
+{
+    let policy = pattern.policy();
+    let mut given = Vec::with_capacity(alloc, retained.len() + 1)?;
+    match state.index.hold(alloc, asked.conn, pattern) {
+        Ok(subscription) => {
+            let subscribed = Item::Subscribed {
+                request: asked.request,
+                subscription,
+            };
+            given.push_reserved((asked.conn, subscribed));
+            give_retained(&mut given, asked.conn, subscription, policy, retained);
+            Ok(given)
+        }
+        Err(subscription_index::Fault::TooManySubscriptions) => {
+            let reason = Reason::TooManySubscriptions;
+            let item = refusal(Request::Subscribe, asked.request, reason);
+            given.push_reserved((asked.conn, item));
+            Ok(given)
+        }
+        Err(subscription_index::Fault::NoMemory) => Err(Fault::NoMemory),
+    }
+}
+
+/// Answers an UNSUBSCRIBE.
+pub fn unsubscribe(
+    alloc: Global,
+    state: &mut State,
+    conn: Conn,
+    request: Id,
+    subscription: Id,
+) -> Result<Given, Fault>
+    ensures ok { IfOk result (λ given. IsUnsubscribed state.old conn request subscription state.new given.items) }
+    ensures unchanged { OnErr result (state.new ≡ state.old) }
+{
+    let mut given = Vec::with_capacity(alloc, 1)?;
+    let item = if state.index.release(conn, subscription) {
+        Item::Unsubscribed { request }
+    } else {
+        refusal(Request::Unsubscribe, request, Reason::NoSuchSubscription)
+    };
+    given.push_reserved((conn, item));
+    Ok(given)
+}

@@ -1,0 +1,133 @@
+-- An act was applied, or lost.
+use Rattle.std.proofs.Common.{◌≤◌, length, ◌≡◌, ℕ, true, false, cond, not, List, [], ◌∷◌, ◌++◌, refl, sym, ap, ◌∙◌, subst, append_assoc}
+use Rattle.realm.specs.declared.entry.Entry.{Entry}
+use Rattle.realm.specs.declared.entry.Entry.TheVariants as entry
+use Rattle.std.specs.Prelude.{Some}
+use Rattle.std.proofs.lemmas.Bool.{true≢false, false_from_ne_true}
+use Rattle.std.specs.List.{insert}
+use Rattle.realm.specs.History.{History, ◌▷◌}
+use Rattle.realm.specs.Sessions.{conn_of, live, may_come, may_join}
+use Rattle.realm.proofs.LiveSessions.{live-joined}
+use Rattle.realm_actor.proofs.EntryLemmas.{not_joined}
+use Rattle.realm_inbox.specs.declared.joining.Joining.{Joining}
+use Rattle.realm_actor.specs.Rows.{box_in}
+use Rattle.realm_actor.specs.Tables.{EachMarked, EachWent, Sound}
+use Rattle.realm_inbox.specs.declared.act.Act.{Act}
+use Rattle.realm_inbox.specs.declared.act.Act.TheVariants.{Said, Join, Ping, Spoilt, Gone}
+use Rattle.realm_inbox.specs.Joins.{is_join}
+use Rattle.realm_actor.specs.declared.outcome.Outcome.{Outcome}
+use Rattle.realm_actor.specs.declared.outcome.Outcome.TheVariants.{Applied, Dropped, NoMemory}
+use Rattle.realm_actor.specs.declared.row.Row.{Row}
+use Rattle.realm_actor.specs.Cuts.{Accepted, Cuts, IsCutOf, NoneFull}
+use Rattle.realm_actor.specs.Handle.{MatchOutcome, Applies, Loses, WithRow, draws, entry_of, is_dropped, cut, not_live, nothing_drawn}
+
+pub by_outcome : (r : Outcome) (A B D E : Type 0) → (A → D) → (B → E) → (C : Type 0) → MatchOutcome r A ⊥ B → MatchOutcome r D C E
+by_outcome Applied A B D E f g C m = f m
+by_outcome Dropped A B D E f g C m = absurd m
+by_outcome NoMemory A B D E f g C m = g m
+
+-- an act that is no Join
+
+module _ {S : Type 0} where
+  pub no_join : (act : Act S) → ((joining : Joining S) → act ≡ Join joining → ⊥) → is_join act ≡ false
+  no_join (Join joining) other = absurd (other joining refl)
+  no_join (Said said) other = refl
+  no_join (Ping payload) other = refl
+  no_join Spoilt other = refl
+  no_join Gone other = refl
+
+  pub no_joining : (act : Act S) → is_join act ≡ false → (joining : Joining S) → act ≡ Join joining → ⊥
+  no_joining act other joining is = true≢false (sym (ap is_join is) ∙ other)
+
+  pub dropped-live : (h : History) (c : ℕ) (act : Act S) → is_join act ≡ false → is_dropped h c act ≡ not (live h c)
+  dropped-live h c (Join joining) other = absurd (cc)
+  dropped-live h c (Said said) other = refl
+  dropped-live h c (Ping payload) other = refl
+  dropped-live h c Spoilt other = refl
+  dropped-live h c Gone other = refl
+
+  pub conn_of-entry_of : (c : ℕ) (act : Act S) (w : ℕ) → conn_of (entry_of c act w) ≡ c
+  conn_of-entry_of c (Join joining) w = refl
+  conn_of-entry_of c (Said said) w = refl
+  conn_of-entry_of c (Ping payload) w = refl
+  conn_of-entry_of c Spoilt w = refl
+  conn_of-entry_of c Gone w = refl
+
+  pub may_come-entry_of : (h : History) (c : ℕ) (act : Act S) (w : ℕ) → is_join act ≡ false → live h c ≡ true → may_come h (entry_of c act w) ≡ true
+  may_come-entry_of h c (Join joining) w other lives = absurd (cc)
+  may_come-entry_of h c (Said said) w other lives = lives
+  may_come-entry_of h c (Ping payload) w other lives = lives
+  may_come-entry_of h c Spoilt w other lives = lives
+  may_come-entry_of h c Gone w other lives = lives
+
+  stays : (c : ℕ) (act : Act S) (rows : List (Row S)) → is_join act ≡ false → WithRow c act rows rows
+  stays c (Join joining) rows other = absurd (cc)
+  stays c (Said said) rows other = refl
+  stays c (Ping payload) rows other = refl
+  stays c Spoilt rows other = refl
+  stays c Gone rows other = refl
+
+module _ {S : Type 0} (c : ℕ) (act : Act S) (h l : History) (rows news : List (Row S)) (before after : List ℕ) (e : Entry) (other : is_join act ≡ false) where
+  pub applies_plain : draws act ≡ false → e ≡ entry_of c act 0 → (drawn : List ℕ) × Accepted h rows e drawn l news × (after ≡ before ++ drawn) → Applies c act h rows before l news after
+  applies_plain quiet is a = record {
+    word = 0;
+    drawn = a.0;
+    rows = rows;
+    brought = stays c act rows other;
+    accepted = subst (λ x. Accepted h rows x a.0 l news) is a.1;
+    words = a.2 ∙ ap (λ b. before ++ cond b (0 ∷ a.0) a.0) (sym quiet);
+  }
+
+  pub applies_word : (w : ℕ) (start : List ℕ) → start ≡ before ++ w ∷ [] → draws act ≡ true → e ≡ entry_of c act w
+      → (drawn : List ℕ) × Accepted h rows e drawn l news × (after ≡ start ++ drawn) → Applies c act h rows before l news after
+  applies_word w start begun told is a = record {
+    word = w;
+    drawn = a.0;
+    rows = rows;
+    brought = stays c act rows other;
+    accepted = subst (λ x. Accepted h rows x a.0 l news) is a.1;
+    words = a.2 ∙ ap (λ s. s ++ a.0) begun ∙ append_assoc before (w ∷ []) a.0 ∙ ap (λ b. before ++ cond b (w ∷ a.0) a.0) (sym told);
+  }
+
+module _ {S : Type 0} (c : ℕ) (h l : History) (rows news : List (Row S)) (before after : List ℕ) where
+  pub loses_by : (lost : List ℕ) (start : List ℕ) → start ≡ before ++ lost → length lost ≤ 1 → (word : ℕ) × (drawn : List ℕ) × (e : Entry) × (marked : List (Row S)) × IsCutOf c word e × EachMarked c rows marked × Accepted h marked e drawn l news × (after ≡ start ++ word ∷ drawn) → Loses c h rows before l news after
+  loses_by lost start is few b = cut lost b.0 b.1 b.2 b.3 few b.4 b.5 b.6 (b.7 ∙ ap (λ s. s ++ b.0 ∷ b.1) is)
+
+-- a Join
+
+pub not_live_yet : (h : History) (c : ℕ) → may_join h c ≡ true → live h c ≡ false
+not_live_yet h c may = false_from_ne_true (live h c) (λ is. not_joined h c may (live-joined h c is))
+
+module _ {S : Type 0} (c : ℕ) (h : History) where
+  pub loses_early : (l : History) (olds news : List (Row S)) (before after : List ℕ) → may_join h c ≡ true → l ≡ h → news ≡ olds → after ≡ before
+      → Loses c h olds before l news after
+  loses_early l olds news before after may history same words =
+      let first : Loses c h olds before h olds before = nothing_drawn (not_live_yet h c may) in
+      subst (λ k. Loses c h olds before k news after) (sym history)
+      (subst (λ x. Loses c h olds before h x after) (sym same) (subst (λ x. Loses c h olds before h olds x) (sym words) first))
+
+  pub loses_join : (l : History) (olds news : List (Row S)) (before after : List ℕ) (word : ℕ) → may_join h c ≡ true → l ≡ h → news ≡ olds → after ≡ before ++ word ∷ []
+      → Loses c h olds before l news after
+  loses_join l olds news before after word may history same words =
+      let first : Loses c h olds before h olds (before ++ word ∷ []) = not_live (word ∷ []) (not_live_yet h c may) refl in
+      subst (λ k. Loses c h olds before k news after) (sym history)
+      (subst (λ x. Loses c h olds before h x after) (sym same) (subst (λ x. Loses c h olds before h olds x) (sym words) first))
+
+  pub applies_join : (joining : Joining S) (k l : History) (olds held mid news : List (Row S)) (row : Row S) (place : ℕ) (before start after drawn : List ℕ) (word : ℕ)
+      → held ≡ olds → EachWent (insert held place row) mid → k ≡ h ▷ entry.Join c word joining.authid → Sound k mid → Cuts k mid drawn l news → NoneFull news
+      → start ≡ before ++ word ∷ [] → after ≡ start ++ drawn → row.conn ≡ c → box_in row ≡ Some joining.outbox → row.is_cut ≡ false → row.is_lost ≡ false → joining.outbox.full_finds ≡ 0
+      → Applies c (Join joining) h olds before l news after
+  applies_join joining k l olds held mid news row place before start after drawn word same went history sound cuts none_full is words conn outbox is_cut is_lost never = record {
+    word = word;
+    drawn = drawn;
+    rows = insert olds place row;
+    brought = record { place = place; row = row; rows_are = refl; conn = conn; outbox = outbox; is_cut = is_cut; is_lost = is_lost; never = never };
+    accepted = record {
+      mid = mid;
+      went = subst (λ x. EachWent (insert x place row) mid) same went;
+      sound = subst (λ x. Sound x mid) history sound;
+      cuts = subst (λ x. Cuts x mid drawn l news) history cuts;
+      none_full = none_full;
+    };
+    words = words ∙ ap (λ s. s ++ drawn) is ∙ append_assoc before (word ∷ []) drawn;
+  }

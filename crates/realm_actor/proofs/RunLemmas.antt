@@ -1,0 +1,101 @@
+-- A run, post by post.
+use Rattle.std.proofs.Common.{◌≡◌, ℕ, true, false, true≢false, eqb, List, [], ◌∷◌, ◌++◌, refl, sym, ap, ◌∙◌, subst, append_assoc}
+use Rattle.std.proofs.lemmas.List.{append-nil}
+use Rattle.std.proofs.lemmas.List.Elements.{filter-append}
+use Rattle.wamp_ids.specs.Numbers.{seat_of}
+use Rattle.realm_inbox.specs.declared.act.Act as the
+use Rattle.realm_inbox.specs.declared.letter.Post.{Post}
+use Rattle.realm_inbox.specs.declared.letter.Post.TheVariants.{Act, Stop}
+use Rattle.realm_inbox.specs.Seats.{seat_of_letter, said, adds_at, at_seat, IsNext, InOrder}
+use Rattle.realm_inbox.proofs.RuleSteps.{at_seat_snoc}
+use Rattle.realm_actor.specs.declared.outcome.Outcome.{Outcome}
+use Rattle.realm_actor.specs.ActorView.{Acting}
+use Rattle.realm_actor.specs.Settle.{Sweeps}
+use Rattle.realm_actor.specs.ReceivedAhead.{NoneBehindStop, TakesNext}
+use Rattle.realm_actor.proofs.ReceivedAhead.{in_order_append}
+use Rattle.realm_actor.specs.Run.{Handles, Runs, none, one_more, Ran, left, stopped, is_stop, said_of, stands_at, IsNextOf, SameAtSeats}
+
+module _ {S : Type 0} where
+  -- the act of a post stands where the post does
+  stands_said : (k : ℕ) (p : Post S) → stands_at k (said_of p) ≡ adds_at k p
+  stands_said k (Act l) = refl
+  stands_said k Stop = refl
+
+  -- what is received next is next for who handled the same at each seat
+  pub next_of_same : (acts : List (ℕ × the.Act S)) (got : List (Post S)) (p : Post S) → SameAtSeats acts got → IsNext got p → IsNextOf acts p
+  next_of_same acts got (Act l) same next = next ∙ sym (same (seat_of_letter l))
+  next_of_same acts got Stop same next = tt
+
+  pub same_grown : (acts acts' : List (ℕ × the.Act S)) (got got' : List (Post S)) (p : Post S) → SameAtSeats acts got → acts' ≡ acts ++ said_of p → got' ≡ got ++ p ∷ [] → SameAtSeats acts' got'
+  same_grown acts acts' got got' p same a g k =
+      ap (λ t. stands_at k t) a
+      ∙ filter-append (λ (x : ℕ × the.Act S). eqb (seat_of x.0) k) acts (said_of p)
+      ∙ ap (λ t. t ++ stands_at k (said_of p)) (same k)
+      ∙ ap (λ t. at_seat k got ++ t) (stands_said k p)
+      ∙ sym (at_seat_snoc k got p)
+      ∙ ap (λ t. at_seat k t) (sym g)
+
+  -- from the actor `start`, where `front` was received: the actor now, what is received now, and what of that was received ahead
+  pub record Progress (start now : Acting S) (front got ahead : List (Post S)) : Type 0 where
+    pub came : List (Post S)
+    pub runs : Runs start came now
+    pub more : got ≡ front ++ (came ++ ahead)
+    pub same : SameAtSeats now.handled (front ++ came)
+    pub in_order : InOrder front (came ++ ahead)
+    pub last : NoneBehindStop ahead
+
+  pub progress_none : (start : Acting S) (front ahead : List (Post S)) → SameAtSeats start.handled front → ahead ≡ [] → Progress start start front front ahead
+  progress_none start front ahead same is = subst (λ t. Progress start start front front t) (sym is) (record {
+    came = [];
+    runs = none;
+    more = sym (append-nil front);
+    same = subst (λ t. SameAtSeats start.handled t) (sym (append-nil front)) same;
+    in_order = tt;
+    last = tt;
+  })
+
+  -- what came, what was ahead, and what the inbox gave besides
+  next_came : (came ahead more later : List (Post S)) (p : Post S) → ahead ++ more ≡ p ∷ later → (came ++ ahead) ++ more ≡ (came ++ p ∷ []) ++ later
+  next_came came ahead more later p is = append_assoc came ahead more ∙ ap (λ t. came ++ t) is ∙ sym (append_assoc came (p ∷ []) later)
+
+  module _ (start b : Acting S) (front got got' ahead later : List (Post S)) (p : Post S) (g : Progress start b front got ahead) (t : TakesNext got got' ahead later p) where
+    all_came : (g.came ++ ahead) ++ t.more ≡ (g.came ++ p ∷ []) ++ later
+    all_came = next_came g.came ahead t.more later p t.waited
+
+    pub now_received : got' ≡ front ++ ((g.came ++ p ∷ []) ++ later)
+    now_received = t.given ∙ ap (λ x. x ++ t.more) g.more ∙ append_assoc front (g.came ++ ahead) t.more ∙ ap (λ x. front ++ x) all_came
+
+    pub now_in_order : InOrder front ((g.came ++ p ∷ []) ++ later)
+    now_in_order = subst (λ x. InOrder front x) all_came (in_order_append front (g.came ++ ahead) t.more g.in_order (subst (λ x. InOrder x t.more) g.more t.in_turn))
+
+  pub progress_on : (start b c d : Acting S) (front got got' ahead later : List (Post S)) (result : Outcome) (p : Post S) → is_stop p ≡ false → Progress start b front got ahead → Sweeps b c
+      → TakesNext got got' ahead later p → Handles result p c d → Progress start d front got' later
+  progress_on start b c d front got got' ahead later result Stop other g s t handles = absurd (true≢false other)
+  progress_on start b c d front got got' ahead later result (Act l) other g s t handles = record {
+    came = g.came ++ Act l ∷ [];
+    runs = one_more l g.runs s handles;
+    more = now_received start b front got got' ahead later (Act l) g t;
+    same = same_grown b.handled d.handled (front ++ g.came) (front ++ (g.came ++ Act l ∷ [])) (Act l) g.same (handles.handled ∙ ap (λ x. x ++ said l ∷ []) s.handled) (sym (append_assoc front g.came (Act l ∷ [])));
+    in_order = now_in_order start b front got got' ahead later (Act l) g t;
+    last = t.last g.last;
+  }
+
+  -- what a run promises
+  abbrev pub Ends : Acting S → Acting S → List (Post S) → List (Post S) → Type 0
+  Ends start now front got = (came : List (Post S)) × (got ≡ front ++ came) × InOrder front came × Ran start came now
+
+  pub ends_left : (start b c : Acting S) (front got got' ahead : List (Post S)) → Progress start b front got ahead → Sweeps b c → got' ≡ got → ahead ≡ [] → Ends start c front got'
+  ends_left start b c front got got' ahead g s is none_ahead =
+      let all : g.came ++ ahead ≡ g.came = ap (λ x. g.came ++ x) none_ahead ∙ append-nil g.came in
+      (g.came, is ∙ g.more ∙ ap (λ x. front ++ x) all, subst (λ x. InOrder front x) all g.in_order, left g.runs s)
+
+  pub ends_stopped : (start b c d : Acting S) (front got got' ahead later : List (Post S)) (result : Outcome) (p : Post S) → is_stop p ≡ true → Progress start b front got ahead → Sweeps b c
+      → TakesNext got got' ahead later p → Handles result p c d → Ends start d front got'
+  ends_stopped start b c d front got got' ahead later result (Act l) other g s t handles = absurd (true≢false (sym other))
+  ends_stopped start b c d front got got' ahead later result Stop other g s t handles =
+      let all : (g.came ++ Stop ∷ []) ++ later ≡ g.came ++ Stop ∷ [] = ap (λ x. (g.came ++ Stop ∷ []) ++ x) (t.last g.last) ∙ append-nil (g.came ++ Stop ∷ []) in (
+        g.came ++ Stop ∷ [],
+        now_received start b front got got' ahead later Stop g t ∙ ap (λ x. front ++ x) all,
+        subst (λ x. InOrder front x) all (now_in_order start b front got got' ahead later Stop g t),
+        stopped g.runs s handles,
+      )

@@ -1,0 +1,10 @@
+use Rattle.std.proofs.Common.{◌+◌, ◌-◌, ◌≤◌, deque_len, deque_capacity}
+use Rattle.realm_inbox.specs.EndViews.{received}
+use Rattle.realm_actor.proofs.ReceivedAhead.{Receiving}
+use Rattle.realm_actor.proofs.run.receive_ahead.Given as goal
+
+abbrev pub invariant-loop-place : goal.invariant-loop-place
+invariant-loop-place g l = record {
+  posts : Receiving (received l.fn.inbox) (received l.inbox) l.fn.ahead.items l.ahead.items;
+  room : deque_len l.ahead + (256 - l._place) ≤ deque_capacity l.ahead;
+}

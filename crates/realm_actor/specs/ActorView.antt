@@ -1,0 +1,21 @@
+-- What contracts see of an actor.
+use Rattle.std.specs.Prelude.{ℕ, List, map}
+use Rattle.realm.specs.History.{History}
+use Rattle.realm_inbox.specs.declared.act.Act.{Act}
+use Rattle.ghost_state.specs.GhostList.{items_of}
+use Rattle.realm_inbox.specs.Seats.{said}
+use Rattle.realm_actor.specs.declared.row.Row.{Row}
+use Rattle.realm_actor.specs.declared.state.State.{State}
+
+-- the realm's history, the rows of its sessions, the words that were drawn, whom the last post found full, or cut, and the acts
+-- that were handled, each with its connection, the oldest first
+pub record Acting (S : Type 0) : Type 0 where
+  pub history : History
+  pub rows : List (Row S)
+  pub words : List ℕ
+  pub last_cut : List ℕ
+  pub handled : List (ℕ × Act S)
+
+-- the same of an actor's fields, where these words were drawn
+abbrev pub acting : {S W : Type 0} → List ℕ → State S W → Acting S
+acting words s = record { history = s.table.realm; rows = s.table.rows.items; words = words; last_cut = s.last_cut.items; handled = map said (items_of s.handled) }

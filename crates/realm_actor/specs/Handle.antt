@@ -1,0 +1,113 @@
+-- What a post does: which entry it is, whether it is dropped, and whose row comes.
+use Rattle.std.specs.Prelude.{◌≤◌, ◌≡◌, ℕ, Bool, true, false, not, cond, List, ◌∷◌, ◌++◌, Some, slice_get, length}
+use Rattle.std.specs.List.{insert}
+use Rattle.realm.specs.declared.entry.Entry.{Entry}
+use Rattle.realm.specs.declared.entry.Entry.TheVariants as entry
+use Rattle.realm.specs.Words.{says_with_word}
+use Rattle.realm.specs.History.{History}
+use Rattle.realm.specs.Sessions.{live, may_join}
+use Rattle.realm_inbox.specs.declared.joining.Joining.{Joining}
+use Rattle.realm_inbox.specs.declared.act.Act.{Act}
+use Rattle.realm_inbox.specs.declared.act.Act.TheVariants.{Join, Said, Ping, Spoilt, Gone}
+use Rattle.realm_actor.specs.declared.outcome.Outcome.{Outcome}
+use Rattle.realm_actor.specs.declared.outcome.Outcome.TheVariants.{Applied, Dropped, NoMemory}
+use Rattle.realm_actor.specs.declared.row.Row.{Row}
+use Rattle.realm_actor.specs.Rows.{box_in}
+use Rattle.realm_actor.specs.OutboxHistory.{Box}
+use Rattle.realm_actor.specs.Tables.{Went, EachMarked}
+use Rattle.realm_actor.specs.LastCut.{Names, outbox_of}
+use Rattle.realm_actor.specs.Cuts.{Accepted, IsCutOf}
+
+abbrev pub MatchOutcome : Outcome → Type 0 → Type 0 → Type 0 → Type 0
+MatchOutcome Applied P Q R = P
+MatchOutcome Dropped P Q R = Q
+MatchOutcome NoMemory P Q R = R
+
+module _ {S : Type 0} where
+  -- the act draws a word
+  abbrev pub draws : Act S → Bool
+  draws (Join joining) = true
+  draws (Said said) = says_with_word said
+  draws (Ping payload) = false
+  draws Spoilt = true
+  draws Gone = true
+
+  -- the entry of an act of c by this word; where none is drawn the word is 0
+  abbrev pub entry_of : ℕ → Act S → ℕ → Entry
+  entry_of c (Join joining) word = entry.Join c word joining.authid
+  entry_of c (Said said) word = entry.Said c (cond (says_with_word said) word 0) said
+  entry_of c (Ping payload) word = entry.Ping c payload
+  entry_of c Spoilt word = entry.Spoilt c word
+  entry_of c Gone word = entry.Gone c word
+
+  -- dropped: a Join of c where c may not join, or another act of c where c isn't live
+  abbrev pub is_dropped : History → ℕ → Act S → Bool
+  is_dropped h c (Join joining) = not (may_join h c)
+  is_dropped h c (Said said) = not (live h c)
+  is_dropped h c (Ping payload) = not (live h c)
+  is_dropped h c Spoilt = not (live h c)
+  is_dropped h c Gone = not (live h c)
+
+  -- a row of c stands among the rows, with what the Join brought
+  pub record Brings (c : ℕ) (joining : Joining S) (olds rows : List (Row S)) : Type 0 where
+    pub place : ℕ
+    pub row : Row S
+    pub rows_are : rows ≡ insert olds place row
+    pub conn : row.conn ≡ c
+    pub outbox : box_in row ≡ Some joining.outbox
+    pub is_cut : row.is_cut ≡ false
+    pub is_lost : row.is_lost ≡ false
+    pub never : joining.outbox.full_finds ≡ 0
+
+  -- the rows with that of a Join; they stay for another act
+  abbrev pub WithRow : ℕ → Act S → List (Row S) → List (Row S) → Type 0
+  WithRow c (Join joining) olds rows = Brings c joining olds rows
+  WithRow c (Said said) olds rows = rows ≡ olds
+  WithRow c (Ping payload) olds rows = rows ≡ olds
+  WithRow c Spoilt olds rows = rows ≡ olds
+  WithRow c Gone olds rows = rows ≡ olds
+
+  -- the act of c enters after h as an entry, then the Cuts; the words before, the entry's where it draws one, and those of the Cuts
+  pub record Applies (c : ℕ) (act : Act S) (h : History) (olds : List (Row S)) (before : List ℕ) (l : History) (news : List (Row S)) (after : List ℕ) : Type 0 where
+    pub word : ℕ
+    pub drawn : List ℕ
+    pub rows : List (Row S)
+    pub brought : WithRow c act olds rows
+    pub accepted : Accepted h rows (entry_of c act word) drawn l news
+    pub words : after ≡ before ++ cond (draws act) (word ∷ drawn) drawn
+
+  -- for want of memory the session of c is cut instead, if it is live, and then who is found full; the words before, perhaps
+  -- one that is lost, and those of the Cuts
+  pub data Loses : ℕ → History → List (Row S) → List ℕ → History → List (Row S) → List ℕ → Type 0 where
+    not_live : {c : ℕ} {h : History} {rows : List (Row S)} {before : List ℕ} (lost : List ℕ)
+        → live h c ≡ false → length lost ≡ 1 → Loses c h rows before h rows (before ++ lost)
+    nothing_drawn : {c : ℕ} {h : History} {rows : List (Row S)} {before : List ℕ} → live h c ≡ false → Loses c h rows before h rows before
+    cut : {c : ℕ} {h l : History} {rows news : List (Row S)} {before after : List ℕ} (lost : List ℕ) (word : ℕ) (drawn : List ℕ) (e : Entry) (marked : List (Row S)) → length lost ≤ 1
+        → IsCutOf c word e → EachMarked c rows marked → Accepted h marked e drawn l news → after ≡ (before ++ lost) ++ word ∷ drawn → Loses c h rows before l news after
+
+  -- p is o without its marks
+  pub record Unmarked (o p : Row S) : Type 0 where
+    pub conn : p.conn ≡ o.conn
+    pub held : p.held ≡ o.held
+    pub is_cut : p.is_cut ≡ false
+    pub is_lost : p.is_lost ≡ false
+
+  abbrev pub EachUnmarked : List (Row S) → List (Row S) → Type 0
+  EachUnmarked olds news =
+      (length news ≡ length olds)
+      × ((k : ℕ) (o p : Row S) → slice_get olds k ≡ Some o → slice_get news k ≡ Some p → Unmarked o p)
+
+  -- what an act of c does, by its outcome
+  abbrev pub Acts : Outcome → Type 0 → ℕ → Act S → History → List (Row S) → List ℕ → History → List (Row S) → List ℕ → Type 0
+  Acts result same c act h rows before l news after =
+      MatchOutcome result (Applies c act h rows before l news after) (same × (is_dropped h c act ≡ true)) (Loses c h rows before l news after)
+
+module _ {S : Type 0} where
+  -- what the handling of an act of c does, by its outcome, and whom it names: `ends` are the rows with the marks that it made
+  pub record Does (result : Outcome) (c : ℕ) (act : Act S) (h : History) (olds : List (Row S)) (before : List ℕ) (l : History) (news : List (Row S)) (after named : List ℕ) : Type 0 where
+    pub ends : List (Row S)
+    pub acts : Acts result ((l ≡ h) × (ends ≡ olds) × (after ≡ before)) c act h olds before l ends after
+    pub unmarked : EachUnmarked ends news
+    pub names : Names (λ d. (result ≡ NoMemory) × (live h d ≡ true) × (d ≡ c)) olds news named
+    pub held : (d : ℕ) (o : Box) → outbox_of olds d ≡ Some o → (p : Box) × (outbox_of news d ≡ Some p) × Went o p
+    pub joined : (joining : Joining S) → act ≡ Join joining → result ≡ Applied → (p : Box) × (outbox_of news c ≡ Some p) × Went joining.outbox p

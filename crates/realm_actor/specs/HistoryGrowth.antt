@@ -1,0 +1,44 @@
+-- What posts make of a history.
+use Rattle.std.specs.Prelude.{◌≡◌, ◌==◌, ◌||◌, ℕ, Bool, true, false, List, [], ◌∷◌, ◌++◌, Option}
+use Rattle.realm.specs.declared.entry.Entry.TheVariants as entry
+use Rattle.realm.specs.History.{History, begun, ◌▷◌}
+use Rattle.realm.specs.Sessions.{live}
+use Rattle.realm_inbox.specs.declared.letter.Letter.{Letter}
+use Rattle.realm_inbox.specs.declared.letter.Post.{Post}
+use Rattle.realm_inbox.specs.declared.letter.Post.TheVariants as post
+use Rattle.realm_actor.specs.Handle.{entry_of, is_dropped}
+
+-- k is h, and then Cuts
+pub data AfterCuts : History → History → Type 0 where
+  none : {h : History} → AfterCuts h h
+  one_more : {h k : History} (c : ℕ) (word : Option ℕ) → AfterCuts h k → AfterCuts h (k ▷ entry.Cut c word)
+
+-- k is h, and then Closeds of live sessions, and Cuts
+pub data AfterClosing : History → History → Type 0 where
+  none : {h : History} → AfterClosing h h
+  closed : {h k : History} (c word : ℕ) → live k c ≡ true → AfterClosing h k → AfterClosing h (k ▷ entry.Closed c word)
+  cut : {h k : History} (c : ℕ) (word : Option ℕ) → AfterClosing h k → AfterClosing h (k ▷ entry.Cut c word)
+
+-- a Closed of c stands in the history
+abbrev pub was_closed : ℕ → History → Bool
+was_closed c (begun grants) = false
+was_closed c (h ▷ entry.Closed d word) = d == c || was_closed c h
+was_closed c (h ▷ e) = was_closed c h
+
+module _ {S : Type 0} where
+  -- what a post makes of the history
+  pub data Makes : History → Post S → History → Type 0 where
+    -- the act enters by some word, and then Cuts
+    applied : {h k : History} (l : Letter S) (word : ℕ) → is_dropped h l.conn l.act ≡ false → AfterCuts (h ▷ entry_of l.conn l.act word) k → Makes h (post.Act l) k
+    dropped : {h : History} (l : Letter S) → is_dropped h l.conn l.act ≡ true → Makes h (post.Act l) h
+    -- memory was refused, and the session wasn't live
+    lost : {h : History} (l : Letter S) → live h l.conn ≡ false → Makes h (post.Act l) h
+    -- memory was refused, and the session is cut, and then Cuts
+    cut : {h k : History} (l : Letter S) (word : Option ℕ) → AfterCuts (h ▷ entry.Cut l.conn word) k → Makes h (post.Act l) k
+    -- live sessions are closed
+    stopped : {h k : History} → AfterClosing h k → Makes h post.Stop k
+
+  -- what posts make of it, one after another
+  pub data MakesAll : History → List (Post S) → History → Type 0 where
+    none : {h : History} → MakesAll h [] h
+    one_more : {h k l : History} {ps : List (Post S)} (p : Post S) → MakesAll h ps k → Makes k p l → MakesAll h (ps ++ p ∷ []) l

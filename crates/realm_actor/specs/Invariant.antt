@@ -1,0 +1,26 @@
+-- What an actor keeps between two posts.
+use Rattle.std.specs.Prelude.{◌≡◌, true, false, ◌≤◌, List, length, vec_capacity}
+use Rattle.realm.specs.History.{History}
+use Rattle.realm_actor.specs.declared.row.Row.{Row}
+use Rattle.realm_actor.specs.declared.state.State.{State}
+use Rattle.realm_actor.specs.declared.table.Table.{Table}
+use Rattle.realm_actor.specs.Rows.{Each}
+use Rattle.realm.specs.Sessions.{live}
+use Rattle.realm_actor.specs.Tables.{Sound}
+use Rattle.realm_actor.specs.Cuts.{NoneFull}
+use Rattle.realm_actor.specs.LastCut.{NoMarks}
+
+-- the rows are in step with the history, nobody who was found full is live, and no row is marked
+pub record Stands {S : Type 0} (h : History) (rows : List (Row S)) : Type 0 where
+  pub sound : Sound h rows
+  pub none_full : NoneFull rows
+  pub unmarked : NoMarks rows
+
+-- there is room to name the connection of each row
+abbrev pub IsRoomy : {S W : Type 0} → State S W → Type 0
+IsRoomy s = length s.table.rows.items ≤ vec_capacity s.last_cut
+
+-- the table's flags are right: where it knows of no mark there is none, and where it knows of no ended session each row's is live
+pub record Knows {S : Type 0} (t : Table S) : Type 0 where
+  pub marks : t.has_marks ≡ false → NoMarks t.rows.items
+  pub ended : t.has_ended ≡ false → Each (λ r. live t.realm r.conn ≡ true) t.rows.items

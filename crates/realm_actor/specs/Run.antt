@@ -1,0 +1,71 @@
+-- What an actor does with a post, and in a run.
+use Rattle.std.specs.Prelude.{◌≡◌, ◌==◌, ◌⊎◌, ℕ, Bool, true, false, List, [], ◌∷◌, ◌++◌, filter, None, is_some}
+use Rattle.realm.specs.History.{History}
+use Rattle.realm.specs.Sessions.{live}
+use Rattle.realm_inbox.specs.declared.letter.Letter.{Letter}
+use Rattle.realm_inbox.specs.declared.letter.Post.{Post}
+use Rattle.realm_inbox.specs.declared.letter.Post.TheVariants as post
+use Rattle.wamp_ids.specs.Numbers.{seat_of}
+use Rattle.realm_inbox.specs.declared.act.Act.{Act}
+use Rattle.realm_inbox.specs.Seats.{said, seat_of_letter, before, at_seat}
+use Rattle.realm_actor.specs.declared.outcome.Outcome.{Outcome}
+use Rattle.realm_actor.specs.declared.outcome.Outcome.TheVariants.{Dropped}
+use Rattle.realm_actor.specs.ActorView.{Acting}
+use Rattle.realm_actor.specs.Handle.{is_dropped, Does}
+use Rattle.realm_actor.specs.Stop.{Stops}
+use Rattle.realm_actor.specs.Settle.{Sweeps}
+use Rattle.realm_actor.specs.LastCut.{outbox_of}
+use Rattle.realm_actor.specs.HistoryGrowth.{was_closed}
+
+module _ {S : Type 0} where
+  -- a post is dropped where its act is; a stop never is
+  abbrev pub is_dropped_post : History → Post S → Bool
+  is_dropped_post h (post.Act l) = is_dropped h l.conn l.act
+  is_dropped_post h post.Stop = false
+
+  abbrev pub DoesPost : Outcome → Post S → Acting S → Acting S → Type 0
+  DoesPost result (post.Act l) old new = Does result l.conn l.act old.history old.rows old.words new.history new.rows new.words new.last_cut
+  DoesPost result post.Stop old new = Stops result old.history old.rows old.words new.history new.rows new.words new.last_cut
+
+  -- the act of a post, with its connection. A stop is of none
+  abbrev pub said_of : Post S → List (ℕ × Act S)
+  said_of (post.Act l) = said l ∷ []
+  said_of post.Stop = []
+
+  -- the acts at the seat k
+  abbrev pub stands_at : ℕ → List (ℕ × Act S) → List (ℕ × Act S)
+  stands_at k acts = filter (λ x. seat_of x.0 == k) acts
+
+  -- the post is the next of its seat after these acts: what had been posted there before it is what these are there
+  abbrev pub IsNextOf : List (ℕ × Act S) → Post S → Type 0
+  IsNextOf acts (post.Act l) = before l ≡ stands_at (seat_of_letter l) acts
+  IsNextOf acts post.Stop = Unit {0}
+
+  -- what the handling of a post does, by its outcome; it is dropped exactly where it is to be
+  pub record Handles (result : Outcome) (p : Post S) (old new : Acting S) : Type 0 where
+    pub does : DoesPost result p old new
+    pub dropped : is_dropped_post old.history p ≡ true → result ≡ Dropped
+    pub handled : new.handled ≡ old.handled ++ said_of p
+
+  -- from `a` these posts of connections were handled, each after a sweep
+  pub data Runs (a : Acting S) : List (Post S) → Acting S → Type 0 where
+    none : Runs a [] a
+    one_more : {came : List (Post S)} {b c d : Acting S} {result : Outcome} (l : Letter S) → Runs a came b → Sweeps b c → Handles result (post.Act l) c d → Runs a (came ++ post.Act l ∷ []) d
+
+  -- a whole run: it ends with the first stop, or where nothing comes any more
+  pub data Ran (a : Acting S) : List (Post S) → Acting S → Type 0 where
+    left : {came : List (Post S)} {b c : Acting S} → Runs a came b → Sweeps b c → Ran a came c
+    stopped : {came : List (Post S)} {b c d : Acting S} {result : Outcome} → Runs a came b → Sweeps b c → Handles result post.Stop c d → Ran a (came ++ post.Stop ∷ []) d
+
+  abbrev pub is_stop : Post S → Bool
+  is_stop (post.Act l) = false
+  is_stop post.Stop = true
+
+  -- the acts are, seat by seat, what these posts are there
+  abbrev pub SameAtSeats : List (ℕ × Act S) → List (Post S) → Type 0
+  SameAtSeats acts ps = (k : ℕ) → stands_at k acts ≡ at_seat k ps
+
+  -- who is live at the end, or was closed in between, is held, unless it was live and not held at the start
+  abbrev pub KeepsHeld : Acting S → Acting S → Type 0
+  KeepsHeld a z = (c : ℕ) → (live z.history c ≡ true) ⊎ ((was_closed c a.history ≡ false) × (was_closed c z.history ≡ true))
+      → ((live a.history c ≡ true) × (outbox_of a.rows c ≡ None)) ⊎ (is_some (outbox_of z.rows c) ≡ true)

@@ -1,0 +1,71 @@
+-- The end of a session's outbox.
+use Rattle.std.specs.Prelude.{◌≡◌, ◌≢◌, ℕ, true, false, List, ◌++◌, Option, Some, None, slice_get, set}
+use mathlib.Core.List.{IsPrefix}
+use Rattle.outbox_queue.specs.Ends.{Taking}
+use Rattle.outbox_queue.specs.Rule.{Grows}
+use Rattle.session.specs.declared.messages.item.Item.{Item}
+use Rattle.realm.specs.History.{History, Begins}
+use Rattle.realm.specs.Sessions.{live}
+use Rattle.realm.specs.Yield.{owed}
+use Rattle.realm_actor.specs.declared.row.Row.{Row}
+use Rattle.realm_actor.specs.OutboxHistory.{Box}
+use Rattle.realm_actor.specs.Rows.{box_in}
+use Rattle.realm_actor.specs.LastCut.{outbox_of}
+use Rattle.realm_actor.specs.ActorView.{Acting}
+
+-- the drain is the other end of this outbox, which is held
+abbrev pub IsOther : Taking Item History → Option Box → Type 0
+IsOther drain None = ⊥
+IsOther drain (Some o) = o.queue ≡ drain.queue
+
+-- what was taken, followed by the rest, is what was added, and the drain saw no history but one that begins the outbox's
+pub record Joins (drain : Taking Item History) (rest : List Item) (o : Box) : Type 0 where
+  pub whole : drain.taken ++ rest ≡ o.added
+  pub seen : Grows Begins drain.seen o.history
+
+module _ {S : Type 0} where
+  -- the row's outbox was put together with its drain, and is held no longer
+  pub record Emptied (drain : Taking Item History) (rest : List Item) (old new : Row S) : Type 0 where
+    pub outbox : Box
+    pub was : box_in old ≡ Some outbox
+    pub joins : Joins drain rest outbox
+    pub conn : new.conn ≡ old.conn
+    pub is_cut : new.is_cut ≡ old.is_cut
+    pub is_lost : new.is_lost ≡ old.is_lost
+    pub held : new.held ≡ None
+
+  -- the row of c was emptied, and the others stay
+  pub record EmptiesOne (c : ℕ) (drain : Taking Item History) (rest : List Item) (olds news : List (Row S)) : Type 0 where
+    pub place : ℕ
+    pub old : Row S
+    pub new : Row S
+    pub stands : slice_get olds place ≡ Some old
+    pub own : old.conn ≡ c
+    pub emptied : Emptied drain rest old new
+    pub after : news ≡ set olds place new
+
+  -- the outbox of c was put together with its drain: what was taken, followed by the rest, is what was added; it begins what the
+  -- realm's history owes c, and is all of that unless a step found the outbox full; what the drain saw begins the realm's history.
+  -- The outbox is held no longer, and nothing else changed
+  pub record Settles (c : ℕ) (drain : Taking Item History) (rest : List Item) (old new : Acting S) : Type 0 where
+    pub outbox : Box
+    pub was : outbox_of old.rows c ≡ Some outbox
+    pub added : drain.taken ++ rest ≡ outbox.added
+    pub begins : IsPrefix (drain.taken ++ rest) (owed old.history c)
+    pub whole : outbox.full_finds ≡ 0 → drain.taken ++ rest ≡ owed old.history c
+    pub seen : Grows Begins drain.seen (Some old.history)
+    pub gone : outbox_of new.rows c ≡ None
+    pub others : (d : ℕ) → d ≢ c → outbox_of new.rows d ≡ outbox_of old.rows d
+    pub history : new.history ≡ old.history
+    pub words : new.words ≡ old.words
+    pub last_cut : new.last_cut ≡ old.last_cut
+    pub handled : new.handled ≡ old.handled
+
+  -- only the sessions that are live are held, and these as before
+  pub record Sweeps (old new : Acting S) : Type 0 where
+    pub lives : (c : ℕ) → live old.history c ≡ true → outbox_of new.rows c ≡ outbox_of old.rows c
+    pub others : (c : ℕ) → live old.history c ≡ false → outbox_of new.rows c ≡ None
+    pub history : new.history ≡ old.history
+    pub words : new.words ≡ old.words
+    pub last_cut : new.last_cut ≡ old.last_cut
+    pub handled : new.handled ≡ old.handled

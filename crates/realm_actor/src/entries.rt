@@ -1,0 +1,146 @@
+//! What a connection does enters the history.
+ghost use Rattle.std.specs.Prelude.{◌≡◌, ◌+◌, ◌<◌, ◌≤◌, OnOk, true, false, length, vec_capacity, vec_len};
+ghost use Rattle.realm.specs.Sessions.{may_join};
+ghost use Rattle.realm_inbox.specs.declared.act.Act.TheVariants.{Join as AJoin};
+ghost use Rattle.realm_inbox.specs.Joins.{is_join};
+ghost use Rattle.realm_actor.specs.declared.outcome.Outcome.TheVariants.{Dropped};
+ghost use Rattle.realm_actor.specs.Tables.{Sound};
+ghost use Rattle.realm_actor.specs.Invariant.{IsRoomy, Knows};
+ghost use Rattle.realm_actor.specs.Cuts.{NoneFull};
+ghost use Rattle.realm_actor.specs.Handle.{Acts, draws, entry_of, is_dropped};
+
+use crate::outcome::Outcome;
+use crate::row::Row;
+use crate::state::State;
+use realm::{Entry, says_with_word};
+use realm_inbox::{Act, IdSource, Joining, Shut};
+use std::alloc::{AllocError, Global};
+use std::sync::Wait;
+use wamp_ids::Conn;
+
+// Whether the entry of an act has a word.
+fn draws<S: Shut>(act: &Act<S>) -> bool
+    ensures { result ≡ draws act.now }
+{
+    match act {
+        Act::Said(said) => says_with_word(said),
+        Act::Ping(_) => false,
+        Act::Join(_) | Act::Spoilt | Act::Gone => true,
+    }
+}
+
+// The entry of an act that is no Join, by this word. Where the act draws none, the word is of no account.
+fn entry_of<S: Shut>(conn: Conn, act: Act<S>, word: u64) -> Entry
+    requires { is_join act ≡ false }
+    ensures { result ≡ entry_of conn act word }
+{
+    match act {
+        Act::Join(_) => unreachable!(),
+        Act::Said(said) => {
+            let word = if says_with_word(&said) { word } else { 0 };
+            Entry::Said { conn, word, said }
+        }
+        Act::Ping(payload) => Entry::Ping { conn, payload },
+        Act::Spoilt => Entry::Spoilt { conn, word },
+        Act::Gone => Entry::Gone { conn, word },
+    }
+}
+
+impl<S: Shut, W: IdSource> State<S, W> {
+    // What a connection does but join enters, if its session is live.
+    pub(crate) fn enter<R: Wait>(
+        &mut self,
+        rt: &R,
+        alloc: Global,
+        conn: Conn,
+        act: Act<S>,
+    ) -> Outcome
+        requires other { is_join act ≡ false }
+        requires sound { Sound self.old.table.realm self.old.table.rows.items }
+        requires none { NoneFull self.old.table.rows.items }
+        ensures outcome { Acts result (self.new ≡ self.old) conn act self.old.table.realm self.old.table.rows.items (W.given self.old.words) self.new.table.realm self.new.table.rows.items (W.given self.new.words) }
+        ensures exact { is_dropped self.old.table.realm conn act ≡ true → result ≡ Dropped }
+        ensures last_cut { self.new.last_cut ≡ self.old.last_cut }
+        ensures room { IsRoomy self.old → IsRoomy self.new }
+        ensures handled { self.new.handled ≡ self.old.handled }
+        ensures sound { Sound self.new.table.realm self.new.table.rows.items }
+        ensures knows { Knows self.old.table → Knows self.new.table }
+    {
+        if !self.table.realm.is_live(conn) {
+            return Outcome::Dropped;
+        }
+        if !draws(&act) {
+            return self.take_in(rt, alloc, entry_of(conn, act, 0), conn);
+        }
+        let word = self.words.next_word();
+        self.take_in(rt, alloc, entry_of(conn, act, word), conn)
+    }
+
+    // A connection joins, if it may.
+    pub(crate) fn join<R: Wait>(
+        &mut self,
+        rt: &R,
+        alloc: Global,
+        conn: Conn,
+        joining: Joining<S>,
+    ) -> Outcome
+        requires sound { Sound self.old.table.realm self.old.table.rows.items }
+        requires none { NoneFull self.old.table.rows.items }
+        requires own { joining.outbox.conn ≡ conn }
+        ensures outcome { Acts result (self.new ≡ self.old) conn (AJoin joining) self.old.table.realm self.old.table.rows.items (W.given self.old.words) self.new.table.realm self.new.table.rows.items (W.given self.new.words) }
+        ensures exact { may_join self.old.table.realm conn ≡ false → result ≡ Dropped }
+        ensures last_cut { self.new.last_cut.items ≡ self.old.last_cut.items }
+        ensures room { IsRoomy self.old → IsRoomy self.new }
+        ensures handled { self.new.handled ≡ self.old.handled }
+        ensures sound { Sound self.new.table.realm self.new.table.rows.items }
+        ensures knows { Knows self.old.table → Knows self.new.table }
+    {
+        let Joining {
+            authid,
+            outbox,
+            transport,
+        } = joining;
+        if !self.table.realm.may_join(conn) {
+            transport.shut();
+            return Outcome::Dropped;
+        }
+        if self.make_room().is_err() {
+            transport.shut();
+            return Outcome::NoMemory;
+        }
+        let word = self.words.next_word();
+        outbox.shows();
+        let row = Row::new(conn, outbox, transport);
+        let entry = Entry::Join { conn, word, authid };
+        match self.table.admit(rt, alloc, entry, conn, row) {
+            Ok(is_full) => {
+                self.table.cut_found(rt, alloc, &mut self.words, is_full);
+                Outcome::Applied
+            }
+            Err(row) => {
+                row.shut();
+                Outcome::NoMemory
+            }
+        }
+    }
+
+    // Makes room for one more row, and to name its connection.
+    fn make_room(&mut self) -> Result<(), AllocError>
+        ensures realm { self.new.table.realm ≡ self.old.table.realm }
+        ensures rows { self.new.table.rows.items ≡ self.old.table.rows.items }
+        ensures words { self.new.words ≡ self.old.words }
+        ensures handled { self.new.handled ≡ self.old.handled }
+        ensures knows { Knows self.old.table → Knows self.new.table }
+        ensures last_cut { self.new.last_cut.items ≡ self.old.last_cut.items }
+        ensures row { OnOk result (vec_len self.new.table.rows < vec_capacity self.new.table.rows) }
+        ensures room { OnOk result (length self.new.table.rows.items + 1 ≤ vec_capacity self.new.last_cut) }
+        ensures capacity { vec_capacity self.old.last_cut ≤ vec_capacity self.new.last_cut }
+    {
+        self.table.rows.reserve(1)?;
+        let rows = self.table.rows.len();
+        match rows.checked_add(1) {
+            Some(room) => self.last_cut.reserve(room),
+            None => Err(AllocError),
+        }
+    }
+}

@@ -1,0 +1,86 @@
+//! A post is handled.
+ghost use Rattle.std.specs.Prelude.{◌≡◌, true};
+ghost use Rattle.realm_actor.specs.declared.outcome.Outcome.TheVariants.{Dropped};
+ghost use Rattle.realm_actor.specs.Tables.{Sound};
+ghost use Rattle.realm_actor.specs.Cuts.{NoneFull};
+ghost use Rattle.realm_actor.specs.Handle.{is_dropped, Acts, Does};
+ghost use Rattle.realm_actor.specs.ActorView.{acting};
+ghost use Rattle.realm_actor.specs.Run.{Handles};
+ghost use Rattle.realm_actor.specs.Invariant.{IsRoomy, Knows, Stands};
+
+use crate::last_cut::name_all;
+use crate::outcome::Outcome;
+use crate::state::State;
+use crate::table::Table;
+use realm_inbox::{Act, IdSource, Letter, Post, Shut};
+use std::alloc::Global;
+use std::snapshot::Snapshot;
+use std::sync::Wait;
+use wamp_ids::Conn;
+
+impl<S: Shut, W: IdSource> State<S, W> {
+    // An act of a connection enters the history, or it is dropped, or for want of memory the session is cut.
+    fn act<R: Wait>(&mut self, rt: &R, alloc: Global, letter: Letter<S>) -> Outcome
+        requires sound { Sound self.old.table.realm self.old.table.rows.items }
+        requires none { NoneFull self.old.table.rows.items }
+        ensures outcome { Acts result (self.new ≡ self.old) letter.conn letter.act self.old.table.realm self.old.table.rows.items (W.given self.old.words) self.new.table.realm self.new.table.rows.items (W.given self.new.words) }
+        ensures exact { is_dropped self.old.table.realm letter.conn letter.act ≡ true → result ≡ Dropped }
+        ensures sound { Sound self.new.table.realm self.new.table.rows.items }
+        ensures knows { Knows self.old.table → Knows self.new.table }
+        ensures last_cut { self.new.last_cut.items ≡ self.old.last_cut.items }
+        ensures handled { self.new.handled ≡ self.old.handled }
+        ensures room { IsRoomy self.old → IsRoomy self.new }
+    {
+        let Letter {
+            conn,
+            act,
+            before: _,
+        } = letter;
+        match act {
+            Act::Join(joining) => self.join(rt, alloc, conn, joining),
+            other => self.enter(rt, alloc, conn, other),
+        }
+    }
+
+    // Handles an act of a connection, and names whom it found full, or cut for want of memory.
+    fn handle_act<R: Wait>(&mut self, rt: &R, alloc: Global, letter: Letter<S>) -> Outcome
+        requires stands { Stands self.old.table.realm self.old.table.rows.items }
+        requires knows { Knows self.old.table }
+        requires room { IsRoomy self.old }
+        ensures does { Does result letter.conn letter.act self.old.table.realm self.old.table.rows.items (W.given self.old.words) self.new.table.realm self.new.table.rows.items (W.given self.new.words) self.new.last_cut.items }
+        ensures exact { is_dropped self.old.table.realm letter.conn letter.act ≡ true → result ≡ Dropped }
+        ensures handled { self.new.handled ≡ self.old.handled }
+        ensures stands { Stands self.new.table.realm self.new.table.rows.items }
+        ensures knows { Knows self.new.table }
+        ensures room { IsRoomy self.new }
+    {
+        self.last_cut.clear();
+        let outcome = self.act(rt, alloc, letter);
+        let State {
+            table,
+            last_cut,
+            ..
+        } = self;
+        table.name(last_cut);
+        outcome
+    }
+
+    /// Handles a post, and names whom it found full, or cut for want of memory.
+    pub fn handle<R: Wait>(&mut self, rt: &R, alloc: Global, post: Post<S>) -> Outcome
+        requires stands { Stands self.old.table.realm self.old.table.rows.items }
+        requires knows { Knows self.old.table }
+        requires room { IsRoomy self.old }
+        ensures handles { Handles result post (acting (W.given self.old.words) self.old) (acting (W.given self.new.words) self.new) }
+        ensures stands { Stands self.new.table.realm self.new.table.rows.items }
+        ensures knows { Knows self.new.table }
+        ensures room { IsRoomy self.new }
+    {
+        match post {
+            Post::Act(letter) => {
+                self.handled.add(Snapshot::of(&letter));
+                self.handle_act(rt, alloc, letter)
+            }
+            Post::Stop => self.stop(rt, alloc),
+        }
+    }
+}

@@ -1,0 +1,123 @@
+//! How an actor runs.
+ghost use Rattle.std.specs.Prelude.{◌≡◌, ◌++◌, [], ◌∷◌, true, false, List, MatchOption};
+ghost use Rattle.realm.specs.History.{Begins};
+ghost use Rattle.realm_inbox.specs.declared.letter.Post.{Post as APost};
+ghost use Rattle.realm_inbox.specs.Seats.{InOrder};
+ghost use Rattle.realm_inbox.specs.EndViews.{received};
+ghost use Rattle.realm_actor.specs.ReceivedAhead.{NoneBehindStop, TakesNext};
+ghost use Rattle.realm_actor.specs.Run.{KeepsHeld, Ran, SameAtSeats, is_stop};
+
+use crate::actor::Actor;
+use realm_inbox::{IdSource, Inbox, Post, Shut};
+use std::alloc::Global;
+use std::collections::VecDeque;
+use std::sync::Wait;
+
+// How many posts may be handled, while more wait, before the writers of those that got something are woken.
+const MOST_UNWOKEN: u64 = 64;
+
+// How many posts the actor receives ahead, so that readers which wait at a full inbox find room for many at once.
+const MOST_AHEAD: usize = 256;
+
+// Whether it is a stop.
+fn is_stop<S: Shut>(post: &Post<S>) -> bool
+    ensures { result ≡ is_stop post.now }
+{
+    match post {
+        Post::Act(_) => false,
+        Post::Stop => true,
+    }
+}
+
+impl<S: Shut, W: IdSource> Actor<S, W> {
+    /// Handles what the inbox gives, until a stop was handled or each sender is gone. Before each post it forgets the sessions
+    /// that aren't live ([`Actor::sweep`]). What the actor has handled is, seat by seat, what the inbox has given so far.
+    ///
+    /// It receives up to 256 posts ahead, and none behind a stop: all that it received is handled when it returns. Where memory
+    /// for them is refused, it receives one by one. Writers are woken after at most 64 posts, and always before it waits.
+    pub fn run<R: Wait>(mut self, rt: &R, alloc: Global, inbox: &mut Inbox<S>) -> Actor<S, W>
+        requires in_turn { SameAtSeats self.handled (received inbox.old) }
+        ensures ran { (came : List (APost S)) × (received inbox.new ≡ received inbox.old ++ came) × InOrder (received inbox.old) came × Ran self came result }
+        ensures begins { Begins self.history result.history }
+        ensures held { KeepsHeld self result }
+    {
+        let mut ahead = VecDeque::new(alloc);
+        let mut unwoken = 0;
+        for _ in rt.forever() {
+            self.sweep();
+            let Some(post) = self.next_post(rt, inbox, &mut ahead, &mut unwoken) else {
+                return self;
+            };
+            let ends = is_stop(&post);
+            self.take(rt, alloc, post);
+            if ends {
+                self.wake();
+                return self;
+            }
+        }
+        unreachable!()
+    }
+
+    // The next post. Where none is there, or many were handled since, the writers are woken first.
+    fn next_post<R: Wait>(
+        &self,
+        rt: &R,
+        inbox: &mut Inbox<S>,
+        ahead: &mut VecDeque<Post<S>>,
+        unwoken: &mut u64,
+    ) -> Option<Post<S>>
+        ensures { MatchOption result ((received inbox.new ≡ received inbox.old) × (ahead.old.items ≡ []) × (ahead.new.items ≡ [])) (TakesNext (received inbox.old) (received inbox.new) ahead.old.items ahead.new.items) }
+    {
+        let ready = ready_post(rt, inbox, ahead);
+        self.wake_in_time(unwoken, ready.is_none());
+        if let Some(post) = ready {
+            return Some(post);
+        }
+        inbox.receive(rt)
+    }
+
+    // Wakes the writers if the actor is to wait, or has handled many posts since they were woken.
+    fn wake_in_time(&self, unwoken: &mut u64, waits: bool) {
+        if waits || MOST_UNWOKEN <= *unwoken {
+            self.wake();
+            *unwoken = 0;
+        }
+        *unwoken += 1;
+    }
+}
+
+// A post that is there: the first of those that were received ahead; where none is left, more are received, and posters that wait
+// for room are woken once for all of it.
+fn ready_post<S: Shut, R: Wait>(
+    rt: &R,
+    inbox: &mut Inbox<S>,
+    ahead: &mut VecDeque<Post<S>>,
+) -> Option<Post<S>>
+    ensures { MatchOption result ((received inbox.new ≡ received inbox.old) × (ahead.old.items ≡ []) × (ahead.new.items ≡ [])) (TakesNext (received inbox.old) (received inbox.new) ahead.old.items ahead.new.items) }
+{
+    if let Some(post) = ahead.pop_front() {
+        return Some(post);
+    }
+    receive_ahead(rt, inbox, ahead);
+    inbox.wake();
+    ahead.pop_front()
+}
+
+// Receives the posts that are there, none behind a stop. Room for them is made first, so that none is lost for want of memory.
+fn receive_ahead<S: Shut, R: Wait>(rt: &R, inbox: &mut Inbox<S>, ahead: &mut VecDeque<Post<S>>)
+    ensures { (more : List (APost S)) × (received inbox.new ≡ received inbox.old ++ more) × InOrder (received inbox.old) more × (ahead.new.items ≡ ahead.old.items ++ more) × NoneBehindStop more }
+{
+    if ahead.try_reserve(MOST_AHEAD).is_err() {
+        return;
+    }
+    for _place in 0..MOST_AHEAD {
+        let Some(post) = inbox.try_receive(rt) else {
+            return;
+        };
+        let is_last = is_stop(&post);
+        ahead.push_back_reserved(post);
+        if is_last {
+            return;
+        }
+    }
+}

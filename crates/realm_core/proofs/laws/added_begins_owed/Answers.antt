@@ -1,8 +1,0 @@
-use Rattle.realm.proofs.Following.{events-follow, events-while}
-use Rattle.realm.proofs.Admitted.{admitted}
-use Rattle.realm_core.proofs.Due.{takes-what-is-due}
-use Rattle.realm_core.proofs.Reached.{sound-of, taken-begins-owed, subscribed-first}
-use Rattle.realm_core.proofs.laws.added_begins_owed.Goals as goal
-
-pub returns : goal.returns
-returns c = record { added = λ w r. (sound-of w r).owing.begins; taken = λ w r. taken-begins-owed w (sound-of w r); due = λ w r. takes-what-is-due admitted events-while w (sound-of w r).is_history (taken-begins-owed w (sound-of w r)); subscribed_first = λ w r. subscribed-first events-follow w (sound-of w r) }

@@ -1,8 +1,0 @@
-use Rattle.realm_core.specs.Worlds.{new_world}
-use Rattle.realm.proofs.Following.{events-follow, events-while}
-use Rattle.realm.proofs.Admitted.{admitted}
-use Rattle.realm_core.proofs.Reached.{sound-new, sound-reached, delivers}
-use Rattle.realm_core.proofs.laws.delivers_over_every_schedule.Goals as goal
-
-pub returns : goal.returns
-returns c = λ grants inbox_cap outbox_cap steps w reaches. delivers events-follow admitted events-while w (sound-reached (new_world grants inbox_cap outbox_cap) steps w (sound-new grants inbox_cap outbox_cap) reaches)

@@ -1,0 +1,123 @@
+-- What an inbox carries, and its ends, may go to other threads where the transport may.
+use denote.RattleType.{RattleType}
+use denote.Struct.Field.{row_field}
+use denote.Param.Send.{IsSend, IsSync, sendable}
+use denote.Param.SendFields.{declared_send, variants_send, as_row_send}
+use Rattle.std.proofs.Crossing.{crosses}
+use Rattle.std.proofs.Crossing as heap
+use Rattle.std.specs.contracts.alloc.Global as Global
+use Rattle.std.specs.contracts.impls.GlobalAllocator.TheImpl as global
+use Rattle.std.specs.contracts.option.Option as Option
+use Rattle.std.specs.contracts.sync.Arc as Arc
+use Rattle.atomic_table.proofs.badge.Badge.TheSendSync as badge
+use Rattle.atomic_table.proofs.shared.Seat.TheSendSync as ticket
+use Rattle.atomic_table.specs.contracts.badge.Badge as Badge
+use Rattle.crossbeam_channel.proofs.flavors.array.Rows.TheSendSync as rows
+use Rattle.crossbeam_channel.proofs.flavors.array.ruled.Receiving.TheSendSync as receiving
+use Rattle.crossbeam_channel.proofs.flavors.array.ruled.Sending.TheSendSync as sending
+use Rattle.crossbeam_channel.specs.contracts.flavors.array.Doing as Doing
+use Rattle.crossbeam_channel.specs.contracts.flavors.array.Key as Key
+use Rattle.crossbeam_channel.specs.contracts.flavors.array.Lockers as Lockers
+use Rattle.crossbeam_channel.specs.contracts.flavors.array.LockersTableRuleOptionKeyUnit.TheImpl as lockers
+use Rattle.crossbeam_channel.specs.contracts.flavors.array.Rounds as Rounds
+use Rattle.crossbeam_channel.specs.contracts.flavors.array.RoundsTableRuleBadgeKeyDoingBadgeKey.TheImpl as rounds
+use Rattle.crossbeam_channel.specs.contracts.flavors.array.Rows as Rows
+use Rattle.crossbeam_channel.specs.contracts.flavors.array.Whole as Whole
+use Rattle.crossbeam_channel.specs.contracts.flavors.array.WholeSight.TheImpl as whole
+use Rattle.crossbeam_channel.specs.contracts.flavors.array.ruled.Receiving as Receiving
+use Rattle.crossbeam_channel.specs.contracts.flavors.array.ruled.Sending as Sending
+use Rattle.crossbeam_utils.proofs.sync.parker.RuledParker.TheSendSync as parker
+use Rattle.crossbeam_utils.proofs.sync.parker.RuledUnparker.TheSendSync as unparker
+use Rattle.message_tree.proofs.SendLemmas.{octets_send, text_send}
+use Rattle.message_tree.specs.contracts.owned.Octets as Octets
+use Rattle.outbox_queue.proofs.SendLemmas.{outbox_send}
+use Rattle.outbox_queue.specs.contracts.outbox.Outbox as Outbox
+use Rattle.session.proofs.SendLemmas.{item_send, said_send}
+use Rattle.session.specs.contracts.messages.item.Item as Item
+use Rattle.realm_inbox.specs.contracts.act.Act as Act
+use Rattle.realm_inbox.specs.contracts.ends.Door as Door
+use Rattle.realm_inbox.specs.contracts.ends.Inbox as Inbox
+use Rattle.realm_inbox.specs.contracts.ends.Poster as Poster
+use Rattle.realm_inbox.specs.contracts.ends.Seat as Seat
+use Rattle.realm_inbox.specs.contracts.history.RealmHistory as RealmHistory
+use Rattle.realm_inbox.specs.contracts.history.RealmHistoryOwedItem.TheImpl as owed
+use Rattle.realm_inbox.specs.contracts.joining.Joining as Joining
+use Rattle.realm_inbox.specs.contracts.letter.Letter as Letter
+use Rattle.realm_inbox.specs.contracts.letter.Post as Post
+use Rattle.realm_inbox.specs.contracts.room_bell.RoomBell as RoomBell
+use Rattle.realm_inbox.specs.contracts.rule.InTurn as InTurn
+use Rattle.realm_inbox.specs.contracts.rule.InTurnProtocolPostView.TheImpl as in_turn
+use Rattle.realm_inbox.specs.contracts.rule.View as View
+use Rattle.realm_inbox.specs.contracts.bells.Bells as Bells
+use Rattle.realm_inbox.specs.declared.transport.Shut.{Ghosts}
+
+option_send : (R : RattleType) → IsSend R → IsSend (Option.the_row R)
+option_send R s = search (sendable, crosses) depth 40
+
+bell_send : IsSend RoomBell.the_row
+bell_send = search (crosses, sendable) depth 60
+
+bell_sync : IsSync RoomBell.the_row
+bell_sync = search (crosses, sendable) depth 60
+
+room_send : IsSend (Arc.the_row RoomBell.the_row Global.the_row global.ghosts)
+room_send = heap.Arc-send _ bell_send bell_sync
+
+bells_send : IsSend Bells.the_row
+bells_send = declared_send Bells.the_type (as_row_send (Arc.the_field RoomBell.the_row Global.the_row global.ghosts) room_send, (search (unparker.the_field_send, unparker.the_send, crosses, heap.send, heap.sync, heap.frees, sendable) depth 60, tt))
+
+items_send : IsSend (Outbox.the_row Item.the_row RealmHistory.the_row owed.ghosts)
+items_send = outbox_send Item.the_row RealmHistory.the_row owed.ghosts item_send
+
+module _ (S : RattleType) where
+  joining_send : IsSend S → IsSend (Joining.the_row S)
+  joining_send s = declared_send (Joining.the_type S) (search (text_send, crosses, sendable) depth 60, (as_row_send (Outbox.the_field Item.the_row RealmHistory.the_row owed.ghosts) items_send, (as_row_send (row_field S) s, tt)))
+
+  act_send : IsSend S → IsSend (Act.the_row S)
+  act_send s = variants_send (Act.enum S) ((joining_send s, tt), ((said_send, tt), ((as_row_send (Octets.the_field) octets_send, tt), (tt, (tt, tt)))))
+
+  letter_send : IsSend S → IsSend (Letter.the_row S)
+  letter_send s = declared_send (Letter.the_type S) (search (crosses, sendable) depth 60, (act_send s, (search (crosses, sendable) depth 60, tt)))
+
+  post_send : IsSend S → IsSend (Post.the_row S)
+  post_send s = variants_send (Post.enum S) ((letter_send s, tt), (tt, tt))
+
+module _ (S : RattleType) (shut : Ghosts S.Denot) where
+  abbrev post : RattleType
+  post = Post.the_row S
+
+  abbrev key : RattleType
+  key = Badge.the_row (Key.the_row post)
+
+  abbrev channel : RattleType
+  channel = Rows.the_row key (Doing.the_row post (View.the_row S)) (Rounds.the_row InTurn.the_row) (Option.the_row post) (Key.the_row post) (Lockers.the_row Whole.the_row) Global.the_row
+      (rounds.ghosts post (View.the_row S) InTurn.the_row (in_turn.ghosts S shut in_turn.no_dict in_turn.no_dict) rounds.no_dict) (lockers.ghosts post post Whole.the_row (whole.ghosts post) lockers.no_dict) global.ghosts
+
+  key_send : IsSend key
+  key_send = badge.the_send _
+
+  channel_send : IsSend S → IsSend channel
+  channel_send s = rows.the_send _ _ _ _ _ _ _ (rounds.ghosts post (View.the_row S) InTurn.the_row (in_turn.ghosts S shut in_turn.no_dict in_turn.no_dict) rounds.no_dict) (lockers.ghosts post post Whole.the_row (whole.ghosts post) lockers.no_dict) global.ghosts
+      key_send (option_send post (post_send S s)) heap.send heap.frees
+
+  channel_sync : IsSend S → IsSync channel
+  channel_sync s = rows.the_sync _ _ _ _ _ _ _ (rounds.ghosts post (View.the_row S) InTurn.the_row (in_turn.ghosts S shut in_turn.no_dict in_turn.no_dict) rounds.no_dict) (lockers.ghosts post post Whole.the_row (whole.ghosts post) lockers.no_dict) global.ghosts
+      key_send (option_send post (post_send S s)) heap.send heap.sync heap.frees
+
+  receiving_send : IsSend S → IsSend (Receiving.the_row channel Global.the_row global.ghosts)
+  receiving_send s = receiving.the_send _ _ global.ghosts (channel_send s) heap.send (channel_sync s) heap.sync heap.frees
+
+  sending_send : IsSend S → IsSend (Sending.the_row channel Global.the_row global.ghosts)
+  sending_send s = sending.the_send _ _ global.ghosts (channel_send s) heap.send (channel_sync s) heap.sync heap.frees
+
+  pub inbox_send : IsSend S → IsSend (Inbox.the_row S shut)
+  inbox_send s = declared_send (Inbox.the_type S shut) (search sendable, (receiving_send s, (as_row_send (Arc.the_field RoomBell.the_row Global.the_row global.ghosts) room_send, (search (parker.the_field_send, parker.the_send, crosses, heap.send, heap.sync, heap.frees, sendable) depth 60, (ticket.the_send _ _ key_send, tt)))))
+
+  pub seat_send : IsSend S → IsSend (Seat.the_row S shut)
+  seat_send s = declared_send (Seat.the_type S shut) (search sendable, (search (crosses, sendable) depth 60, (sending_send s, (search (bells_send, crosses, sendable) depth 60, (ticket.the_send _ _ key_send, tt)))))
+
+  pub poster_send : IsSend S → IsSend (Poster.the_row S shut)
+  poster_send s = declared_send (Poster.the_type S shut) (search (crosses, sendable) depth 60, (seat_send s, tt))
+
+  pub door_send : IsSend S → IsSend (Door.the_row S shut)
+  door_send s = declared_send (Door.the_type S shut) (sending_send s, (search (bells_send, crosses, sendable) depth 60, (ticket.the_send _ _ key_send, tt)))

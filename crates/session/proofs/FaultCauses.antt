@@ -1,0 +1,90 @@
+-- The causes of a device's faults, and that frames decide none of them.
+use Rattle.std.proofs.Common.{◌≡◌, ◌⊎◌, ℕ, Bool, true, false, cond, List, [], ◌∷◌, length, get_or, nat_lt, Option, Some, None, inl, inr, refl, sym, subst}
+use Rattle.rawsocket.specs.Frames.{Content, fault_of, length_at}
+use Rattle.rawsocket.specs.declared.fault.Fault as stream
+use Rattle.rawsocket.specs.declared.fault.Fault.TheVariants as of_stream
+use Rattle.rawsocket.specs.declared.frame.Kind.{Kind}
+use Rattle.rawsocket.specs.declared.frame.Kind.TheVariants.{Message, Ping, Pong}
+use Rattle.rawsocket.specs.declared.handshake.Serializer.{Serializer}
+use Rattle.rawsocket.specs.declared.handshake.Serializer.TheVariants.{Json, MsgPack}
+use Rattle.session.specs.Faults.{stream_fault}
+use Rattle.session.specs.Opened.{HasCause, IsRefused, Leads, LeadsBy, Verdict, Undecided, Opens, Refuses}
+use Rattle.session.specs.declared.fault.Fault.{Fault}
+use Rattle.session.specs.declared.fault.Fault.TheVariants.{NoMemory, TooDeep, Malformed, NotRawSocket, SerializerUnsupported, ReservedBits, FrameTooLong, FrameType, Shape, ReadFault, WriteFault, TooLongForClient, Ended, NoSuchRealm, TooManyTurns}
+
+-- the same cause, seen from further before
+pub weaker : (f : Fault) (ended later : Bool) (r r2 w w2 u u2 : Type 0) → (ended ≡ true → later ≡ true) → (r → r2) → (w → w2) → (u → u2) → HasCause ended r w u f → HasCause later r2 w2 u2 f
+weaker NoMemory ended later r r2 w w2 u u2 fe fr fw fu h = tt
+weaker TooDeep ended later r r2 w w2 u u2 fe fr fw fu h = tt
+weaker Malformed ended later r r2 w w2 u u2 fe fr fw fu h = tt
+weaker NotRawSocket ended later r r2 w w2 u u2 fe fr fw fu h = tt
+weaker SerializerUnsupported ended later r r2 w w2 u u2 fe fr fw fu h = tt
+weaker ReservedBits ended later r r2 w w2 u u2 fe fr fw fu h = tt
+weaker FrameTooLong ended later r r2 w w2 u u2 fe fr fw fu h = tt
+weaker FrameType ended later r r2 w w2 u u2 fe fr fw fu h = tt
+weaker Shape ended later r r2 w w2 u u2 fe fr fw fu h = tt
+weaker ReadFault ended later r r2 w w2 u u2 fe fr fw fu h = fr h
+weaker WriteFault ended later r r2 w w2 u u2 fe fr fw fu h = fw h
+weaker TooLongForClient ended later r r2 w w2 u u2 fe fr fw fu h = tt
+weaker Ended ended later r r2 w w2 u u2 fe fr fw fu h = fe h
+weaker NoSuchRealm ended later r r2 w w2 u u2 fe fr fw fu h = tt
+weaker TooManyTurns ended later r r2 w w2 u u2 fe fr fw fu h = fu h
+
+-- frames refuse for no fault of a device
+abbrev pub NeedsNoCause : Verdict → Type 1
+NeedsNoCause Undecided = (e : Bool) (r w u : Type 0) → Unit {0}
+NeedsNoCause (Opens realm authid early) = (e : Bool) (r w u : Type 0) → Unit {0}
+NeedsNoCause (Refuses f) = (e : Bool) (r w u : Type 0) → HasCause e r w u f
+
+refused_for : (s : Serializer) (realms : List (List ℕ)) (payload : List ℕ) (f : Fault) → IsRefused s realms payload f → NeedsNoCause (Refuses f)
+refused_for s realms payload NoMemory h = λ e r w u. tt
+refused_for s realms payload TooDeep h = λ e r w u. tt
+refused_for s realms payload Malformed h = λ e r w u. tt
+refused_for s realms payload NotRawSocket h = λ e r w u. tt
+refused_for s realms payload SerializerUnsupported h = λ e r w u. tt
+refused_for s realms payload ReservedBits h = λ e r w u. tt
+refused_for s realms payload FrameTooLong h = λ e r w u. tt
+refused_for s realms payload FrameType h = λ e r w u. tt
+refused_for s realms payload Shape h = λ e r w u. tt
+refused_for Json realms payload ReadFault h = absurd h
+refused_for MsgPack realms payload ReadFault h = absurd h
+refused_for Json realms payload WriteFault h = absurd h
+refused_for MsgPack realms payload WriteFault h = absurd h
+refused_for s realms payload TooLongForClient h = λ e r w u. tt
+refused_for Json realms payload Ended h = absurd h
+refused_for MsgPack realms payload Ended h = absurd h
+refused_for s realms payload NoSuchRealm h = λ e r w u. tt
+refused_for Json realms payload TooManyTurns h = absurd h
+refused_for MsgPack realms payload TooManyTurns h = absurd h
+
+-- a header breaks one of two rules
+fault_by : (a b c : Bool) (f : stream.Fault) → cond a None (cond b (Some of_stream.FrameType) (cond c (Some of_stream.FrameTooLong) None)) ≡ Some f → (f ≡ of_stream.FrameType) ⊎ (f ≡ of_stream.FrameTooLong)
+fault_by true b c f e = absurd (cc)
+fault_by false true c f e = inl (cc)
+fault_by false false true f e = inr (cc)
+fault_by false false false f e = absurd (cc)
+
+header_faults : (octets : List ℕ) (f : stream.Fault) → fault_of octets ≡ Some f → (f ≡ of_stream.FrameType) ⊎ (f ≡ of_stream.FrameTooLong)
+header_faults octets f e = fault_by (nat_lt (length octets) 4) (nat_lt 2 (get_or octets 0 0)) (nat_lt 1048576 (length_at octets)) f e
+
+rest_refused : (f : stream.Fault) → (f ≡ of_stream.FrameType) ⊎ (f ≡ of_stream.FrameTooLong) → NeedsNoCause (Refuses (stream_fault f))
+rest_refused f (inl e) = subst (λ x. NeedsNoCause (Refuses (stream_fault x))) (sym e) (λ ended r w u. tt)
+rest_refused f (inr e) = subst (λ x. NeedsNoCause (Refuses (stream_fault x))) (sym e) (λ ended r w u. tt)
+
+module _ (s : Serializer) (limit : ℕ) (realms : List (List ℕ)) where
+  by_kind : (k : Kind) (payload : List ℕ) (frames : List Content) (Next : List ℕ → Verdict → Type 0) (out : List ℕ) (v : Verdict) → ((o : List ℕ) → Next o v → NeedsNoCause v)
+      → LeadsBy s limit realms payload frames Next k out v → NeedsNoCause v
+  by_kind Message payload frames Next out v next (inl greets) = subst NeedsNoCause (sym greets.verdict) (λ e r w u. tt)
+  by_kind Message payload frames Next out v next (inr fails) = subst NeedsNoCause (sym fails.verdict) (refused_for s realms payload fails.fault fails.refused)
+  by_kind Ping payload frames Next out v next (inl answers) = next answers.more answers.next
+  by_kind Ping payload frames Next out v next (inr long) = subst NeedsNoCause (sym long.verdict) (λ e r w u. tt)
+  by_kind Pong payload frames Next out v next w = next out w
+
+  at_end : (fault : Option stream.Fault) (out : List ℕ) (v : Verdict) → ((f : stream.Fault) → fault ≡ Some f → (f ≡ of_stream.FrameType) ⊎ (f ≡ of_stream.FrameTooLong))
+      → Leads s limit realms fault [] out v → NeedsNoCause v
+  at_end None out v two w = subst NeedsNoCause (sym w.1) (λ e r t u. tt)
+  at_end (Some f) out v two w = subst NeedsNoCause (sym w.1) (rest_refused f (two f refl))
+
+  pub Leads-needs_no_cause : (held : List ℕ) (frames : List Content) (out : List ℕ) (v : Verdict) → Leads s limit realms (fault_of held) frames out v → NeedsNoCause v
+  Leads-needs_no_cause held [] out v w = at_end (fault_of held) out v (header_faults held) w
+  Leads-needs_no_cause held (c ∷ frames) out v w = by_kind c.kind c.payload frames (Leads s limit realms (fault_of held) frames) out v (λ o next. Leads-needs_no_cause held frames o v next) w

@@ -1,0 +1,9 @@
+//! The messages of a session, as types and as trees.
+
+pub(crate) mod args;
+pub(crate) mod details;
+pub(crate) mod elements;
+pub(crate) mod from_client;
+pub(crate) mod item;
+pub(crate) mod said;
+pub(crate) mod to_client;

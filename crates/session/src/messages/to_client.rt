@@ -1,0 +1,280 @@
+ghost use Rattle.std.specs.Prelude.{◌≡◌, ◌≤◌, IfOk, IfErr, IfSome, Some, option_map, true};
+ghost use Rattle.message_tree.specs.Data.{text, dict, list, item, no_items, depth, items_depth, entries_depth, is_carried, items_carried, entries_carried};
+ghost use Rattle.message_tree.specs.View.{view, items_view, dict_view};
+ghost use Rattle.message_tree.specs.Meaning.{meaning};
+ghost use Rattle.session.specs.ToClient.{number, uri_of, type_of, triple, unsubscribed, farewell, error, welcome, event, message_of};
+
+use crate::fault::Fault;
+use crate::messages::details::{dictionary, event_details, number, text, welcome_details};
+use crate::messages::item::{Item, Publication, Reason, Request};
+use eligibility::Who;
+use message_tree::{Content, Dict, Message, Tree};
+use std::alloc::Global;
+use wamp_ids::Id;
+
+/// The message that tells a client an item (WAMP, "Messages"); `None` for a PONG, which is a frame
+/// and no message. Every serialization writes it: nothing in it is uncarried.
+///
+/// # Errors
+/// [`Fault::NoMemory`] where a growth was refused.
+pub fn item_message(alloc: Global, item: &Item) -> Result<Option<Message>, Fault>
+    ensures ok { IfOk result (λ m. option_map meaning m ≡ message_of item.now) }
+    ensures carried { IfOk result (λ m. IfSome m (λ m. is_carried (meaning m) ≡ true)) }
+    ensures err { IfErr result (λ fault. fault ≡ Fault.NoMemory) }
+{
+    match item {
+        Item::Welcome(who) => Ok(Some(welcome(alloc, who)?)),
+        Item::Abort(reason) => Ok(Some(farewell(alloc, 3, *reason)?)),
+        Item::Goodbye(reason) => Ok(Some(farewell(alloc, 6, *reason)?)),
+        Item::Error {
+            kind,
+            request,
+            reason,
+        } => Ok(Some(error(alloc, *kind, *request, *reason)?)),
+        Item::Published {
+            request,
+            publication,
+        } => Ok(Some(triple(alloc, 17, *request, *publication)?)),
+        Item::Subscribed {
+            request,
+            subscription,
+        } => Ok(Some(triple(alloc, 33, *request, *subscription)?)),
+        Item::Unsubscribed { request } => Ok(Some(unsubscribed(alloc, *request)?)),
+        Item::Event {
+            subscription,
+            publication,
+            with_topic,
+            retained,
+        } => Ok(Some(event(
+            alloc,
+            *subscription,
+            publication.value(),
+            *with_topic,
+            *retained,
+        )?)),
+        Item::Pong(_) => Ok(None),
+    }
+}
+
+/// The URI of a reason.
+pub(crate) fn uri(reason: Reason) -> &'static str
+    ensures { result.now ≡ uri_of reason }
+{
+    match reason {
+        Reason::ProtocolViolation => "wamp.error.protocol_violation",
+        Reason::NoSuchRealm => "wamp.error.no_such_realm",
+        Reason::NotAuthorized => "wamp.error.not_authorized",
+        Reason::SessionIdTaken => "broker.error.session_id_taken",
+        Reason::InvalidUri => "wamp.error.invalid_uri",
+        Reason::InvalidArgument => "wamp.error.invalid_argument",
+        Reason::NoSuchSubscription => "wamp.error.no_such_subscription",
+        Reason::TooManySubscriptions => "broker.error.too_many_subscriptions",
+        Reason::RetainedFull => "broker.error.retained_full",
+        Reason::GoodbyeAndOut => "wamp.close.goodbye_and_out",
+        Reason::SystemShutdown => "wamp.close.system_shutdown",
+    }
+}
+
+fn type_number(kind: Request) -> u64
+    ensures { result ≡ type_of kind }
+{
+    match kind {
+        Request::Publish => 16,
+        Request::Subscribe => 32,
+        Request::Unsubscribe => 34,
+    }
+}
+
+/// A message of these elements, which are few levels deep.
+fn message(elements: Vec<Tree>) -> Message
+    requires bounded { items_depth (items_view elements.items) ≤ 99 }
+    requires carried { items_carried (items_view elements.items) ≡ true }
+    ensures value { meaning result ≡ list (items_view elements.items) }
+    ensures carried { is_carried (meaning result) ≡ true }
+{
+    match Message::of(Tree::List(elements)) {
+        Ok(message) => message,
+        Err(_) => unreachable!(),
+    }
+}
+
+fn triple(alloc: Global, kind: u64, request: Id, other: Id) -> Result<Message, Fault>
+    ensures ok { IfOk result (λ m. meaning m ≡ triple kind request other) }
+    ensures carried { IfOk result (λ m. is_carried (meaning m) ≡ true) }
+    ensures err { IfErr result (λ fault. fault ≡ Fault.NoMemory) }
+{
+    let elements = vec![in alloc;
+        number(kind),
+        number(request.value()),
+        number(other.value()),
+    ]?;
+    Ok(message(elements))
+}
+
+fn unsubscribed(alloc: Global, request: Id) -> Result<Message, Fault>
+    ensures ok { IfOk result (λ m. meaning m ≡ unsubscribed request) }
+    ensures carried { IfOk result (λ m. is_carried (meaning m) ≡ true) }
+    ensures err { IfErr result (λ fault. fault ≡ Fault.NoMemory) }
+{
+    let elements = vec![in alloc; number(35), number(request.value())]?;
+    Ok(message(elements))
+}
+
+/// ABORT, of type 3, or GOODBYE, of type 6.
+pub(crate) fn farewell(alloc: Global, kind: u64, reason: Reason) -> Result<Message, Fault>
+    ensures ok { IfOk result (λ m. meaning m ≡ farewell kind reason) }
+    ensures carried { IfOk result (λ m. is_carried (meaning m) ≡ true) }
+    ensures err { IfErr result (λ fault. fault ≡ Fault.NoMemory) }
+{
+    let reason = text(alloc, uri(reason))?;
+    let details = dictionary(Dict::new(alloc));
+    let elements = vec![in alloc; number(kind), details, reason]?;
+    Ok(message(elements))
+}
+
+fn error(alloc: Global, kind: Request, request: Id, reason: Reason) -> Result<Message, Fault>
+    ensures ok { IfOk result (λ m. meaning m ≡ error kind request reason) }
+    ensures carried { IfOk result (λ m. is_carried (meaning m) ≡ true) }
+    ensures err { IfErr result (λ fault. fault ≡ Fault.NoMemory) }
+{
+    let reason = text(alloc, uri(reason))?;
+    let details = dictionary(Dict::new(alloc));
+    let kind = type_number(kind);
+    let elements = vec![in alloc;
+        number(8),
+        number(kind),
+        number(request.value()),
+        details,
+        reason,
+    ]?;
+    Ok(message(elements))
+}
+
+fn welcome(alloc: Global, who: &Who) -> Result<Message, Fault>
+    ensures ok { IfOk result (λ m. meaning m ≡ welcome who.now) }
+    ensures carried { IfOk result (λ m. is_carried (meaning m) ≡ true) }
+    ensures err { IfErr result (λ fault. fault ≡ Fault.NoMemory) }
+{
+    let details = dictionary(welcome_details(alloc, who)?);
+    let elements = vec![in alloc; number(2), number(who.id.value()), details]?;
+    Ok(message(elements))
+}
+
+fn event(
+    alloc: Global,
+    subscription: Id,
+    made: &Publication,
+    with_topic: bool,
+    retained: bool,
+) -> Result<Message, Fault>
+    ensures ok { IfOk result (λ m. meaning m ≡ event subscription made.now with_topic retained) }
+    ensures carried { IfOk result (λ m. is_carried (meaning m) ≡ true) }
+    ensures err { IfErr result (λ fault. fault ≡ Fault.NoMemory) }
+{
+    let details = event_details(alloc, made, with_topic, retained)?;
+    let payload = made.args.args();
+    match (payload.args(), payload.kwargs()) {
+        (None, _) => event_without_arguments(alloc, subscription, made.id, details),
+        (Some(args), None) => {
+            let args = copy(alloc, args)?;
+            event_with_arguments(alloc, subscription, made.id, details, args)
+        }
+        (Some(args), Some(kwargs)) => {
+            let args = copy(alloc, args)?;
+            let kwargs = copy(alloc, kwargs)?;
+            event_with_both(alloc, subscription, made.id, details, args, kwargs)
+        }
+    }
+}
+
+/// [EVENT, Subscription, Publication, Details]
+fn event_without_arguments(
+    alloc: Global,
+    subscription: Id,
+    publication: Id,
+    details: Dict,
+) -> Result<Message, Fault>
+    requires shallow { entries_depth (dict_view details) ≤ 98 }
+    requires writable { entries_carried (dict_view details) ≡ true }
+    ensures ok { IfOk result (λ m. meaning m ≡ list (item (number 36) (item (number subscription)
+        (item (number publication) (item (dict (dict_view details)) no_items))))) }
+    ensures carried { IfOk result (λ m. is_carried (meaning m) ≡ true) }
+    ensures err { IfErr result (λ fault. fault ≡ Fault.NoMemory) }
+{
+    let elements = vec![in alloc;
+        number(36),
+        number(subscription.value()),
+        number(publication.value()),
+        dictionary(details),
+    ]?;
+    Ok(message(elements))
+}
+
+/// [EVENT, Subscription, Publication, Details, Arguments]
+fn event_with_arguments(
+    alloc: Global,
+    subscription: Id,
+    publication: Id,
+    details: Dict,
+    args: Tree,
+) -> Result<Message, Fault>
+    requires shallow { entries_depth (dict_view details) ≤ 98 }
+    requires writable { entries_carried (dict_view details) ≡ true }
+    requires args_shallow { depth (view args) ≤ 99 }
+    requires args_writable { is_carried (view args) ≡ true }
+    ensures ok { IfOk result (λ m. meaning m ≡ list (item (number 36) (item (number subscription)
+        (item (number publication) (item (dict (dict_view details)) (item (view args) no_items)))))) }
+    ensures carried { IfOk result (λ m. is_carried (meaning m) ≡ true) }
+    ensures err { IfErr result (λ fault. fault ≡ Fault.NoMemory) }
+{
+    let elements = vec![in alloc;
+        number(36),
+        number(subscription.value()),
+        number(publication.value()),
+        dictionary(details),
+        args,
+    ]?;
+    Ok(message(elements))
+}
+
+/// [EVENT, Subscription, Publication, Details, Arguments, ArgumentsKw]
+fn event_with_both(
+    alloc: Global,
+    subscription: Id,
+    publication: Id,
+    details: Dict,
+    args: Tree,
+    kwargs: Tree,
+) -> Result<Message, Fault>
+    requires shallow { entries_depth (dict_view details) ≤ 98 }
+    requires writable { entries_carried (dict_view details) ≡ true }
+    requires args_shallow { depth (view args) ≤ 99 }
+    requires args_writable { is_carried (view args) ≡ true }
+    requires kwargs_shallow { depth (view kwargs) ≤ 99 }
+    requires kwargs_writable { is_carried (view kwargs) ≡ true }
+    ensures ok { IfOk result (λ m. meaning m ≡ list (item (number 36) (item (number subscription)
+        (item (number publication) (item (dict (dict_view details))
+        (item (view args) (item (view kwargs) no_items))))))) }
+    ensures carried { IfOk result (λ m. is_carried (meaning m) ≡ true) }
+    ensures err { IfErr result (λ fault. fault ≡ Fault.NoMemory) }
+{
+    let elements = vec![in alloc;
+        number(36),
+        number(subscription.value()),
+        number(publication.value()),
+        dictionary(details),
+        args,
+        kwargs,
+    ]?;
+    Ok(message(elements))
+}
+
+fn copy(alloc: Global, content: &Content) -> Result<Tree, Fault>
+    ensures ok { IfOk result (λ t. view t ≡ content.now) }
+    ensures err { IfErr result (λ fault. fault ≡ Fault.NoMemory) }
+{
+    match content.tree().try_copy(alloc) {
+        Ok(tree) => Ok(tree),
+        Err(_) => Err(Fault::NoMemory),
+    }
+}

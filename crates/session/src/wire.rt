@@ -1,0 +1,6 @@
+//! The octets of frames: items and payloads in either serialization.
+
+pub(crate) mod appender;
+pub(crate) mod event_details;
+pub(crate) mod item_frames;
+pub(crate) mod serializer;

@@ -1,0 +1,299 @@
+//! Items as octets, written straight from what they hold.
+ghost use Rattle.std.specs.Prelude.{◌≡◌, ◌≤◌, ◌<◌, ◌+◌, ◌++◌, ◌⊎◌, OnOk, OnErr, IfErr, Some, true, false};
+ghost use Rattle.message_tree.specs.Data.{item, no_items};
+ghost use Rattle.msgpack_codec.specs.Short.{item_count};
+ghost use Rattle.rawsocket.specs.Frames.{spelled};
+ghost use Rattle.rawsocket.specs.declared.handshake.Serializer.{Serializer};
+ghost use Rattle.session.specs.ItemFrames.{frame_of, octets_of, Fits, IsSpelled, IsUnspelled, IsTooLong};
+ghost use Rattle.session.specs.body.SerializedParts.{has_spelling, items_have_spelling, list_opening, further};
+ghost use Rattle.session.specs.Serializer.{serialized};
+ghost use Rattle.session.specs.Arguments.{is_all_carried, last_items};
+ghost use Rattle.session.specs.ToClient.{number, event, triple, unsubscribed, message_of};
+
+use crate::fault::Fault;
+use crate::messages::args::{Args, CarriedArgs};
+use crate::messages::item::{Item, Publication};
+use crate::messages::to_client::item_message;
+use crate::wire::appender::Appender;
+use crate::wire::event_details::put_details;
+use rawsocket::{Kind, Serializer, fill_header};
+use std::alloc::Global;
+use std::mem;
+use wamp_ids::Id;
+
+/// How many elements the arguments are in a message.
+fn count_of(args: &Args) -> u8
+    ensures { result ≡ item_count (last_items args.now.args args.now.kwargs) }
+{
+    match (args.args(), args.kwargs()) {
+        (None, _) => 0,
+        (Some(_), None) => 1,
+        (Some(_), Some(_)) => 2,
+    }
+}
+
+/// Three numbers as the first elements of a list of so many.
+fn put_numbers(
+    out: &mut Appender,
+    alloc: Global,
+    serializer: Serializer,
+    count: u8,
+    numbers: (u64, u64, u64),
+) -> Result<(), Fault>
+    requires { count < 16 }
+    ensures ok { OnOk result (out.new.since ≡ out.old.since ++ (list_opening serializer count
+        ++ (serialized serializer (number numbers.0)
+        ++ further serializer (item (number numbers.1) (item (number numbers.2) no_items))))) }
+    ensures before { out.new.before ≡ out.old.before }
+    ensures err { IfErr result (λ f. f ≡ Fault.NoMemory) }
+{
+    out.open_list(serializer, count)?;
+    out.put_number(alloc, serializer, numbers.0)?;
+    out.separate(serializer)?;
+    out.put_number(alloc, serializer, numbers.1)?;
+    out.separate(serializer)?;
+    out.put_number(alloc, serializer, numbers.2)
+}
+
+/// Arguments, each behind a separator.
+pub(crate) fn put_args(
+    out: &mut Appender,
+    alloc: Global,
+    serializer: Serializer,
+    args: &Args,
+) -> Result<(), Fault>
+    requires { is_all_carried args.now ≡ true }
+    ensures ok { OnOk result (out.new.since ≡ out.old.since
+        ++ further serializer (last_items args.now.args args.now.kwargs)) }
+    ensures spelled { OnOk result
+        (items_have_spelling serializer (last_items args.now.args args.now.kwargs) ≡ true) }
+    ensures unspelled { result ≡ Err Fault.TooLongForClient
+        → items_have_spelling serializer (last_items args.now.args args.now.kwargs) ≡ false }
+    ensures before { out.new.before ≡ out.old.before }
+    ensures fault { IfErr result (λ f. (f ≡ Fault.NoMemory) ⊎ (f ≡ Fault.TooLongForClient)) }
+{
+    match (args.args(), args.kwargs()) {
+        (None, _) => Ok(()),
+        (Some(args), None) => {
+            out.separate(serializer)?;
+            out.put_tree(alloc, serializer, args.tree())
+        }
+        (Some(args), Some(kwargs)) => {
+            out.separate(serializer)?;
+            out.put_tree(alloc, serializer, args.tree())?;
+            out.separate(serializer)?;
+            out.put_tree(alloc, serializer, kwargs.tree())
+        }
+    }
+}
+
+/// Arguments, each behind a separator: what is encoded of them is copied.
+fn put_tail(
+    out: &mut Appender,
+    alloc: Global,
+    serializer: Serializer,
+    carried: &CarriedArgs,
+) -> Result<(), Fault>
+    ensures ok { OnOk result (out.new.since ≡ out.old.since
+        ++ further serializer (last_items carried.now.args carried.now.kwargs)) }
+    ensures spelled { OnOk result
+        (items_have_spelling serializer (last_items carried.now.args carried.now.kwargs) ≡ true) }
+    ensures unspelled { result ≡ Err Fault.TooLongForClient
+        → items_have_spelling serializer (last_items carried.now.args carried.now.kwargs) ≡ false }
+    ensures before { out.new.before ≡ out.old.before }
+    ensures fault { IfErr result (λ f. (f ≡ Fault.NoMemory) ⊎ (f ≡ Fault.TooLongForClient)) }
+{
+    let args = carried.args();
+    match args.tail(serializer) {
+        Some(tail) => Ok(out.put_all(tail)?),
+        None => put_args(out, alloc, serializer, args),
+    }
+}
+
+/// An EVENT.
+fn put_event(
+    out: &mut Appender,
+    alloc: Global,
+    serializer: Serializer,
+    subscription: Id,
+    made: &Publication,
+    with_topic: bool,
+    retained: bool,
+) -> Result<(), Fault>
+    ensures ok { OnOk result (out.new.since ≡ out.old.since
+        ++ serialized serializer (event subscription made.now with_topic retained)) }
+    ensures spelled { OnOk result
+        (has_spelling serializer (event subscription made.now with_topic retained) ≡ true) }
+    ensures unspelled { result ≡ Err Fault.TooLongForClient
+        → has_spelling serializer (event subscription made.now with_topic retained) ≡ false }
+    ensures before { out.new.before ≡ out.old.before }
+    ensures fault { IfErr result (λ f. (f ≡ Fault.NoMemory) ⊎ (f ≡ Fault.TooLongForClient)) }
+{
+    let count = 4 + count_of(made.args.args());
+    let numbers = (36, subscription.value(), made.id.value());
+    put_numbers(out, alloc, serializer, count, numbers)?;
+    out.separate(serializer)?;
+    put_details(out, alloc, serializer, made, with_topic, retained)?;
+    put_tail(out, alloc, serializer, &made.args)?;
+    Ok(out.close_list(serializer)?)
+}
+
+/// PUBLISHED or SUBSCRIBED.
+fn put_triple(
+    out: &mut Appender,
+    alloc: Global,
+    serializer: Serializer,
+    kind: u64,
+    request: Id,
+    other: Id,
+) -> Result<(), Fault>
+    ensures ok { OnOk result (out.new.since ≡ out.old.since
+        ++ serialized serializer (triple kind request other)) }
+    ensures spelled { has_spelling serializer (triple kind request other) ≡ true }
+    ensures before { out.new.before ≡ out.old.before }
+    ensures err { IfErr result (λ f. f ≡ Fault.NoMemory) }
+{
+    let numbers = (kind, request.value(), other.value());
+    put_numbers(out, alloc, serializer, 3, numbers)?;
+    Ok(out.close_list(serializer)?)
+}
+
+/// The payload of an item's frame.
+fn put_item(
+    out: &mut Appender,
+    alloc: Global,
+    serializer: Serializer,
+    item: &Item,
+) -> Result<(), Fault>
+    ensures ok { OnOk result (out.new.since ≡ out.old.since ++ (frame_of serializer item.now).payload) }
+    ensures spelled { OnOk result (IsSpelled serializer (message_of item.now)) }
+    ensures unspelled { result ≡ Err Fault.TooLongForClient
+        → IsUnspelled serializer (message_of item.now) }
+    ensures before { out.new.before ≡ out.old.before }
+    ensures fault { IfErr result (λ f. (f ≡ Fault.NoMemory) ⊎ (f ≡ Fault.TooLongForClient)) }
+{
+    match item {
+        Item::Event {
+            subscription,
+            publication,
+            with_topic,
+            retained,
+        } => put_event(
+            out,
+            alloc,
+            serializer,
+            *subscription,
+            publication.value(),
+            *with_topic,
+            *retained,
+        ),
+        Item::Published {
+            request,
+            publication,
+        } => put_triple(out, alloc, serializer, 17, *request, *publication),
+        Item::Subscribed {
+            request,
+            subscription,
+        } => put_triple(out, alloc, serializer, 33, *request, *subscription),
+        _ => put_message(out, alloc, serializer, item),
+    }
+}
+
+/// The payload of an item's frame, by way of the item's message.
+fn put_message(
+    out: &mut Appender,
+    alloc: Global,
+    serializer: Serializer,
+    item: &Item,
+) -> Result<(), Fault>
+    ensures ok { OnOk result (out.new.since ≡ out.old.since ++ (frame_of serializer item.now).payload) }
+    ensures spelled { OnOk result (IsSpelled serializer (message_of item.now)) }
+    ensures unspelled { result ≡ Err Fault.TooLongForClient
+        → IsUnspelled serializer (message_of item.now) }
+    ensures before { out.new.before ≡ out.old.before }
+    ensures fault { IfErr result (λ f. (f ≡ Fault.NoMemory) ⊎ (f ≡ Fault.TooLongForClient)) }
+{
+    match item_message(alloc, item)? {
+        Some(message) => out.put_tree(alloc, serializer, message.tree()),
+        None => match item {
+            Item::Pong(octets) => Ok(out.put_all(octets.as_slice())?),
+            _ => unreachable!(),
+        },
+    }
+}
+
+/// Writes the payload of an item's frame at the end: its message in the serialization, or the octets
+/// of a PONG.
+///
+/// # Errors
+/// [`Fault::TooLongForClient`] where MessagePack has no spelling for the message; [`Fault::NoMemory`]
+/// where a growth was refused. What was written stays as it was.
+pub fn write_payload(
+    alloc: Global,
+    serializer: Serializer,
+    item: &Item,
+    out: &mut Vec<u8>,
+) -> Result<(), Fault>
+    ensures ok { OnOk result (out.new.items ≡ out.old.items ++ (frame_of serializer item.now).payload) }
+    ensures spelled { OnOk result (IsSpelled serializer (message_of item.now)) }
+    ensures err { OnErr result (out.new.items ≡ out.old.items) }
+    ensures unspelled { result ≡ Err Fault.TooLongForClient
+        → IsUnspelled serializer (message_of item.now) }
+    ensures fault { IfErr result (λ f. (f ≡ Fault.NoMemory) ⊎ (f ≡ Fault.TooLongForClient)) }
+{
+    let mut appender = Appender::new(mem::replace(out, Vec::new(alloc)));
+    match put_item(&mut appender, alloc, serializer, item) {
+        Ok(()) => {
+            *out = appender.into_vec();
+            Ok(())
+        }
+        Err(fault) => {
+            *out = appender.into_before();
+            Err(fault)
+        }
+    }
+}
+
+/// The kind of an item's frame.
+fn kind_of(item: &Item) -> Kind
+    ensures { (s : Serializer) → result ≡ (frame_of s item.now).kind }
+{
+    match item {
+        Item::Pong(_) => Kind::Pong,
+        _ => Kind::Message,
+    }
+}
+
+/// Writes the frame of an item at the end, for a client that takes so many octets in one payload.
+///
+/// # Errors
+/// [`Fault::TooLongForClient`] where the payload has more octets, or MessagePack has no spelling for
+/// the message; [`Fault::NoMemory`] where a growth was refused. What was written stays as it was.
+pub fn write_item(
+    alloc: Global,
+    serializer: Serializer,
+    limit: u32,
+    item: &Item,
+    out: &mut Vec<u8>,
+) -> Result<(), Fault>
+    requires { limit ≤ 16777215 }
+    ensures ok { OnOk result (out.new.items ≡ out.old.items ++ octets_of serializer item.now) }
+    ensures fits { OnOk result (Fits serializer limit item.now) }
+    ensures spelled { OnOk result (IsSpelled serializer (message_of item.now)) }
+    ensures err { OnErr result (out.new.items ≡ out.old.items) }
+    ensures long { result ≡ Err Fault.TooLongForClient → IsTooLong serializer limit item.now }
+    ensures fault { IfErr result (λ f. (f ≡ Fault.NoMemory) ⊎ (f ≡ Fault.TooLongForClient)) }
+{
+    let at = out.len();
+    out.extend_from_slice(&[0; 4])?;
+    if let Err(fault) = write_payload(alloc, serializer, item, out) {
+        out.truncate(at);
+        return Err(fault);
+    }
+    if out.len() - at - 4 > limit as usize {
+        out.truncate(at);
+        return Err(Fault::TooLongForClient);
+    }
+    fill_header(kind_of(item), at, out);
+    Ok(())
+}

@@ -1,0 +1,140 @@
+-- Wildcards that stand in a table, one after another; and the two places of a wildcard.
+use Rattle.std.proofs.Common.{◌≡◌, ℕ, Bool, true, false, cond, eqb, nat_lt, List, [], ◌∷◌, ◌++◌, Option, Some, None, Vec, Global, Less, ◌⊎◌, inl, inr, refl, sym, ap, ◌∙◌}
+use Rattle.std.specs.List.{AllByRecursion, join_with_byte}
+use Rattle.std.specs.List.Sorted.{IsStrictlySortedBy}
+use Rattle.std.specs.Map.{keys_of}
+use Rattle.std.specs.Str.{bytes_eq}
+use Rattle.std.specs.Ordering.{nat_cmp, is_eq}
+use Rattle.std.specs.Cmp.Lexicographic.{slice_cmp}
+use Rattle.std.proofs.lemmas.Map.Text.{is_eq-slice_cmp}
+use Rattle.std.proofs.lemmas.Bool.{or_cases, or_right, eqb-true}
+use Rattle.std.proofs.lemmas.List.{append_assoc}
+use Rattle.std.proofs.lemmas.Option.{same_Some}
+use Rattle.wamp_ids.proofs.Equality.{bytes_eq-true, bytes_eq-refl}
+use Rattle.wamp_ids.specs.Uri.{components}
+use Rattle.wamp_ids.specs.Pattern.{fits}
+use Rattle.subscription_index.specs.declared.node.Node.{Node}
+use Rattle.subscription_index.specs.body.Found.{has, Adds}
+use Rattle.subscription_index.specs.body.Tables.{Table, number_at}
+use Rattle.subscription_index.specs.body.Nodes.{number_on, same_parts}
+use Rattle.subscription_index.specs.body.Names.{is_deep, wildcard_number}
+use Rattle.subscription_index.proofs.FoundLemmas.{has_first, adds_append, adds_by}
+use Rattle.subscription_index.proofs.Texts.{vec_cmp, at_text, slice_cmp-true}
+use Rattle.subscription_index.proofs.Components.{Joined, same_components, all_dotless, fitting_text, as_long}
+
+abbrev pub Entry : Type 0
+Entry = Vec ℕ Global × ℕ
+
+-- the numbers of the entries that fit
+abbrev pub fitting : List Entry → List ℕ → List ℕ
+fitting [] topic = []
+fitting (e ∷ es) topic = cond (fits (components e.0.items) (components topic)) (e.1 ∷ fitting es topic) (fitting es topic)
+
+-- the loop's step
+pub fitting_more : (old new : List ℕ) (e : Entry) (es : List Entry) (topic all : List ℕ) → new ≡ cond (fits (components e.0.items) (components topic)) (old ++ e.1 ∷ []) old → old ++ fitting (e ∷ es) topic ≡ all → new ++ fitting es topic ≡ all
+fitting_more old new e es topic all is h = ap (λ ns. ns ++ fitting es topic) is ∙ by_value (fits (components e.0.items) (components topic)) h
+  where
+    by_value : (b : Bool) → old ++ cond b (e.1 ∷ fitting es topic) (fitting es topic) ≡ all → cond b (old ++ e.1 ∷ []) old ++ fitting es topic ≡ all
+    by_value true k = append_assoc old (e.1 ∷ []) (fitting es topic) ∙ k
+    by_value false k = k
+
+found_listed : (es : List Entry) (topic q : List ℕ) (n : ℕ) → at_text q es ≡ Some n → fits (components q) (components topic) ≡ true → has (fitting es topic) n ≡ true
+found_listed [] topic q n is h = cc
+found_listed (e ∷ es) topic q n is h = by_value (found_listed es topic q n) (is_eq (slice_cmp nat_cmp q e.0.items)) refl is
+  where
+    by_value : (at_text q es ≡ Some n → fits (components q) (components topic) ≡ true → has (fitting es topic) n ≡ true)
+        → (b : Bool) → is_eq (slice_cmp nat_cmp q e.0.items) ≡ b → cond b (Some e.1) (at_text q es) ≡ Some n → has (fitting (e ∷ es) topic) n ≡ true
+    by_value rest true f k =
+        let same : q ≡ e.0.items = slice_cmp-true q e.0.items f in
+        let fit : fits (components e.0.items) (components topic) ≡ true = ap (λ t. fits (components t) (components topic)) (sym same) ∙ h in
+        ap (λ b. has (cond b (e.1 ∷ fitting es topic) (fitting es topic)) n) fit ∙ ap (λ m. has (m ∷ fitting es topic) n) (same_Some e.1 n k) ∙ has_first n (fitting es topic)
+    by_value rest false f k = either_way (fits (components e.0.items) (components topic))
+      where
+        either_way : (b : Bool) → has (cond b (e.1 ∷ fitting es topic) (fitting es topic)) n ≡ true
+        either_way true = or_right (eqb e.1 n) (has (fitting es topic) n) (rest k h)
+        either_way false = rest k h
+
+absent : (q : List ℕ) (es : List Entry) → AllByRecursion (λ (y : Vec ℕ Global). slice_cmp nat_cmp q y.items ≡ Less) (keys_of es) → at_text q es ≡ None
+absent q [] h = refl
+absent q (e ∷ es) h = ap (λ o. cond (is_eq o) (Some e.1) (at_text q es)) h.0 ∙ absent q es h.1
+
+only_listed : (es : List Entry) (topic : List ℕ) (n : ℕ) → IsStrictlySortedBy vec_cmp (keys_of es) → has (fitting es topic) n ≡ true → (q : List ℕ) × (at_text q es ≡ Some n) × (fits (components q) (components topic) ≡ true)
+unfolding IsStrictlySortedBy
+only_listed [] topic n up h = let e : false ≡ true = h in cc
+only_listed (e ∷ es) topic n up h = by_value (only_listed es topic n up.1) (fits (components e.0.items) (components topic)) refl h
+  where
+    itself : is_eq (slice_cmp nat_cmp e.0.items e.0.items) ≡ true
+    itself = is_eq-slice_cmp e.0.items e.0.items ∙ bytes_eq-refl e.0.items
+
+    later : (q : List ℕ) × (at_text q es ≡ Some n) × (fits (components q) (components topic) ≡ true) → (q : List ℕ) × (at_text q (e ∷ es) ≡ Some n) × (fits (components q) (components topic) ≡ true)
+    later r = (r.0, by_test (is_eq (slice_cmp nat_cmp r.0 e.0.items)) refl, r.2)
+      where
+        by_test : (b : Bool) → is_eq (slice_cmp nat_cmp r.0 e.0.items) ≡ b → cond b (Some e.1) (at_text r.0 es) ≡ Some n
+        by_test true f =
+            let none : at_text r.0 es ≡ None = ap (λ x. at_text x es) (slice_cmp-true r.0 e.0.items f) ∙ absent e.0.items es up.0 in
+            let k : None ≡ Some n = sym none ∙ r.1 in
+            cc
+        by_test false f = r.1
+
+    by_value : (has (fitting es topic) n ≡ true → (q : List ℕ) × (at_text q es ≡ Some n) × (fits (components q) (components topic) ≡ true))
+        → (b : Bool) → fits (components e.0.items) (components topic) ≡ b → has (cond b (e.1 ∷ fitting es topic) (fitting es topic)) n ≡ true
+        → (q : List ℕ) × (at_text q (e ∷ es) ≡ Some n) × (fits (components q) (components topic) ≡ true)
+    by_value rest true f k = by_first (or_cases (eqb e.1 n) (has (fitting es topic) n) k)
+      where
+        by_first : (eqb e.1 n ≡ true) ⊎ (has (fitting es topic) n ≡ true) → (q : List ℕ) × (at_text q (e ∷ es) ≡ Some n) × (fits (components q) (components topic) ≡ true)
+        by_first (inl g) = (e.0.items, ap (λ b. cond b (Some e.1) (at_text e.0.items es)) itself ∙ ap (λ m. Some m) (eqb-true e.1 n g), f)
+        by_first (inr g) = later (rest g)
+    by_value rest false f k = later (rest k)
+
+pub adds_listed : (table : Table) (topic old new : List ℕ) → IsStrictlySortedBy vec_cmp (keys_of table.entries) → new ≡ old ++ fitting table.entries topic → Adds (number_at table) (λ q. fits (components q) (components topic)) old new
+adds_listed table topic old new up e =
+    adds_append (number_at table) (λ q. fits (components q) (components topic)) old (fitting table.entries topic) new e (found_listed table.entries topic) (λ n k. only_listed table.entries topic n up k)
+
+-- a deep wildcard was changed
+pub deep_changed : (deep other : Table) (tree : Node) (text : List ℕ) (v : Option ℕ) → is_deep text ≡ true → ((q : List ℕ) → number_at other q ≡ cond (bytes_eq text q) v (number_at deep q))
+    → (q : List ℕ) → wildcard_number other tree q ≡ cond (bytes_eq text q) v (wildcard_number deep tree q)
+deep_changed deep other tree text v is change q = by_value (bytes_eq text q) refl
+  where
+    by_value : (b : Bool) → bytes_eq text q ≡ b → wildcard_number other tree q ≡ cond b v (wildcard_number deep tree q)
+    by_value true h = ap (λ b. cond b (number_at other q) (number_on (components q) tree)) (ap is_deep (sym (bytes_eq-true text q h)) ∙ is) ∙ change q ∙ ap (λ b. cond b v (number_at deep q)) h
+    by_value false h = ap (λ n. cond (is_deep q) n (number_on (components q) tree)) (change q ∙ ap (λ b. cond b v (number_at deep q)) h)
+
+-- a wildcard of the tree was changed
+pub tree_changed : Joined → (deep : Table) (tree other : Node) (text : List ℕ) (v : Option ℕ) → is_deep text ≡ false → ((q : List (List ℕ)) → number_on q other ≡ cond (same_parts (components text) q) v (number_on q tree))
+    → (q : List ℕ) → wildcard_number deep other q ≡ cond (bytes_eq text q) v (wildcard_number deep tree q)
+tree_changed joined deep tree other text v is change q = by_value (bytes_eq text q) refl
+  where
+    here : number_on (components q) other ≡ cond (bytes_eq text q) v (number_on (components q) tree)
+    here = change (components q) ∙ ap (λ b. cond b v (number_on (components q) tree)) (same_components joined text q)
+
+    by_value : (b : Bool) → bytes_eq text q ≡ b → wildcard_number deep other q ≡ cond b v (wildcard_number deep tree q)
+    by_value true h = ap (λ b. cond b (number_at deep q) (number_on (components q) other)) (ap is_deep (sym (bytes_eq-true text q h)) ∙ is) ∙ here ∙ ap (λ b. cond b v (number_on (components q) tree)) h
+    by_value false h = ap (λ n. cond (is_deep q) (number_at deep q) n) (here ∙ ap (λ b. cond b v (number_on (components q) tree)) h)
+
+pub wildcards_same : (deep other_deep : Table) (tree other : Node) → ((q : List ℕ) → number_at other_deep q ≡ number_at deep q) → ((q : List (List ℕ)) → number_on q other ≡ number_on q tree) → (q : List ℕ) → wildcard_number other_deep other q ≡ wildcard_number deep tree q
+wildcards_same deep other_deep tree other e f q = ap (λ n. cond (is_deep q) n (number_on (components q) other)) (e q) ∙ ap (λ n. cond (is_deep q) (number_at deep q) n) (f (components q))
+
+-- only deep wildcards fit a deep topic, and no other topic
+deep_alike : (q topic : List ℕ) → fits (components q) (components topic) ≡ true → is_deep q ≡ is_deep topic
+deep_alike q topic h = ap (λ n. nat_lt 64 n) (as_long (components q) (components topic) h)
+
+pub adds_deep : (deep : Table) (tree : Node) (topic a b : List ℕ) → is_deep topic ≡ true → Adds (number_at deep) (λ q. fits (components q) (components topic)) a b → Adds (wildcard_number deep tree) (λ q. fits (components q) (components topic)) a b
+adds_deep deep tree topic a b is =
+    adds_by (number_at deep) (λ q. fits (components q) (components topic)) (wildcard_number deep tree) (λ q. fits (components q) (components topic)) a b (λ q n e h. (q, sym (there q h) ∙ e, h)) (λ q n e h. (q, there q h ∙ e, h))
+  where
+    there : (q : List ℕ) → fits (components q) (components topic) ≡ true → wildcard_number deep tree q ≡ number_at deep q
+    there q h = ap (λ b. cond b (number_at deep q) (number_on (components q) tree)) (deep_alike q topic h ∙ is)
+
+pub adds_tree : ((text : List ℕ) → all_dotless (components text) ≡ true) → (deep : Table) (tree : Node) (topic a b : List ℕ) → is_deep topic ≡ false → Adds (λ q. number_on q tree) (λ q. fits q (components topic)) a b
+    → Adds (wildcard_number deep tree) (λ q. fits (components q) (components topic)) a b
+adds_tree no_dot deep tree topic a b is =
+    adds_by (λ q. number_on q tree) (λ q. fits q (components topic)) (wildcard_number deep tree) (λ q. fits (components q) (components topic)) a b (λ q n e h. (components q, sym (there q h) ∙ e, h)) joined
+  where
+    there : (q : List ℕ) → fits (components q) (components topic) ≡ true → wildcard_number deep tree q ≡ number_on (components q) tree
+    there q h = ap (λ b. cond b (number_at deep q) (number_on (components q) tree)) (deep_alike q topic h ∙ is)
+
+    joined : (ps : List (List ℕ)) (n : ℕ) → number_on ps tree ≡ Some n → fits ps (components topic) ≡ true → (q : List ℕ) × (wildcard_number deep tree q ≡ Some n) × (fits (components q) (components topic) ≡ true)
+    joined ps n e h =
+        let parts : components (join_with_byte 46 ps) ≡ ps = fitting_text ps topic (no_dot topic) h in
+        let fit : fits (components (join_with_byte 46 ps)) (components topic) ≡ true = ap (λ qs. fits qs (components topic)) parts ∙ h in
+        (join_with_byte 46 ps, there (join_with_byte 46 ps) fit ∙ ap (λ qs. number_on qs tree) parts ∙ e, fit)

@@ -1,0 +1,6 @@
+-- What only the bodies and their proofs speak of: nothing here has to be believed.
+pub mod Found
+pub mod Tables
+pub mod Nodes
+pub mod Names
+pub mod Holders

@@ -1,0 +1,81 @@
+//! Where streams come from.
+ghost use Rattle.std.specs.Prelude.{◌≡◌, ◌++◌, ◌∷◌, []};
+ghost use Rattle.threaded_server.specs.Answers.{answer_of};
+
+use crate::answer::Answer;
+use rawsocket::devices::{Sink, Source};
+use realm_inbox::Shut;
+use std::alloc::{AllocError, Global};
+
+/// What accepting gave.
+#[derive(Drop)]
+pub enum Accepted<T> {
+    /// A client's stream.
+    Stream(T),
+    /// To accept no more.
+    Stop,
+    /// No stream: the device failed.
+    Failed,
+}
+
+impl<T> Accepted<T> {
+    /// The answer, without the stream.
+    pub fn answer(&self) -> Answer
+        ensures { result ≡ answer_of self.now }
+    {
+        match self {
+            Accepted::Stream(_) => Answer::Came,
+            Accepted::Stop => Answer::Stopped,
+            Accepted::Failed => Answer::Failed,
+        }
+    }
+}
+
+/// A stream, taken apart for the threads that use it.
+#[derive(Drop)]
+pub struct Parts<I, O, S> {
+    /// What its client sends.
+    pub source: I,
+    /// What its client is sent.
+    pub sink: O,
+    /// The handle by which other threads end it.
+    pub shut: S,
+}
+
+/// Gives the streams of clients, one after another, and tells when to stop.
+pub trait Acceptor {
+    ghost use Rattle.std.specs.Prelude.{List};
+    ghost use Rattle.threaded_server.specs.declared.answer.Answer.{Answer};
+
+    /// A stream that was accepted. One that is dropped is closed.
+    type Stream: Drop;
+
+    type Source: Source + Drop + Send + 'static;
+
+    type Sink: Sink + Drop + Send + 'static;
+
+    type Shut: Shut + Send + 'static;
+
+    /// What accepting answered so far, the oldest first.
+    ghost answers: { Self → List Answer };
+
+    /// Waits for the next stream, or to be told to stop.
+    fn accept(&mut self) -> Accepted<Self::Stream>
+        ensures { answers self.new ≡ answers self.old ++ answer_of result ∷ [] };
+
+    /// Takes a stream apart. The parts share it: once it is shut, its source has ended and its sink fails. It is closed when the last
+    /// part is dropped.
+    ///
+    /// # Errors
+    /// Where a growth of memory was refused. The stream is closed then.
+    fn split(
+        &mut self,
+        alloc: Global,
+        stream: Self::Stream,
+    ) -> Result<Parts<Self::Source, Self::Sink, Self::Shut>, AllocError>
+        ensures { answers self.new ≡ answers self.old };
+
+    /// A pause after a failure, before accepting is tried again.
+    fn pause(&mut self)
+        ensures { answers self.new ≡ answers self.old };
+}

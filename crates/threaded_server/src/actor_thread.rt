@@ -1,0 +1,73 @@
+//! The thread of a realm's actor.
+ghost use Rattle.std.specs.Prelude.{◌≡◌, length};
+ghost use Rattle.realm_inbox.specs.EndViews.{received};
+
+use crate::id_words::IdWords;
+use crate::seat_table::{SEATS, SeatTable};
+use crate::work::Work;
+use crossbeam_channel::Sender;
+use realm::RealmConfig;
+use realm_actor::Actor;
+use realm_inbox::{Inbox, Shut};
+use std::alloc::Global;
+use std::sync::{Arc, Wait};
+
+/// What the thread of a realm's actor has.
+#[derive(Drop)]
+pub struct ActorThread<S: Shut> {
+    pub alloc: Global,
+    pub config: RealmConfig,
+    pub words: IdWords,
+    pub inbox: Inbox<S>,
+    /// It is told whether there was memory for the realm, and then, once the actor has ended, that the marks are set.
+    pub teller: Sender<bool>,
+    pub marks: Arc<SeatTable>,
+    ghost new: { length (received inbox) ≡ 0 },
+}
+
+impl<R: Wait + Copy, S: Shut> Work<R> for ActorThread<S> {
+    /// Makes the actor, which runs until it is stopped, marks whose sessions it holds then, and tells that they are marked. What is
+    /// posted behind the stop is received until each sender is gone, and dropped: a Join's outbox is closed so, and its writer ends.
+    /// It isn't left to the inbox, whose posts stay as long as a sender does.
+    fn run(self, rt: R) {
+        let ActorThread {
+            alloc,
+            config,
+            words,
+            mut inbox,
+            teller,
+            marks,
+        } = self;
+        let Ok(actor) = Actor::new(alloc, config, words) else {
+            let _ = teller.send(&rt, false);
+            return;
+        };
+        let _ = teller.send(&rt, true);
+        let actor = actor.run(&rt, alloc, &mut inbox);
+        mark_held(&actor, &marks);
+        drop(actor);
+        let _ = teller.send(&rt, true);
+        receive_rest(&rt, inbox);
+    }
+}
+
+// Receives until each sender is gone, and drops what comes.
+fn receive_rest<R: Wait, S: Shut>(rt: &R, mut inbox: Inbox<S>) {
+    for _ in rt.forever() {
+        if inbox.receive(rt).is_none() {
+            return;
+        }
+    }
+    unreachable!()
+}
+
+// SeatTable the connections whose sessions the actor holds.
+fn mark_held<S: Shut>(actor: &Actor<S, IdWords>, marks: &SeatTable) {
+    for place in 0..SEATS {
+        if let Some(conn) = marks.conn_at(place) {
+            if actor.holds(conn) {
+                marks.hold(conn);
+            }
+        }
+    }
+}

@@ -1,0 +1,242 @@
+//! The connections that are served, and their seats.
+use crate::acceptor::Parts;
+use crate::plan::Plan;
+use crate::reader_thread::{PosterSlot, Posters, Reader};
+use crate::realm_handle::RealmHandle;
+use crate::seat_table::{SEATS, SeatTable};
+use connection::Seats;
+use rawsocket::devices::{Sink, Source, Turns, send};
+use rawsocket::no_seat_reply;
+use realm_inbox::Shut;
+use std::alloc::{AllocError, Global};
+use std::sync::atomic::{AtomicBool, Ordering};
+use std::sync::{Arc, Mutex, Wait};
+use std::thread::{self, JoinHandle, Threads};
+use wamp_ids::{Conn, seat};
+
+/// A connection that is served: its reader's thread, which waits for its writer's.
+#[derive(Drop)]
+struct Connection<S: Shut> {
+    conn: Conn,
+    transport: S,
+    poster_slot: Arc<PosterSlot<S>>,
+    is_over: Arc<AtomicBool>,
+    reader: JoinHandle<()>,
+}
+
+/// The connections that are served. The accepting thread alone has it.
+#[derive(Drop)]
+pub struct ConnectionTable<S: Shut> {
+    pub alloc: Global,
+    pub plan: Arc<Plan>,
+    pub marks: Arc<SeatTable>,
+    pub realms: Vec<RealmHandle<S>>,
+    seats: Seats,
+    // By seat.
+    entries: Vec<Option<Connection<S>>>,
+}
+
+impl<S: Shut> ConnectionTable<S> {
+    /// Nobody is served, and there are no realms yet.
+    pub fn new(alloc: Global, plan: Plan) -> Result<ConnectionTable<S>, AllocError> {
+        let mut entries = Vec::with_capacity(alloc, SEATS)?;
+        for _ in 0..SEATS {
+            entries.push(None)?;
+        }
+        Ok(ConnectionTable {
+            alloc,
+            realms: Vec::with_capacity(alloc, plan.realms.len())?,
+            plan: Arc::new(alloc, plan)?,
+            marks: Arc::new(alloc, SeatTable::new(alloc)?)?,
+            seats: Seats::new(),
+            entries,
+        })
+    }
+
+    /// Joins the readers that are over, and frees their seats.
+    pub fn reap<R: Threads + Wait>(&mut self, rt: &R) {
+        for place in 0..self.entries.len() {
+            if let Some(entry) = self.take_over(place) {
+                self.release(rt, entry);
+            }
+        }
+    }
+
+    // The connection at the seat of this place, if it is over.
+    fn take_over(&mut self, place: usize) -> Option<Connection<S>> {
+        let slot = self.entries.get_mut(place)?;
+        match slot {
+            Some(entry) if entry.is_over.load(Ordering::SeqCst) => slot.take(),
+            _ => None,
+        }
+    }
+
+    fn release<R: Threads + Wait>(&mut self, rt: &R, entry: Connection<S>) {
+        let Connection {
+            conn,
+            transport: _,
+            poster_slot,
+            is_over: _,
+            reader,
+        } = entry;
+        reader.join(rt);
+        self.free(rt, conn, &poster_slot);
+    }
+
+    // Frees the seat of a connection. It stays taken, if its posters aren't there.
+    fn free<R: Wait>(&mut self, rt: &R, conn: Conn, poster_slot: &PosterSlot<S>) {
+        if let Some(posters) = poster_slot.lock(rt).take() {
+            self.put_posters(posters);
+            self.marks.leaves(conn);
+            self.seats.give_back(conn);
+        }
+    }
+
+    fn put_posters(&mut self, posters: Posters<S>) {
+        for (realm, poster) in self.realms.iter_mut().zip(posters) {
+            if let Some(poster) = poster {
+                realm.put_seat(poster.into_seat());
+            }
+        }
+    }
+
+    // A poster of the connection in each realm, up to the first in which its seat isn't free.
+    fn take_posters(&mut self, conn: Conn) -> Result<Posters<S>, AllocError> {
+        let mut posters = Vec::with_capacity(self.alloc, self.realms.len())?;
+        for realm in self.realms.iter_mut() {
+            match realm.take_poster(self.alloc, conn) {
+                Some(poster) => posters.push(Some(poster))?,
+                None => break,
+            }
+        }
+        Ok(posters)
+    }
+
+    /// Ends the streams of those whose sessions no actor held at its end, or of all.
+    pub fn shut(&self, all: bool) {
+        for entry in self.entries.iter().flatten() {
+            if all || !self.marks.is_held(entry.conn) {
+                entry.transport.shut();
+            }
+        }
+    }
+
+    /// Waits for all threads of connections.
+    pub fn join_all<R: Threads + Wait>(&mut self, rt: &R) {
+        for place in 0..self.entries.len() {
+            if let Some(slot) = self.entries.get_mut(place) {
+                if let Some(entry) = slot.take() {
+                    self.release(rt, entry);
+                }
+            }
+        }
+    }
+}
+
+impl<S: Shut + Send + 'static> ConnectionTable<S> {
+    /// Starts the reader of a stream at the lowest free seat. Where none is free its client is told so, and where memory or a thread is
+    /// refused it is told nothing; the stream is closed then.
+    pub fn admit<
+        R: Threads + Wait + Copy + Send + 'static,
+        I: Source + Drop + Send + 'static,
+        O: Sink + Drop + Send + 'static,
+    >(&mut self, rt: R, parts: Parts<I, O, S>) {
+        let Ok(conn) = self.seats.take() else {
+            refuse(parts);
+            return;
+        };
+        match new_poster_slot(self.alloc) {
+            Ok(poster_slot) => self.seat(rt, conn, parts, poster_slot),
+            Err(_) => self.seats.give_back(conn),
+        }
+    }
+
+    fn seat<
+        R: Threads + Wait + Copy + Send + 'static,
+        I: Source + Drop + Send + 'static,
+        O: Sink + Drop + Send + 'static,
+    >(&mut self, rt: R, conn: Conn, parts: Parts<I, O, S>, poster_slot: Arc<PosterSlot<S>>) {
+        let Ok(posters) = self.take_posters(conn) else {
+            self.seats.give_back(conn);
+            return;
+        };
+        let is_whole = posters.len() == self.realms.len();
+        *poster_slot.lock(&rt) = Some(posters);
+        self.marks.sits(conn);
+        match self.start(rt, conn, parts, &poster_slot, is_whole) {
+            Some(entry) => self.keep(entry),
+            None => self.free(&rt, conn, &poster_slot),
+        }
+    }
+
+    // Starts the reader of a connection, if its posters are all there.
+    fn start<
+        R: Threads + Wait + Copy + Send + 'static,
+        I: Source + Drop + Send + 'static,
+        O: Sink + Drop + Send + 'static,
+    >(
+        &self,
+        rt: R,
+        conn: Conn,
+        parts: Parts<I, O, S>,
+        poster_slot: &Arc<PosterSlot<S>>,
+        is_whole: bool,
+    ) -> Option<Connection<S>> {
+        if !is_whole {
+            return None;
+        }
+        let Parts { source, sink, shut } = parts;
+        let is_over = Arc::new(self.alloc, AtomicBool::new(false)).ok()?;
+        let reader = Reader {
+            alloc: self.alloc,
+            plan: Arc::try_clone(&self.plan).ok()?,
+            source,
+            sink,
+            transport: shut.twin()?,
+            poster_slot: Arc::try_clone(poster_slot).ok()?,
+            is_over: Arc::try_clone(&is_over).ok()?,
+        };
+        let poster_slot = Arc::try_clone(poster_slot).ok()?;
+        let reader = start_reader(rt, reader).ok()?;
+        Some(Connection {
+            conn,
+            transport: shut,
+            poster_slot,
+            is_over,
+            reader,
+        })
+    }
+
+    fn keep(&mut self, entry: Connection<S>) {
+        let place = (seat(entry.conn) - 1) as usize;
+        if let Some(slot) = self.entries.get_mut(place) {
+            *slot = Some(entry);
+        }
+    }
+}
+
+fn new_poster_slot<S: Shut>(alloc: Global) -> Result<Arc<PosterSlot<S>>, AllocError> {
+    Ok(Arc::new(alloc, Mutex::new(None))?)
+}
+
+// Starts the thread of a reader.
+fn start_reader<
+    R: Threads + Wait + Copy + Send + 'static,
+    I: Source + Drop + Send + 'static,
+    O: Sink + Drop + Send + 'static,
+    S: Shut + Send + 'static,
+>(rt: R, reader: Reader<I, O, S>) -> Result<JoinHandle<()>, AllocError> {
+    let handle = thread::spawn(&rt, move || reader.run(rt))?;
+    Ok(handle)
+}
+
+// Tells a client that no seat is free, and ends its stream.
+fn refuse<I: Drop, O: Sink + Drop, S: Shut>(parts: Parts<I, O, S>) {
+    let Parts {
+        source: _,
+        mut sink,
+        shut,
+    } = parts;
+    let _ = send(&mut sink, &no_seat_reply(), &mut Turns::new());
+    shut.shut();
+}

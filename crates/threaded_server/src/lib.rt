@@ -1,0 +1,37 @@
+//! The running broker: the threads that serve a broker's realms over any acceptor of streams.
+//!
+//! [`serve_on`] starts an actor thread for each realm, and for each stream that its [`Acceptor`] gives a reader thread, which opens the
+//! session, starts the session's writer thread and waits for it. It stands on `realm_actor` (what the posts give each session),
+//! `connection` (what a reader posts, what a writer writes, the seats), `session` (the opening of a session) and the queues between them,
+//! `realm_inbox` and `outbox_queue`; what each of these calls does is proved there. [`TcpAcceptor`] accepts over TCP.
+//!
+//! Contracts say here by which of its acceptor's answers `serve_on` ends, and that each call is made only where its own contract allows it:
+//! a connection's posts are made at its own seat, with its own outbox, which is open and new; each actor runs on a new inbox. Which thread
+//! starts, ends or is waited for, and what crosses from one to another, is shown by runs alone. Nothing is promised of time: a peer that takes
+//! nothing holds up its own writer, and the end of `serve_on`, but no other session.
+#![tactic(auto)]
+
+mod acceptor;
+mod actor_thread;
+mod answer;
+mod config;
+mod connection_table;
+mod fault;
+mod grants;
+mod id_words;
+mod plan;
+mod reader_thread;
+mod realm_handle;
+mod seat_table;
+mod serve;
+mod tcp;
+mod work;
+mod writer_thread;
+
+pub use acceptor::{Accepted, Acceptor, Parts};
+pub use answer::Answer;
+pub use config::{Config, Ids};
+pub use fault::Fault;
+pub use grants::copy_grants;
+pub use serve::serve_on;
+pub use tcp::{TcpAcceptor, TcpHandle};

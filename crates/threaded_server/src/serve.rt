@@ -1,0 +1,216 @@
+//! The accepting thread.
+ghost use Rattle.std.specs.Prelude.{◌≡◌, ◌≤◌, ◌<◌, length, IfOk};
+ghost use Rattle.realm.specs.Grants.{pairs_of};
+ghost use Rattle.threaded_server.specs.Answers.{Serves};
+
+use crate::acceptor::{Accepted, Acceptor};
+use crate::actor_thread::ActorThread;
+use crate::config::Config;
+use crate::connection_table::ConnectionTable;
+use crate::fault::Fault;
+use crate::grants::copy_grants;
+use crate::id_words::IdWords;
+use crate::plan::Plan;
+use crate::realm_handle::RealmHandle;
+use connection::InUse;
+use crossbeam_channel::bounded;
+use realm::RealmConfig;
+use realm_inbox::Shut;
+use realm_inbox::opening::inbox;
+use std::alloc::{AllocError, Global};
+use std::random::RandomSource;
+use std::sync::{Arc, Wait};
+use std::thread::Threads;
+use wamp_ids::Topic;
+
+/// How many posts may wait in a realm's inbox.
+const MOST_POSTS: usize = 1024;
+
+/// After so many failures in a row nothing is accepted any more.
+const MOST_FAILURES: u32 = 100;
+
+/// Serves the realms to the clients of the streams that are accepted, until the acceptor says to stop. Then, and where accepting failed
+/// 100 times in a row, every live session gets its GOODBYE (WAMP, "Session Closing"), every other stream is ended, and all threads are
+/// waited for: as long as a peer takes nothing of what its session is still owed, this doesn't return.
+///
+/// A connection takes the lowest free seat of 256. One for which none is free gets the octets 7F 40 00 00, and is closed. Where memory or a
+/// thread is refused for a connection, that connection is closed, and the broker goes on.
+///
+/// # Errors
+/// [`Fault::NoMemory`] where memory, a thread or a seed was refused before anything was accepted; [`Fault::ListenFault`] after 100
+/// failures in a row.
+pub fn serve_on<R: Threads + Wait + RandomSource + Copy + Send + 'static, A: Acceptor>(
+    rt: R,
+    alloc: Global,
+    acceptor: &mut A,
+    config: &Config,
+) -> Result<(), Fault>
+    requires realms { 0 < length config.now.realms.items }
+    requires least { 0 < config.now.outbox }
+    requires most { config.now.outbox ≤ 65536 }
+    ensures { Serves (A.answers acceptor.old) (A.answers acceptor.new) result }
+{
+    let plan = plan_of(alloc, config)?;
+    let mut connection_table = ConnectionTable::new(alloc, plan)?;
+    let served = open_and_accept(rt, acceptor, &mut connection_table, config);
+    close(&rt, &mut connection_table);
+    served
+}
+
+// Starts the realms' actors, and accepts streams until there is an end to it.
+fn open_and_accept<R: Threads + Wait + RandomSource + Copy + Send + 'static, A: Acceptor>(
+    rt: R,
+    acceptor: &mut A,
+    connection_table: &mut ConnectionTable<A::Shut>,
+    config: &Config,
+) -> Result<(), Fault>
+    ensures { Serves (A.answers acceptor.old) (A.answers acceptor.new) result }
+{
+    if let Err(_) = open(rt, connection_table, config) {
+        return Err(Fault::NoMemory);
+    }
+    accept_all(rt, acceptor, connection_table)
+}
+
+fn copies_of(alloc: Global, realms: &[Topic]) -> Result<Vec<Topic>, AllocError> {
+    let mut copies = Vec::with_capacity(alloc, realms.len())?;
+    for realm in realms {
+        copies.push(realm.try_copy(alloc)?)?;
+    }
+    Ok(copies)
+}
+
+// For each of so many realms, that nobody uses any serialization.
+fn counts_of(alloc: Global, realms: usize) -> Result<Vec<InUse>, AllocError> {
+    let mut counts = Vec::with_capacity(alloc, realms)?;
+    for _ in 0..realms {
+        counts.push(InUse::new(alloc)?)?;
+    }
+    Ok(counts)
+}
+
+fn plan_of(alloc: Global, config: &Config) -> Result<Plan, AllocError>
+    requires least { 0 < config.now.outbox }
+    requires most { config.now.outbox ≤ 65536 }
+{
+    let realms = copies_of(alloc, &config.realms)?;
+    let in_use = counts_of(alloc, realms.len())?;
+    Ok(Plan {
+        realms,
+        in_use,
+        outbox: config.outbox,
+    })
+}
+
+// What a realm of this name is made from.
+fn realm_config(alloc: Global, name: &Topic, config: &Config) -> Result<RealmConfig, AllocError>
+    ensures { IfOk result (λ made. (made.name ≡ name.now) × (pairs_of made.grants.items ≡ pairs_of config.now.grants.items)) }
+{
+    Ok(RealmConfig {
+        name: name.try_copy(alloc)?,
+        grants: copy_grants(alloc, &config.grants)?,
+    })
+}
+
+// Starts the realms' actors.
+fn open<R: Threads + Wait + RandomSource + Copy + Send + 'static, S: Shut + Send + 'static>(
+    rt: R,
+    connection_table: &mut ConnectionTable<S>,
+    config: &Config,
+) -> Result<(), AllocError> {
+    for name in &config.realms {
+        open_realm(rt, connection_table, config, name)?;
+    }
+    Ok(())
+}
+
+fn open_realm<R: Threads + Wait + RandomSource + Copy + Send + 'static, S: Shut + Send + 'static>(
+    rt: R,
+    connection_table: &mut ConnectionTable<S>,
+    config: &Config,
+    name: &Topic,
+) -> Result<(), AllocError> {
+    let alloc = connection_table.alloc;
+    let (door, seats, inbox) = inbox::<S>(alloc, MOST_POSTS)?;
+    let (teller, told) = bounded(alloc, 1)?;
+    let Ok(words) = IdWords::new(&rt, config.ids) else {
+        return Err(AllocError);
+    };
+    let work = ActorThread {
+        alloc,
+        config: realm_config(alloc, name, config)?,
+        words,
+        inbox,
+        teller,
+        marks: Arc::try_clone(&connection_table.marks)?,
+    };
+    connection_table
+        .realms
+        .push(RealmHandle::new(alloc, door, seats, told)?)?;
+    match connection_table.realms.last_mut() {
+        Some(ends) => ends.start(rt, work),
+        None => Err(AllocError),
+    }
+}
+
+// Accepts streams until there is an end to it.
+fn accept_all<R: Threads + Wait + Copy + Send + 'static, A: Acceptor>(
+    rt: R,
+    acceptor: &mut A,
+    connection_table: &mut ConnectionTable<A::Shut>,
+) -> Result<(), Fault>
+    ensures { Serves (A.answers acceptor.old) (A.answers acceptor.new) result }
+{
+    let mut failures: u32 = 0;
+    'accepting: for _ in rt.forever() {
+        match acceptor.accept() {
+            Accepted::Stream(stream) => {
+                failures = 0;
+                connection_table.reap(&rt);
+                if let Ok(parts) = acceptor.split(connection_table.alloc, stream) {
+                    connection_table.admit(rt, parts);
+                }
+            }
+            Accepted::Stop => return Ok(()),
+            Accepted::Failed => {
+                failures += 1;
+                if failures >= MOST_FAILURES {
+                    return Err(Fault::ListenFault);
+                }
+                connection_table.reap(&rt);
+                acceptor.pause();
+            }
+        }
+    }
+    unreachable!()
+}
+
+// Stops the actors, ends the streams that no session's writer will end, and waits for all threads.
+fn close<R: Threads + Wait, S: Shut>(rt: &R, connection_table: &mut ConnectionTable<S>) {
+    if !stop_all(rt, connection_table) {
+        connection_table.shut(true);
+    }
+    for realm in connection_table.realms.iter() {
+        realm.await_marks(rt);
+    }
+    connection_table.shut(false);
+    connection_table.join_all(rt);
+    for _ in rt.forever() {
+        match connection_table.realms.pop() {
+            Some(realm) => realm.join(rt),
+            None => return,
+        }
+    }
+    unreachable!()
+}
+
+// False where an actor was gone already.
+fn stop_all<R: Wait, S: Shut>(rt: &R, connection_table: &mut ConnectionTable<S>) -> bool {
+    let mut all_told = true;
+    for realm in connection_table.realms.iter_mut() {
+        if !realm.stop(rt) {
+            all_told = false;
+        }
+    }
+    all_told
+}

@@ -1,0 +1,133 @@
+//! Streams over TCP.
+ghost use Rattle.std.specs.Prelude.{◌≡◌, ◌++◌, ◌∷◌, []};
+
+use crate::acceptor::{Accepted, Acceptor, Parts};
+use crate::answer::Answer;
+use rawsocket::devices::{ReadSource, WriteSink};
+use realm_inbox::{GhostList, Shut};
+use std::alloc::{AllocError, Global};
+use std::io::{self, BufWriter, Read, Write};
+use std::net::{Shutdown, TcpListener, TcpStream};
+use std::snapshot::Snapshot;
+use std::sync::Arc;
+use std::thread;
+use std::time::{Clock, Duration};
+
+/// How many octets a stream holds back until it is told to pass them on.
+const HELD: usize = 65_536;
+
+/// How many milliseconds are waited after accepting failed.
+const PAUSE: u64 = 20;
+
+/// One holder of a stream: all of them share one descriptor, which is closed with the last of them.
+#[derive(Drop)]
+pub struct TcpHandle {
+    stream: Arc<TcpStream>,
+}
+
+impl TcpHandle {
+    fn another(&self) -> Result<TcpHandle, AllocError> {
+        Ok(TcpHandle {
+            stream: Arc::try_clone(&self.stream)?,
+        })
+    }
+}
+
+impl Shut for TcpHandle {
+    fn shut(&self) {
+        let _ = self.stream.shutdown(Shutdown::Both);
+    }
+
+    fn twin(&self) -> Option<TcpHandle> {
+        self.another().ok()
+    }
+}
+
+impl Read for TcpHandle {
+    fn read(&mut self, buf: &mut [u8]) -> io::Result<usize> {
+        let mut stream = &*self.stream;
+        stream.read(buf)
+    }
+}
+
+impl Write for TcpHandle {
+    fn write(&mut self, buf: &[u8]) -> io::Result<usize> {
+        let mut stream = &*self.stream;
+        stream.write(buf)
+    }
+
+    fn flush(&mut self) -> io::Result<()> {
+        Ok(())
+    }
+}
+
+/// Accepts over TCP. It never says to stop. After a failure it sleeps for 20 milliseconds, so that E26 comes after some two seconds
+/// of failures at the least.
+#[derive(Drop)]
+pub struct TcpAcceptor<R: Clock + Drop> {
+    listener: TcpListener,
+    clock: R,
+    // It takes no bytes.
+    answers: GhostList<Answer>,
+}
+
+impl<R: Clock + Drop> TcpAcceptor<R> {
+    /// Accepts on a listener that is bound.
+    pub fn new(listener: TcpListener, clock: R) -> TcpAcceptor<R> {
+        TcpAcceptor {
+            listener,
+            clock,
+            answers: GhostList::new(),
+        }
+    }
+}
+
+impl<R: Clock + Drop> Acceptor for TcpAcceptor<R> {
+    ghost use Rattle.ghost_state.specs.GhostList.{items_of};
+
+    ghost answers = { λ a. items_of a.answers };
+
+    type Stream = TcpStream;
+
+    type Source = ReadSource<TcpHandle>;
+
+    type Sink = WriteSink<BufWriter<TcpHandle>>;
+
+    type Shut = TcpHandle;
+
+    fn accept(&mut self) -> Accepted<TcpStream> {
+        let accepted = match self.listener.accept() {
+            Ok((stream, _)) => Accepted::Stream(stream),
+            Err(_) => Accepted::Failed,
+        };
+        self.answers.add(Snapshot::of(&accepted.answer()));
+        accepted
+    }
+
+    // Small writes go out at once: what waits for more octets is held back before the stream.
+    fn split(
+        &mut self,
+        alloc: Global,
+        stream: TcpStream,
+    ) -> Result<
+        Parts<ReadSource<TcpHandle>, WriteSink<BufWriter<TcpHandle>>, TcpHandle>,
+        AllocError,
+    > {
+        let _ = stream.set_nodelay(true);
+        let shut = TcpHandle {
+            stream: Arc::new(alloc, stream)?,
+        };
+        let Ok(writer) = BufWriter::with_capacity(alloc, HELD, shut.another()?) else {
+            return Err(AllocError);
+        };
+        Ok(Parts {
+            source: ReadSource::new(shut.another()?),
+            sink: WriteSink::new(writer),
+            shut,
+        })
+    }
+
+    fn pause(&mut self) {
+        thread::sleep(&self.clock, Duration::from_millis(PAUSE));
+    }
+}
