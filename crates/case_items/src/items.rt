@@ -1,3 +1,4 @@
+//! Items as the drivers print them.
 use case_text::is_refused;
 use message_tree::Message;
 use session::{Item, item_message};

@@ -1,3 +1,4 @@
+//! What a client says, read from a line of a table.
 use message_tree::Message;
 use session::{Said, read_said};
 use std::alloc::{AllocError, Global};

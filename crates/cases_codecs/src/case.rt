@@ -1,3 +1,4 @@
+//! A case: what the lines so far have fed and written.
 use crate::appending::{appended, header, letters, number};
 use crate::beyond::{beyond, faults};
 use crate::devices::{reads, writes};

@@ -73,7 +73,8 @@ impl Posting<Nowhere> for Log {
 
     fn post<R: Wait>(&mut self, _rt: &R, act: Act<Nowhere>) -> Result<(), Act<Nowhere>>
         requires { is_join act ≡ false }
-        ensures { MatchResult result (λ _. self.new.acts.items ≡ self.old.acts.items ++ act ∷ []) (λ back. (back ≡ act) × (self.new.acts.items ≡ self.old.acts.items)) }
+        ensures { MatchResult result (λ _. self.new.acts.items ≡ self.old.acts.items ++ act ∷ [])
+            (λ back. (back ≡ act) × (self.new.acts.items ≡ self.old.acts.items)) }
     {
         if self.acts.len() >= self.room {
             return Err(act);

@@ -1,3 +1,4 @@
+//! A case: who publishes and who receives.
 use crate::admitting::{beyond, everyone, lists, taken, threads, who_in_words, who_of};
 use crate::matching::{dot, matches, pattern, same};
 use crate::naming::{conn, faults, id, moved, topic, word};

@@ -1,3 +1,4 @@
+//! A case: an index and a store, as the lines so far have left them.
 use crate::index::{drop_all, hold, matching, pattern, release};
 use crate::store::{count, keep, kept, room};
 use case_text::{Table, crossing, line_of, may_be_shared};

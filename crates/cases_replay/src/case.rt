@@ -1,3 +1,4 @@
+//! A case: the input of a replay, the devices that it is read from and written to, and the run.
 use crate::commands::{command, reports};
 use crate::script::Script;
 use case_text::{Table, line_of};

@@ -1,3 +1,4 @@
+//! Words of a command line, and faults as they are reported.
 use broker_server::{Command, Config, Fault, Ids, read_command, report};
 use rawsocket::devices::MemorySink;
 use std::alloc::{AllocError, Global};

@@ -1,3 +1,4 @@
+//! A case: the octets of a client, the devices, and the opening of its session.
 use crate::opening::Stream;
 use crate::publishing::{arguments, carried, event, threads};
 use crate::saying::said;

@@ -56,7 +56,8 @@ impl Side {
     /// The connection's next item. None where nothing waits, or no drain is here.
     pub fn take<R: Wait>(&mut self, rt: &R) -> Option<Item>
         ensures past { self.new.past ≡ self.old.past }
-        ensures pair { (c : ℕ) (held : _) → Pairs c held self.old.drain → Pairs c held self.new.drain }
+        ensures pair { (c : ℕ) (held : _) → Pairs c held self.old.drain
+            → Pairs c held self.new.drain }
     {
         match &mut self.drain {
             None => None,
@@ -82,7 +83,8 @@ fn handle_next<R: Wait>(
     ensures past { items_of past.new ≡ stands_at (seat_of conn) actor.new.handled }
     ensures stays { Stays conn actor.old actor.new }
     ensures held { StaysHeld conn actor.old actor.new }
-    ensures joined { (joining : AJoining AWire) → act ≡ AJoin joining → result ≡ IsApplied → (p : Box) × (outbox_of actor.new.rows conn ≡ Some p) × (p.queue ≡ joining.outbox.queue) }
+    ensures joined { (joining : AJoining AWire) → act ≡ AJoin joining → result ≡ IsApplied
+        → (p : Box) × (outbox_of actor.new.rows conn ≡ Some p) × (p.queue ≡ joining.outbox.queue) }
 {
     let before = Snapshot::of(past);
     let said = (conn, act);

@@ -1,3 +1,4 @@
+//! A case: a world, and the steps that it is to make.
 ghost use Rattle.std.specs.Prelude.{◌≤◌, IfSome};
 
 use crate::churning::churn;

@@ -1,3 +1,4 @@
+//! Why a connection gets no seat.
 use thiserror::Error;
 
 /// Why a call of this crate was refused.

@@ -1,3 +1,4 @@
+//! Why the options that say who receives are refused.
 use std::alloc::{AllocError, AllocFailed};
 use thiserror::Error;
 

@@ -12,12 +12,16 @@ pub fn excluded_is_not_admitted()
 
 /// An empty eligible list admits nobody, whatever else the options say.
 pub fn empty_eligible_admits_nobody()
-    ensures numbers { (a : Audience) (who publisher : Who) → a.eligible ≡ Some [] → admits a who publisher ≡ false }
-    ensures authids { (a : Audience) (who publisher : Who) → a.eligible_authid ≡ Some [] → admits a who publisher ≡ false }
-    ensures authroles { (a : Audience) (who publisher : Who) → a.eligible_authrole ≡ Some [] → admits a who publisher ≡ false }
+    ensures numbers { (a : Audience) (who publisher : Who) → a.eligible ≡ Some []
+        → admits a who publisher ≡ false }
+    ensures authids { (a : Audience) (who publisher : Who) → a.eligible_authid ≡ Some []
+        → admits a who publisher ≡ false }
+    ensures authroles { (a : Audience) (who publisher : Who) → a.eligible_authrole ≡ Some []
+        → admits a who publisher ≡ false }
 {}
 
 /// Without options everyone is admitted but the publisher's own connection.
 pub fn everyone_but_the_publisher()
-    ensures { (who publisher : Who) → admits everyone who publisher ≡ not (who.conn == publisher.conn) }
+    ensures { (who publisher : Who)
+        → admits everyone who publisher ≡ not (who.conn == publisher.conn) }
 {}

@@ -1,3 +1,4 @@
+//! Who is to receive a publication: `exclude_me`, and the six lists of a PUBLISH.
 ghost use Rattle.std.specs.Prelude.{◌≡◌, ◌==◌, ◌&&◌, true, not, IfOk, None, Some};
 ghost use Rattle.std.specs.Option.{option_and_then};
 ghost use Rattle.message_tree.specs.Data.{no_entries};
@@ -54,12 +55,18 @@ impl Model for Lists {
 impl Named {
     /// These lists in a place of their own, or nothing where none of them is given.
     fn apart(self, alloc: Global) -> Result<Option<Box<Named>>, AllocError>
-        ensures exclude { IfOk result (λ apart. option_and_then (λ n. n.value.exclude) apart ≡ self.exclude) }
-        ensures exclude_authid { IfOk result (λ apart. option_and_then (λ n. n.value.exclude_authid) apart ≡ self.exclude_authid) }
-        ensures exclude_authrole { IfOk result (λ apart. option_and_then (λ n. n.value.exclude_authrole) apart ≡ self.exclude_authrole) }
-        ensures eligible { IfOk result (λ apart. option_and_then (λ n. n.value.eligible) apart ≡ self.eligible) }
-        ensures eligible_authid { IfOk result (λ apart. option_and_then (λ n. n.value.eligible_authid) apart ≡ self.eligible_authid) }
-        ensures eligible_authrole { IfOk result (λ apart. option_and_then (λ n. n.value.eligible_authrole) apart ≡ self.eligible_authrole) }
+        ensures exclude { IfOk result (λ apart.
+            option_and_then (λ n. n.value.exclude) apart ≡ self.exclude) }
+        ensures exclude_authid { IfOk result (λ apart.
+            option_and_then (λ n. n.value.exclude_authid) apart ≡ self.exclude_authid) }
+        ensures exclude_authrole { IfOk result (λ apart.
+            option_and_then (λ n. n.value.exclude_authrole) apart ≡ self.exclude_authrole) }
+        ensures eligible { IfOk result (λ apart.
+            option_and_then (λ n. n.value.eligible) apart ≡ self.eligible) }
+        ensures eligible_authid { IfOk result (λ apart.
+            option_and_then (λ n. n.value.eligible_authid) apart ≡ self.eligible_authid) }
+        ensures eligible_authrole { IfOk result (λ apart.
+            option_and_then (λ n. n.value.eligible_authrole) apart ≡ self.eligible_authrole) }
     {
         if self.is_empty() {
             return Ok(None);
@@ -170,7 +177,8 @@ impl Lists {
 
     /// Whether none of the six lists leaves this receiver out.
     fn lists_admit(&self, who: &Who) -> bool
-        ensures { (publisher : Who) → admits self.now who.now publisher ≡ (result && not (who.now.conn == publisher.conn && self.now.exclude_me)) }
+        ensures { (publisher : Who) → admits self.now who.now publisher
+            ≡ (result && not (who.now.conn == publisher.conn && self.now.exclude_me)) }
     {
         let Some(named) = &self.named else {
             return true;

@@ -1,3 +1,4 @@
+//! The lists of a publication in a form in which a receiver is found in few steps.
 // The lists of a publication, each in a form in which one look-up takes few steps.
 ghost use Rattle.std.specs.Prelude.{◌≡◌, ◌||◌, ◌<◌, ◌^◌, ℕ, List, IfOk, OnOk};
 ghost use Rattle.std.specs.Ordering.{nat_cmp};
@@ -52,7 +53,8 @@ impl Numbers {
 }
 
 fn set_of_numbers(alloc: Global, numbers: &Vec<i128>) -> Result<BTreeSet<u64>, AllocError>
-    ensures { IfOk result (λ ids. (q : ℕ) → q < 2 ^ 64 → has_number q numbers.now.items ≡ contains nat_cmp ids q) }
+    ensures { IfOk result (λ ids. (q : ℕ) → q < 2 ^ 64
+        → has_number q numbers.now.items ≡ contains nat_cmp ids q) }
 {
     let mut ids = BTreeSet::new(alloc);
     for number in numbers {
@@ -62,7 +64,8 @@ fn set_of_numbers(alloc: Global, numbers: &Vec<i128>) -> Result<BTreeSet<u64>, A
 }
 
 fn insert_number(ids: &mut BTreeSet<u64>, number: i128) -> Result<(), AllocError>
-    ensures { OnOk result ((q : ℕ) → q < 2 ^ 64 → contains nat_cmp ids.new q ≡ is_number q number || contains nat_cmp ids.old q) }
+    ensures { OnOk result ((q : ℕ) → q < 2 ^ 64
+        → contains nat_cmp ids.new q ≡ is_number q number || contains nat_cmp ids.old q) }
 {
     if number >= 0 && number <= u64::MAX as i128 {
         ids.insert(number as u64)?;
@@ -118,7 +121,8 @@ fn set_of_texts(alloc: Global, texts: Vec<Text>) -> Result<BTreeSet<String>, All
 }
 
 fn insert_text(names: &mut BTreeSet<String>, text: Text) -> Result<(), AllocError>
-    ensures { OnOk result ((s : List ℕ) → contains_text names.new s ≡ bytes_eq text s || contains_text names.old s) }
+    ensures { OnOk result ((s : List ℕ)
+        → contains_text names.new s ≡ bytes_eq text s || contains_text names.old s) }
 {
     names.insert(text.into_string())?;
     Ok(())

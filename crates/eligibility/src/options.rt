@@ -1,3 +1,4 @@
+//! One option of a PUBLISH, read by its kind: a flag, a list of ids, a list of texts.
 // Reading one option by its kind. An option whose value is null counts as absent.
 ghost use Rattle.std.specs.Prelude.{◌≡◌, ◌<◌, ◌^◌, pos, codes, option_map, IfOk, OnErr, IfErr, None, Some};
 ghost use Rattle.message_tree.specs.Data.{find_entry, whole, fits_codecs};
@@ -11,8 +12,10 @@ use message_tree::{Dict, Text, Tree};
 use std::alloc::Global;
 
 pub(crate) fn flag_at(options: &Dict, key: &str, absent: bool) -> Result<bool, Fault>
-    ensures ok { IfOk result (λ b. flag_or absent (find_entry key.now (dict_view options.now)) ≡ Some b) }
-    ensures bad { OnErr result (flag_or absent (find_entry key.now (dict_view options.now)) ≡ None) }
+    ensures ok { IfOk result (λ b. flag_or absent (find_entry key.now (dict_view options.now)) ≡
+        Some b) }
+    ensures bad { OnErr result (flag_or absent (find_entry key.now (dict_view options.now)) ≡
+        None) }
     ensures fault { IfErr result (λ fault. fault ≡ Fault.Shape) }
 {
     match options.get(key) {
@@ -64,10 +67,14 @@ pub(crate) struct TextLists {
 
 /// Takes them out of the options, which are spent.
 pub(crate) fn text_lists(options: Dict) -> TextLists
-    ensures exclude_authid { option_map view result.exclude_authid ≡ find_entry (codes "exclude_authid") (dict_view options) }
-    ensures exclude_authrole { option_map view result.exclude_authrole ≡ find_entry (codes "exclude_authrole") (dict_view options) }
-    ensures eligible_authid { option_map view result.eligible_authid ≡ find_entry (codes "eligible_authid") (dict_view options) }
-    ensures eligible_authrole { option_map view result.eligible_authrole ≡ find_entry (codes "eligible_authrole") (dict_view options) }
+    ensures exclude_authid { option_map view result.exclude_authid ≡
+        find_entry (codes "exclude_authid") (dict_view options) }
+    ensures exclude_authrole { option_map view result.exclude_authrole ≡
+        find_entry (codes "exclude_authrole") (dict_view options) }
+    ensures eligible_authid { option_map view result.eligible_authid ≡
+        find_entry (codes "eligible_authid") (dict_view options) }
+    ensures eligible_authrole { option_map view result.eligible_authrole ≡
+        find_entry (codes "eligible_authrole") (dict_view options) }
 {
     let mut options = options;
     let exclude_authid = options.take("exclude_authid");

@@ -1,3 +1,4 @@
+//! A session, as the lists of a publication see it.
 ghost use Rattle.std.specs.Prelude.{◌≡◌, IfOk};
 
 use message_tree::{Shared, Text};

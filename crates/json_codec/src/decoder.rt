@@ -1,3 +1,4 @@
+//! From JSON text to a message: `serde_json` says what the text means, and its value becomes a tree.
 ghost use Rattle.std.specs.Prelude.{◌≡◌, ◌≢◌, ◌≤◌, IfOk, IfErr, string_bytes};
 ghost use Rattle.serde_json.specs.View.{view as value_view, number_view, items_view as values_view, members_view};
 ghost use Rattle.message_tree.specs.Data.{depth};

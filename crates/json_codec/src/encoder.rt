@@ -1,3 +1,4 @@
+//! From a message to JSON text, written as `serde_json` writes.
 ghost use Rattle.std.specs.Prelude.{pos, ◌≡◌, ◌≤◌, ◌++◌, ◌⊎◌, IfOk, IfErr, OnOk, OnErr, true, false};
 ghost use Rattle.json.specs.Tree.{json_tokens, items_tokens, members_tokens};
 ghost use Rattle.serde_json.specs.Written.{outline, items_outline, members_outline};

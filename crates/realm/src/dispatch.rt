@@ -1,3 +1,4 @@
+//! Each kind of entry to the part of the realm that answers it; and how sessions end.
 ghost use Rattle.std.specs.Prelude.{◌≡◌, true, is_some, IfOk, IsOk, OnErr};
 ghost use Rattle.realm.specs.declared.entry.Entry.TheVariants as entries;
 ghost use Rattle.realm.specs.body.LiveSessions.{session_of};
@@ -95,7 +96,8 @@ fn answer_said(
     said: Said,
 ) -> Result<Given, Fault>
     requires { is_some (session_of state.old.sessions conn) ≡ true }
-    ensures ok { IfOk result (λ given. Turns state.old (entries.Said conn word said) state.new given.items) }
+    ensures ok { IfOk result (λ given.
+        Turns state.old (entries.Said conn word said) state.new given.items) }
     ensures unchanged { OnErr result (state.new ≡ state.old) }
 {
     match said {

@@ -1,3 +1,4 @@
+//! What happens to a realm: the entries of its history.
 ghost use Rattle.std.specs.Prelude.{◌≡◌};
 ghost use Rattle.realm.specs.Sessions.{conn_of};
 ghost use Rattle.realm.specs.Words.{draws_word, is_silent, says_with_word};

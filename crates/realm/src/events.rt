@@ -1,3 +1,4 @@
+//! The EVENTs of a publication: who gets one, under which number, in which order.
 ghost use Rattle.std.specs.Prelude.{◌≡◌, ◌≤◌, ◌++◌, cond, length, [], ◌∷◌, IfOk, OnOk};
 ghost use Rattle.std.specs.List.{insert};
 ghost use Rattle.subscription_index.specs.Index.{matching, pattern_of};
@@ -31,7 +32,8 @@ pub fn one(alloc: Global, conn: Conn, item: Item) -> Result<Given, Fault>
 /// Where the items of the connection begin.
 fn place_of(given: &[(Conn, Item)], conn: Conn) -> usize
     ensures within { result ≤ length given.now }
-    ensures place { (item : Item) → insert given.now result (conn, item) ≡ put_before conn item given.now }
+    ensures place { (item : Item) → insert given.now result (conn, item) ≡ put_before conn item
+        given.now }
 {
     for i in 0..given.len() {
         if given[i].0.value() >= conn.value() {
@@ -115,7 +117,9 @@ fn add_event(
     conn: Conn,
     number: Id,
 ) -> Result<(), Fault>
-    ensures { OnOk result (given.new.items ≡ given.old.items ++ all_for conn (cond admitted (event_by number made.now (pattern_of index.now.rows conn number)) [])) }
+    ensures { OnOk result (given.new.items ≡ given.old.items ++ all_for
+        conn (cond admitted (event_by number made.now (pattern_of index.now.rows conn number))
+        [])) }
 {
     if !admitted {
         return Ok(());
@@ -154,7 +158,8 @@ pub fn events_at(
     made: &Shared<Publication>,
     keys: &[(Conn, Id)],
 ) -> Result<Given, Fault>
-    ensures { IfOk result (λ given. given.items ≡ events_at sessions.now index.now.rows made.now keys.now) }
+    ensures { IfOk result (λ given.
+        given.items ≡ events_at sessions.now index.now.rows made.now keys.now) }
 {
     let mut given = Vec::new(alloc);
     given.reserve_exact(keys.len())?;

@@ -1,3 +1,4 @@
+//! Why an entry did not enter the history.
 use std::alloc::{AllocError, AllocFailed};
 use thiserror::Error;
 

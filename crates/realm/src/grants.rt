@@ -1,3 +1,4 @@
+//! Which authid may be asked for, and the role that goes with it.
 ghost use Rattle.std.specs.Prelude.{◌≡◌, ℕ, List, [], ◌∷◌, map, IfOk, OnOk};
 ghost use Rattle.std.specs.String.{string_bytes};
 ghost use Rattle.std.specs.Option.{option_copied};
@@ -51,7 +52,8 @@ impl Grants {
 
 /// The role of each authid: that of its first pair.
 fn roles_of(alloc: Global, pairs: Vec<(String, String)>) -> Result<IndexMap<String, Text>, Fault>
-    ensures { IfOk result (λ roles. (name : List ℕ) → get_by_text roles name ≡ role_in (pairs_of pairs.items) name) }
+    ensures { IfOk result (λ roles. (name : List ℕ)
+        → get_by_text roles name ≡ role_in (pairs_of pairs.items) name) }
 {
     let mut roles = IndexMap::new(alloc);
     for (authid, role) in pairs {
@@ -62,7 +64,9 @@ fn roles_of(alloc: Global, pairs: Vec<(String, String)>) -> Result<IndexMap<Stri
 
 /// Keeps the role of an authid that has none yet.
 fn keep_first(roles: &mut IndexMap<String, Text>, authid: String, role: Text) -> Result<(), Fault>
-    ensures { OnOk result ((name : List ℕ) → get_by_text roles.new name ≡ first_of (get_by_text roles.old name) (role_in ((string_bytes authid, role) ∷ []) name)) }
+    ensures { OnOk result ((name : List ℕ)
+        → get_by_text roles.new name ≡
+        first_of (get_by_text roles.old name) (role_in ((string_bytes authid, role) ∷ []) name)) }
 {
     if !roles.contains_key(authid.as_str()) {
         roles.insert(authid, role)?;

@@ -1,3 +1,4 @@
+//! Joins: who is admitted, and under which name and role.
 ghost use Rattle.std.specs.Prelude.{◌≡◌, None, IfOk, OnErr};
 ghost use Rattle.std.specs.Option.{option_copied};
 ghost use Rattle.realm.specs.Sessions.{name_for, role_for};
@@ -76,7 +77,9 @@ pub fn join(
     authid: &Option<Text>,
 ) -> Result<Given, Fault>
     requires { session_of state.old.sessions conn ≡ None }
-    ensures ok { IfOk result (λ given. IsJoined state.old conn word (admitted state.old conn word authid.now) state.new given.items) }
+    ensures ok { IfOk result (λ given.
+        IsJoined state.old conn word (admitted state.old conn word authid.now) state.new
+        given.items) }
     ensures unchanged { OnErr result (state.new ≡ state.old) }
 {
     match admission(alloc, state, conn, word, authid)? {

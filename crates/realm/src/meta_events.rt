@@ -1,3 +1,4 @@
+//! The session meta events: `wamp.session.on_join` and `on_leave`.
 ghost use Rattle.std.specs.Prelude.{◌≡◌, ◌≤◌, true, pos, IfOk, OnOk};
 ghost use Rattle.message_tree.specs.Data.{Items, whole, text, put, items_depth, is_carried, items_carried};
 ghost use Rattle.message_tree.specs.View.{view, dict_view, items_view};
@@ -102,7 +103,8 @@ fn announcement(
     topic: Topic,
     args: CarriedArgs,
 ) -> Result<Shared<Publication>, Fault>
-    ensures { IfOk result (λ made. (items : Items) → args ≡ listed items → made ≡ announcement word who.now topic items) }
+    ensures { IfOk result (λ made. (items : Items) → args ≡ listed items
+        → made ≡ announcement word who.now topic items) }
 {
     let made = Publication {
         id: Id::of_word(word),
@@ -117,7 +119,8 @@ fn announcement(
 
 /// The EVENTs of a session's arrival. Where nobody holds a pattern that matches, nothing is made of it.
 pub fn arrival_events(alloc: Global, state: &State, word: u64, who: &Who) -> Result<Given, Fault>
-    ensures { IfOk result (λ given. given.items ≡ all_events state.now.sessions state.now.index.rows (arrival word who.now)) }
+    ensures { IfOk result (λ given.
+        given.items ≡ all_events state.now.sessions state.now.index.rows (arrival word who.now)) }
 {
     let topic = topic_of(alloc, "wamp.session.on_join")?;
     let keys = matching(alloc, &state.index, &topic)?;
@@ -131,7 +134,8 @@ pub fn arrival_events(alloc: Global, state: &State, word: u64, who: &Who) -> Res
 
 /// The EVENTs of a session's departure. Where nobody holds a pattern that matches, nothing is made of it.
 pub fn departure_events(alloc: Global, state: &State, word: u64, who: &Who) -> Result<Given, Fault>
-    ensures { IfOk result (λ given. given.items ≡ all_events state.now.sessions state.now.index.rows (departure word who.now)) }
+    ensures { IfOk result (λ given.
+        given.items ≡ all_events state.now.sessions state.now.index.rows (departure word who.now)) }
 {
     let topic = topic_of(alloc, "wamp.session.on_leave")?;
     let keys = matching(alloc, &state.index, &topic)?;

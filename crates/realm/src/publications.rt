@@ -1,3 +1,4 @@
+//! PUBLISH: whether it is accepted, what it gives, and what stays retained.
 ghost use Rattle.std.specs.Prelude.{◌≡◌, ℕ, true, not, ◌&&◌, is_some, None, Some, IfOk, OnOk, OnErr, IfSome};
 ghost use Rattle.wamp_ids.specs.Uri.{is_topic, is_reserved};
 ghost use Rattle.session.specs.Arguments.{is_all_carried};
@@ -74,8 +75,11 @@ fn accepted_with(
     topic: Text,
     args: Args,
 ) -> Result<AcceptedPublication, Reason>
-    ensures answer { (word : ℕ) (w : Who) → published_by (has_room store.now topic) word w topic args (Some publish_options) ≡ made_with word w result }
-    ensures room { IfOk result (λ a. a.publish_options.retained ≡ true → has_room store.now a.topic ≡ true) }
+    ensures answer { (word : ℕ) (w : Who)
+        → published_by (has_room store.now topic) word w topic args (Some publish_options) ≡
+        made_with word w result }
+    ensures room { IfOk result (λ a. a.publish_options.retained ≡ true
+        → has_room store.now a.topic ≡ true) }
 {
     let Some(topic) = open_topic(topic) else {
         return Err(Reason::InvalidUri);
@@ -101,8 +105,12 @@ fn accepted(
     topic: Text,
     args: Args,
 ) -> Result<Result<AcceptedPublication, Reason>, Fault>
-    ensures answer { IfOk result (λ accepted. (word : ℕ) (w : Who) → published_by (has_room store.now topic) word w topic args (publish_options_of options) ≡ made_with word w accepted) }
-    ensures room { IfOk result (λ accepted. IfOk accepted (λ a. a.publish_options.retained ≡ true → has_room store.now a.topic ≡ true)) }
+    ensures answer { IfOk result (λ accepted. (word : ℕ) (w : Who)
+        → published_by (has_room store.now topic) word w topic args (publish_options_of options) ≡
+        made_with word w accepted) }
+    ensures room { IfOk result (λ accepted.
+        IfOk accepted (λ a. a.publish_options.retained ≡ true
+        → has_room store.now a.topic ≡ true)) }
 {
     match read_publish_options(alloc, options)? {
         Some(publish_options) => Ok(accepted_with(store, publish_options, topic, args)),
@@ -125,7 +133,9 @@ fn publication(
     word: u64,
     accepted: AcceptedPublication,
 ) -> Result<Publication, Fault>
-    ensures { IfOk result (λ p. p ≡ (made_by word publisher.now accepted.topic accepted.args accepted.publish_options).publication) }
+    ensures { IfOk result (λ p. p ≡
+        (made_by word publisher.now accepted.topic accepted.args
+        accepted.publish_options).publication) }
 {
     let publisher = publisher.twin()?;
     let AcceptedPublication {
@@ -154,7 +164,9 @@ fn is_acknowledged(requester: &Requester) -> bool
 
 /// ERROR for a PUBLISH that is refused, where it asked for an answer.
 fn refused(alloc: Global, requester: &Requester, reason: Reason) -> Result<Given, Fault>
-    ensures { IfOk result (λ given. given.items ≡ refused requester.now.conn requester.now.request requester.now.acknowledge reason) }
+    ensures { IfOk result (λ given.
+        given.items ≡ refused requester.now.conn requester.now.request requester.now.acknowledge
+        reason) }
 {
     if !is_acknowledged(requester) {
         return Ok(Vec::new(alloc));
@@ -174,7 +186,9 @@ fn told(
     requester: &Requester,
     made: &Shared<Publication>,
 ) -> Result<Given, Fault>
-    ensures { IfOk result (λ given. given.items ≡ told state.now requester.now.conn requester.now.request requester.now.acknowledge made.now) }
+    ensures { IfOk result (λ given.
+        given.items ≡ told state.now requester.now.conn requester.now.request
+        requester.now.acknowledge made.now) }
 {
     let keys = matching(alloc, &state.index, &made.value().topic)?;
     let mut given = events_at(alloc, &state.sessions, &state.index, made, &keys)?;

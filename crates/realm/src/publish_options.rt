@@ -1,3 +1,4 @@
+//! What the options of a PUBLISH ask for.
 ghost use Rattle.std.specs.Prelude.{◌≡◌, false, IfOk};
 ghost use Rattle.message_tree.specs.Data.{find_entry};
 ghost use Rattle.eligibility.specs.Options.{flag_or};

@@ -1,3 +1,4 @@
+//! A realm: contracts see its history, and the body keeps what the next entry needs of it.
 ghost use Rattle.std.specs.Prelude.{◌≡◌, ◌+◌, ◌≤◌, true, false, length, vec_capacity, OnOk, OnErr, IfOk, IsOk};
 ghost use Rattle.realm.specs.Grants.{pairs_of};
 ghost use Rattle.realm.specs.History.{begun, ◌▷◌};
@@ -145,7 +146,8 @@ impl Realm {
 fn make_room(past: &mut Vec<Snapshot<Entry>>, live: usize, entry: &Entry) -> Result<(), AllocError>
     ensures items { past.new.items ≡ past.old.items }
     ensures more { vec_capacity past.old ≤ vec_capacity past.new }
-    ensures room { OnOk result (is_silent entry.now ≡ false → length past.new.items + (live + 2) ≤ vec_capacity past.new) }
+    ensures room { OnOk result (is_silent entry.now ≡ false
+        → length past.new.items + (live + 2) ≤ vec_capacity past.new) }
     ensures silent { is_silent entry.now ≡ true → IsOk result }
 {
     if entry.is_silent() {

@@ -1,3 +1,4 @@
+//! The last connection that joined at each seat, since its number may not come again.
 ghost use Rattle.std.specs.Prelude.{◌≡◌, ◌-◌, IfOk, None, Some, replicate, set};
 ghost use Rattle.wamp_ids.specs.Numbers.{seat_of};
 ghost use Rattle.realm.specs.body.LiveSessions.{may_join_by};

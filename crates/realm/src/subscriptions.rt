@@ -1,3 +1,4 @@
+//! SUBSCRIBE and UNSUBSCRIBE: what is refused, what is held, and the retained events that follow.
 ghost use Rattle.std.specs.Prelude.{◌≡◌, ◌+◌, ◌≤◌, ◌++◌, ◌∷◌, [], true, length, vec_len, map, is_some, None, Some, Ok, Err, IfOk, OnOk, OnErr};
 ghost use Rattle.std.specs.Vec.{vec_capacity};
 ghost use Rattle.std.specs.List.{filter};
@@ -101,7 +102,8 @@ fn wanted(
     pattern: &Pattern,
     who: &Who,
 ) -> Result<Vec<Shared<Publication>>, Fault>
-    ensures { IfOk result (λ kept. kept.items ≡ wanted store.now (get_retained_of options.now) pattern.now who.now) }
+    ensures { IfOk result (λ kept.
+        kept.items ≡ wanted store.now (get_retained_of options.now) pattern.now who.now) }
 {
     match flag(options, "get_retained") {
         Some(true) => admitted(alloc, store.matching(alloc, pattern)?, who),
@@ -118,7 +120,8 @@ fn give_retained(
     publications: Vec<Shared<Publication>>,
 )
     requires { vec_len given.old + length publications.items ≤ vec_capacity given.old }
-    ensures { given.new.items ≡ given.old.items ++ all_for conn (map (retained_event subscription policy) publications.items) }
+    ensures { given.new.items ≡ given.old.items ++ all_for
+        conn (map (retained_event subscription policy) publications.items) }
 {
     for publication in publications {
         given.push_reserved((
@@ -177,7 +180,9 @@ fn hold(
     pattern: Pattern,
     retained: Vec<Shared<Publication>>,
 ) -> Result<Given, Fault>
-    ensures ok { IfOk result (λ given. IsHeld state.old asked.now.conn asked.now.request pattern retained.items state.new given.items) }
+    ensures ok { IfOk result (λ given.
+        IsHeld state.old asked.now.conn asked.now.request pattern retained.items state.new
+        given.items) }
     ensures unchanged { OnErr result (state.new ≡ state.old) }
 {
     let policy = pattern.policy();
@@ -210,7 +215,8 @@ pub fn unsubscribe(
     request: Id,
     subscription: Id,
 ) -> Result<Given, Fault>
-    ensures ok { IfOk result (λ given. IsUnsubscribed state.old conn request subscription state.new given.items) }
+    ensures ok { IfOk result (λ given.
+        IsUnsubscribed state.old conn request subscription state.new given.items) }
     ensures unchanged { OnErr result (state.new ≡ state.old) }
 {
     let mut given = Vec::with_capacity(alloc, 1)?;

@@ -52,7 +52,13 @@ impl<S: Shut, W: IdSource> Actor<S, W> {
     /// # Errors
     /// `NoMemory` where memory for the realm was refused.
     pub fn new(alloc: Global, config: RealmConfig, words: W) -> Result<Actor<S, W>, Fault>
-        ensures { IfOk result (λ a. a ≡ record { history = begun (pairs_of config.grants.items); rows = []; words = W.given words; last_cut = []; handled = [] }) }
+        ensures { IfOk result (λ a. a ≡ record {
+          history = begun (pairs_of config.grants.items);
+          rows = [];
+          words = W.given words;
+          last_cut = [];
+          handled = [];
+        }) }
     {
         Ok(Actor {
             state: State::new(alloc, config, words)?,
@@ -138,7 +144,8 @@ impl<S: Shut, W: IdSource> Actor<S, W> {
         drain: Drain<Item, RealmHistory>,
     ) -> Result<Rest<Item>, (AllocError, Drain<Item, RealmHistory>)>
         requires { IsOther drain (outbox_of self.old.rows drain.conn) }
-        ensures ok { IfOk result (λ rest. Settles drain.conn drain rest.items.items self.old self.new) }
+        ensures ok { IfOk result (λ rest.
+            Settles drain.conn drain rest.items.items self.old self.new) }
         ensures err { IfErr result (λ back. (self.new ≡ self.old) × (back.1 ≡ drain)) }
     {
         let state = &mut self.state;

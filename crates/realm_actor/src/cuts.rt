@@ -88,7 +88,8 @@ impl<S: Shut> Table<S> {
     fn cut<R: Wait>(&mut self, rt: &R, alloc: Global, conn: Conn, word: u64)
         requires sound { Sound self.old.realm self.old.rows.items }
         requires live { live self.old.realm conn ≡ true }
-        ensures history { (e : AnEntry) × IsCutOf conn word e × (self.new.realm ≡ self.old.realm ▷ e) }
+        ensures history { (e : AnEntry) × IsCutOf conn word e
+            × (self.new.realm ≡ self.old.realm ▷ e) }
         ensures rows { EachWent self.old.rows.items self.new.rows.items }
         ensures sound { Sound self.new.realm self.new.rows.items }
         ensures knows { Knows self.old → Knows self.new }
@@ -122,7 +123,8 @@ impl<S: Shut> Table<S> {
     /// what the Cuts give.
     pub fn cut_full<W: IdSource, R: Wait>(&mut self, rt: &R, alloc: Global, words: &mut W)
         requires { Sound self.old.realm self.old.rows.items }
-        ensures cuts { (drawn : List ℕ) × Cuts self.old.realm self.old.rows.items drawn self.new.realm self.new.rows.items × (W.given words.new ≡ W.given words.old ++ drawn) }
+        ensures cuts { (drawn : List ℕ) × Cuts self.old.realm self.old.rows.items drawn
+            self.new.realm self.new.rows.items × (W.given words.new ≡ W.given words.old ++ drawn) }
         ensures none { NoneFull self.new.rows.items }
         ensures sound { Sound self.new.realm self.new.rows.items }
         ensures knows { Knows self.old → Knows self.new }
@@ -148,7 +150,8 @@ impl<S: Shut> Table<S> {
     )
         requires sound { Sound self.old.realm self.old.rows.items }
         requires none { is_full ≡ false → NoneFull self.old.rows.items }
-        ensures cuts { (drawn : List ℕ) × Cuts self.old.realm self.old.rows.items drawn self.new.realm self.new.rows.items × (W.given words.new ≡ W.given words.old ++ drawn) }
+        ensures cuts { (drawn : List ℕ) × Cuts self.old.realm self.old.rows.items drawn
+            self.new.realm self.new.rows.items × (W.given words.new ≡ W.given words.old ++ drawn) }
         ensures none { NoneFull self.new.rows.items }
         ensures sound { Sound self.new.realm self.new.rows.items }
         ensures knows { Knows self.old → Knows self.new }
@@ -171,7 +174,9 @@ impl<S: Shut> Table<S> {
         requires none { NoneFull self.old.rows.items }
         requires comes { may_come self.old.realm entry ≡ true }
         requires own { conn_of entry ≡ conn }
-        ensures ok { OnOk result ((drawn : List ℕ) × Accepted self.old.realm self.old.rows.items entry drawn self.new.realm self.new.rows.items × (W.given words.new ≡ W.given words.old ++ drawn)) }
+        ensures ok { OnOk result ((drawn : List ℕ)
+            × Accepted self.old.realm self.old.rows.items entry drawn self.new.realm
+            self.new.rows.items × (W.given words.new ≡ W.given words.old ++ drawn)) }
         ensures sound { OnOk result (Sound self.new.realm self.new.rows.items) }
         ensures knows { OnOk result (Knows self.old → Knows self.new) }
         ensures err { OnErr result (self.new ≡ self.old) }
@@ -186,7 +191,10 @@ impl<S: Shut> Table<S> {
     pub fn lose<W: IdSource, R: Wait>(&mut self, rt: &R, alloc: Global, words: &mut W, conn: Conn)
         requires sound { Sound self.old.realm self.old.rows.items }
         requires live { live self.old.realm conn ≡ true }
-        ensures lost { (word : ℕ) × (drawn : List ℕ) × (e : AnEntry) × (marked : List (ARow _)) × IsCutOf conn word e × EachMarked conn self.old.rows.items marked × Accepted self.old.realm marked e drawn self.new.realm self.new.rows.items × (W.given words.new ≡ W.given words.old ++ word ∷ drawn) }
+        ensures lost { (word : ℕ) × (drawn : List ℕ) × (e : AnEntry) × (marked : List (ARow _))
+            × IsCutOf conn word e × EachMarked conn self.old.rows.items marked
+            × Accepted self.old.realm marked e drawn self.new.realm self.new.rows.items
+            × (W.given words.new ≡ W.given words.old ++ word ∷ drawn) }
         ensures sound { Sound self.new.realm self.new.rows.items }
         ensures knows { Knows self.old → Knows self.new }
     {

@@ -35,7 +35,8 @@ fn offer_one<S: Shut, R: Wait>(
 ) -> Pass
     requires ascending { Ascending rows.old }
     requires due { (rest : List (ℕ × AnItem)) × EachDue history.now ((conn, item) ∷ rest) rows.old }
-    ensures due { (rest : List (ℕ × AnItem)) → EachDue history.now ((conn, item) ∷ rest) rows.old → EachDue history.now rest rows.new }
+    ensures due { (rest : List (ℕ × AnItem)) → EachDue history.now ((conn, item) ∷ rest) rows.old
+        → EachDue history.now rest rows.new }
     ensures goes { EachGoes rows.old rows.new }
     ensures none { result.is_full ≡ false → (pass.is_full ≡ false) × NoneRose rows.old rows.new }
 {

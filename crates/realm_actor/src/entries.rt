@@ -58,7 +58,9 @@ impl<S: Shut, W: IdSource> State<S, W> {
         requires other { is_join act ≡ false }
         requires sound { Sound self.old.table.realm self.old.table.rows.items }
         requires none { NoneFull self.old.table.rows.items }
-        ensures outcome { Acts result (self.new ≡ self.old) conn act self.old.table.realm self.old.table.rows.items (W.given self.old.words) self.new.table.realm self.new.table.rows.items (W.given self.new.words) }
+        ensures outcome { Acts result (self.new ≡ self.old) conn act self.old.table.realm
+            self.old.table.rows.items (W.given self.old.words) self.new.table.realm
+            self.new.table.rows.items (W.given self.new.words) }
         ensures exact { is_dropped self.old.table.realm conn act ≡ true → result ≡ Dropped }
         ensures last_cut { self.new.last_cut ≡ self.old.last_cut }
         ensures room { IsRoomy self.old → IsRoomy self.new }
@@ -87,7 +89,9 @@ impl<S: Shut, W: IdSource> State<S, W> {
         requires sound { Sound self.old.table.realm self.old.table.rows.items }
         requires none { NoneFull self.old.table.rows.items }
         requires own { joining.outbox.conn ≡ conn }
-        ensures outcome { Acts result (self.new ≡ self.old) conn (AJoin joining) self.old.table.realm self.old.table.rows.items (W.given self.old.words) self.new.table.realm self.new.table.rows.items (W.given self.new.words) }
+        ensures outcome { Acts result (self.new ≡ self.old) conn (AJoin joining)
+            self.old.table.realm self.old.table.rows.items (W.given self.old.words)
+            self.new.table.realm self.new.table.rows.items (W.given self.new.words) }
         ensures exact { may_join self.old.table.realm conn ≡ false → result ≡ Dropped }
         ensures last_cut { self.new.last_cut.items ≡ self.old.last_cut.items }
         ensures room { IsRoomy self.old → IsRoomy self.new }
@@ -133,7 +137,8 @@ impl<S: Shut, W: IdSource> State<S, W> {
         ensures knows { Knows self.old.table → Knows self.new.table }
         ensures last_cut { self.new.last_cut.items ≡ self.old.last_cut.items }
         ensures row { OnOk result (vec_len self.new.table.rows < vec_capacity self.new.table.rows) }
-        ensures room { OnOk result (length self.new.table.rows.items + 1 ≤ vec_capacity self.new.last_cut) }
+        ensures room { OnOk result (length self.new.table.rows.items + 1 ≤ vec_capacity
+            self.new.last_cut) }
         ensures capacity { vec_capacity self.old.last_cut ≤ vec_capacity self.new.last_cut }
     {
         self.table.rows.reserve(1)?;

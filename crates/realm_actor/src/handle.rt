@@ -23,8 +23,11 @@ impl<S: Shut, W: IdSource> State<S, W> {
     fn act<R: Wait>(&mut self, rt: &R, alloc: Global, letter: Letter<S>) -> Outcome
         requires sound { Sound self.old.table.realm self.old.table.rows.items }
         requires none { NoneFull self.old.table.rows.items }
-        ensures outcome { Acts result (self.new ≡ self.old) letter.conn letter.act self.old.table.realm self.old.table.rows.items (W.given self.old.words) self.new.table.realm self.new.table.rows.items (W.given self.new.words) }
-        ensures exact { is_dropped self.old.table.realm letter.conn letter.act ≡ true → result ≡ Dropped }
+        ensures outcome { Acts result (self.new ≡ self.old) letter.conn letter.act
+            self.old.table.realm self.old.table.rows.items (W.given self.old.words)
+            self.new.table.realm self.new.table.rows.items (W.given self.new.words) }
+        ensures exact { is_dropped self.old.table.realm letter.conn letter.act ≡ true
+            → result ≡ Dropped }
         ensures sound { Sound self.new.table.realm self.new.table.rows.items }
         ensures knows { Knows self.old.table → Knows self.new.table }
         ensures last_cut { self.new.last_cut.items ≡ self.old.last_cut.items }
@@ -47,8 +50,11 @@ impl<S: Shut, W: IdSource> State<S, W> {
         requires stands { Stands self.old.table.realm self.old.table.rows.items }
         requires knows { Knows self.old.table }
         requires room { IsRoomy self.old }
-        ensures does { Does result letter.conn letter.act self.old.table.realm self.old.table.rows.items (W.given self.old.words) self.new.table.realm self.new.table.rows.items (W.given self.new.words) self.new.last_cut.items }
-        ensures exact { is_dropped self.old.table.realm letter.conn letter.act ≡ true → result ≡ Dropped }
+        ensures does { Does result letter.conn letter.act self.old.table.realm
+            self.old.table.rows.items (W.given self.old.words) self.new.table.realm
+            self.new.table.rows.items (W.given self.new.words) self.new.last_cut.items }
+        ensures exact { is_dropped self.old.table.realm letter.conn letter.act ≡ true
+            → result ≡ Dropped }
         ensures handled { self.new.handled ≡ self.old.handled }
         ensures stands { Stands self.new.table.realm self.new.table.rows.items }
         ensures knows { Knows self.new.table }
@@ -70,7 +76,8 @@ impl<S: Shut, W: IdSource> State<S, W> {
         requires stands { Stands self.old.table.realm self.old.table.rows.items }
         requires knows { Knows self.old.table }
         requires room { IsRoomy self.old }
-        ensures handles { Handles result post (acting (W.given self.old.words) self.old) (acting (W.given self.new.words) self.new) }
+        ensures handles { Handles result post (acting (W.given self.old.words) self.old)
+            (acting (W.given self.new.words) self.new) }
         ensures stands { Stands self.new.table.realm self.new.table.rows.items }
         ensures knows { Knows self.new.table }
         ensures room { IsRoomy self.new }

@@ -28,7 +28,8 @@ impl<S: Shut> Held<S> {
     /// is now.
     pub fn offer<R: Wait>(&mut self, rt: &R, item: Item, history: &RealmHistory) -> bool
         requires { (due : List AnItem) × Follows history.now (item ∷ due) self.old.outbox }
-        ensures follows { (due : List AnItem) → Follows history.now (item ∷ due) self.old.outbox → Follows history.now due self.new.outbox }
+        ensures follows { (due : List AnItem) → Follows history.now (item ∷ due) self.old.outbox
+            → Follows history.now due self.new.outbox }
         ensures goes { Goes self.old.outbox self.new.outbox }
         ensures rose { result ≡ true → self.old.outbox.full_finds < self.new.outbox.full_finds }
         ensures same { result ≡ false → self.new.outbox.full_finds ≡ self.old.outbox.full_finds }
@@ -88,7 +89,8 @@ impl<S: Shut> Row<S> {
     /// Offers the item, which is the next that is due, to the row's outbox, if it is held. True where that is found full.
     pub fn offer<R: Wait>(&mut self, rt: &R, item: Item, history: &RealmHistory) -> bool
         requires { (due : List AnItem) × RowDue history.now (item ∷ due) self.old }
-        ensures due { (due : List AnItem) → RowDue history.now (item ∷ due) self.old → RowDue history.now due self.new }
+        ensures due { (due : List AnItem) → RowDue history.now (item ∷ due) self.old
+            → RowDue history.now due self.new }
         ensures goes { RowGoes self.old self.new }
         ensures same { result ≡ false → Rose (box_in self.old) (box_in self.new) → ⊥ }
     {

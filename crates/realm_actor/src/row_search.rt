@@ -36,7 +36,8 @@ fn place_by<S: Shut>(rows: &[Row<S>], number: u64) -> usize
 // Whether the row at the place is that of the connection of this number.
 fn is_at<S: Shut>(rows: &[Row<S>], place: usize, number: u64) -> bool
     ensures yes { result ≡ true → StandsAt rows.now number place }
-    ensures no { result ≡ false → (r : ARow _) → slice_get rows.now place ≡ Some r → r.conn ≢ number }
+    ensures no { result ≡ false → (r : ARow _) → slice_get rows.now place ≡ Some r
+        → r.conn ≢ number }
 {
     place < rows.len() && rows[place].conn.value() == number
 }
@@ -44,7 +45,8 @@ fn is_at<S: Shut>(rows: &[Row<S>], place: usize, number: u64) -> bool
 /// The place of the connection's row. Where `near` is a row of it, or the row before it, nothing is searched.
 pub fn find<S: Shut>(rows: &[Row<S>], near: usize, conn: Conn) -> Option<usize>
     requires { Ascending rows.now }
-    ensures { MatchOption result (Each (λ r. r.conn ≢ conn) rows.now) (λ i. StandsAt rows.now conn i) }
+    ensures { MatchOption result (Each (λ r. r.conn ≢ conn) rows.now)
+        (λ i. StandsAt rows.now conn i) }
 {
     find_number(rows, near, conn.value())
 }
@@ -52,7 +54,8 @@ pub fn find<S: Shut>(rows: &[Row<S>], near: usize, conn: Conn) -> Option<usize>
 /// The same by the connection's number.
 pub fn find_number<S: Shut>(rows: &[Row<S>], near: usize, number: u64) -> Option<usize>
     requires { Ascending rows.now }
-    ensures { MatchOption result (Each (λ r. r.conn ≢ number) rows.now) (λ i. StandsAt rows.now number i) }
+    ensures { MatchOption result (Each (λ r. r.conn ≢ number) rows.now)
+        (λ i. StandsAt rows.now number i) }
 {
     if is_at(rows, near, number) {
         return Some(near);

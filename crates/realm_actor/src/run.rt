@@ -37,7 +37,8 @@ impl<S: Shut, W: IdSource> Actor<S, W> {
     /// for them is refused, it receives one by one. Writers are woken after at most 64 posts, and always before it waits.
     pub fn run<R: Wait>(mut self, rt: &R, alloc: Global, inbox: &mut Inbox<S>) -> Actor<S, W>
         requires in_turn { SameAtSeats self.handled (received inbox.old) }
-        ensures ran { (came : List (APost S)) × (received inbox.new ≡ received inbox.old ++ came) × InOrder (received inbox.old) came × Ran self came result }
+        ensures ran { (came : List (APost S)) × (received inbox.new ≡ received inbox.old ++ came)
+            × InOrder (received inbox.old) came × Ran self came result }
         ensures begins { Begins self.history result.history }
         ensures held { KeepsHeld self result }
     {
@@ -66,7 +67,9 @@ impl<S: Shut, W: IdSource> Actor<S, W> {
         ahead: &mut VecDeque<Post<S>>,
         unwoken: &mut u64,
     ) -> Option<Post<S>>
-        ensures { MatchOption result ((received inbox.new ≡ received inbox.old) × (ahead.old.items ≡ []) × (ahead.new.items ≡ [])) (TakesNext (received inbox.old) (received inbox.new) ahead.old.items ahead.new.items) }
+        ensures { MatchOption result ((received inbox.new ≡ received inbox.old)
+            × (ahead.old.items ≡ []) × (ahead.new.items ≡ []))
+            (TakesNext (received inbox.old) (received inbox.new) ahead.old.items ahead.new.items) }
     {
         let ready = ready_post(rt, inbox, ahead);
         self.wake_in_time(unwoken, ready.is_none());
@@ -93,7 +96,9 @@ fn ready_post<S: Shut, R: Wait>(
     inbox: &mut Inbox<S>,
     ahead: &mut VecDeque<Post<S>>,
 ) -> Option<Post<S>>
-    ensures { MatchOption result ((received inbox.new ≡ received inbox.old) × (ahead.old.items ≡ []) × (ahead.new.items ≡ [])) (TakesNext (received inbox.old) (received inbox.new) ahead.old.items ahead.new.items) }
+    ensures { MatchOption result ((received inbox.new ≡ received inbox.old) × (ahead.old.items ≡ [])
+        × (ahead.new.items ≡ []))
+        (TakesNext (received inbox.old) (received inbox.new) ahead.old.items ahead.new.items) }
 {
     if let Some(post) = ahead.pop_front() {
         return Some(post);
@@ -105,7 +110,9 @@ fn ready_post<S: Shut, R: Wait>(
 
 // Receives the posts that are there, none behind a stop. Room for them is made first, so that none is lost for want of memory.
 fn receive_ahead<S: Shut, R: Wait>(rt: &R, inbox: &mut Inbox<S>, ahead: &mut VecDeque<Post<S>>)
-    ensures { (more : List (APost S)) × (received inbox.new ≡ received inbox.old ++ more) × InOrder (received inbox.old) more × (ahead.new.items ≡ ahead.old.items ++ more) × NoneBehindStop more }
+    ensures { (more : List (APost S)) × (received inbox.new ≡ received inbox.old ++ more)
+        × InOrder (received inbox.old) more × (ahead.new.items ≡ ahead.old.items ++ more)
+        × NoneBehindStop more }
 {
     if ahead.try_reserve(MOST_AHEAD).is_err() {
         return;

@@ -72,7 +72,8 @@ fn settle_row<S: Shut, R: Wait>(
 ) -> Result<Rest<Item>, (AllocError, Drain<Item, RealmHistory>)>
     requires ascending { Ascending rows.old.items }
     requires pair { IsOther drain (outbox_of rows.old.items drain.conn) }
-    ensures rows { IfOk result (λ rest. EmptiesOne drain.conn drain rest.items.items rows.old.items rows.new.items) }
+    ensures rows { IfOk result (λ rest.
+        EmptiesOne drain.conn drain rest.items.items rows.old.items rows.new.items) }
     ensures err { IfErr result (λ back. (rows.new.items ≡ rows.old.items) × (back.1 ≡ drain)) }
 {
     let Some(place) = find_number(rows.as_slice(), 0, drain.conn()) else {
@@ -112,8 +113,11 @@ impl<S: Shut, W: IdSource> State<S, W> {
     ) -> Result<Rest<Item>, (AllocError, Drain<Item, RealmHistory>)>
         requires ascending { Ascending self.old.table.rows.items }
         requires pair { IsOther drain (outbox_of self.old.table.rows.items drain.conn) }
-        ensures rows { IfOk result (λ rest. EmptiesOne drain.conn drain rest.items.items self.old.table.rows.items self.new.table.rows.items) }
-        ensures err { IfErr result (λ back. (self.new.table.rows.items ≡ self.old.table.rows.items) × (back.1 ≡ drain)) }
+        ensures rows { IfOk result (λ rest.
+            EmptiesOne drain.conn drain rest.items.items self.old.table.rows.items
+            self.new.table.rows.items) }
+        ensures err { IfErr result (λ back. (self.new.table.rows.items ≡ self.old.table.rows.items)
+            × (back.1 ≡ drain)) }
         ensures realm { self.new.table.realm ≡ self.old.table.realm }
         ensures knows { Knows self.old.table → Knows self.new.table }
         ensures words { self.new.words ≡ self.old.words }
@@ -126,7 +130,8 @@ impl<S: Shut, W: IdSource> State<S, W> {
     /// Forgets each session that isn't live.
     pub fn sweep(&mut self)
         requires { Knows self.old.table }
-        ensures rows { self.new.table.rows.items ≡ filter (λ r. live self.old.table.realm r.conn) self.old.table.rows.items }
+        ensures rows { self.new.table.rows.items ≡ filter (λ r. live self.old.table.realm r.conn)
+            self.old.table.rows.items }
         ensures realm { self.new.table.realm ≡ self.old.table.realm }
         ensures knows { Knows self.old.table → Knows self.new.table }
         ensures words { self.new.words ≡ self.old.words }

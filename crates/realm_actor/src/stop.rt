@@ -25,7 +25,10 @@ impl<S: Shut> Table<S> {
         requires sound { Sound self.old.realm self.old.rows.items }
         requires none { NoneFull self.old.rows.items }
         requires inside { place < length self.old.rows.items }
-        ensures closes { (drawn : List ℕ) × (lost : List ℕ) × ClosesOne place self.old.realm self.old.rows.items drawn lost self.new.realm self.new.rows.items × (W.given words.new ≡ W.given words.old ++ drawn) × (result ≡ is_nil lost) }
+        ensures closes { (drawn : List ℕ) × (lost : List ℕ)
+            × ClosesOne place self.old.realm self.old.rows.items drawn lost self.new.realm
+            self.new.rows.items × (W.given words.new ≡ W.given words.old ++ drawn)
+            × (result ≡ is_nil lost) }
         ensures sound { Sound self.new.realm self.new.rows.items }
         ensures none { NoneFull self.new.rows.items }
         ensures knows { Knows self.old → Knows self.new }
@@ -48,7 +51,10 @@ impl<S: Shut> Table<S> {
     fn close_all<W: IdSource, R: Wait>(&mut self, rt: &R, alloc: Global, words: &mut W) -> bool
         requires sound { Sound self.old.realm self.old.rows.items }
         requires none { NoneFull self.old.rows.items }
-        ensures closes { (drawn : List ℕ) × (lost : List ℕ) × Closes self.old.realm self.old.rows.items (length self.old.rows.items) drawn lost self.new.realm self.new.rows.items × (W.given words.new ≡ W.given words.old ++ drawn) × (result ≡ is_nil lost) }
+        ensures closes { (drawn : List ℕ) × (lost : List ℕ)
+            × Closes self.old.realm self.old.rows.items (length self.old.rows.items) drawn lost
+            self.new.realm self.new.rows.items × (W.given words.new ≡ W.given words.old ++ drawn)
+            × (result ≡ is_nil lost) }
         ensures sound { Sound self.new.realm self.new.rows.items }
         ensures none { NoneFull self.new.rows.items }
         ensures knows { Knows self.old → Knows self.new }
@@ -74,7 +80,9 @@ impl<S: Shut, W: IdSource> State<S, W> {
         requires stands { Stands self.old.table.realm self.old.table.rows.items }
         requires knows { Knows self.old.table }
         requires room { IsRoomy self.old }
-        ensures stops { Stops result self.old.table.realm self.old.table.rows.items (W.given self.old.words) self.new.table.realm self.new.table.rows.items (W.given self.new.words) self.new.last_cut.items }
+        ensures stops { Stops result self.old.table.realm
+            self.old.table.rows.items (W.given self.old.words) self.new.table.realm
+            self.new.table.rows.items (W.given self.new.words) self.new.last_cut.items }
         ensures handled { self.new.handled ≡ self.old.handled }
         ensures stands { Stands self.new.table.realm self.new.table.rows.items }
         ensures knows { Knows self.new.table }

@@ -58,7 +58,8 @@ fn deliver<S: Shut, R: Wait>(
 ) -> bool
     requires ascending { Ascending rows.old.items }
     requires due { EachDue history.now given.items rows.old.items }
-    ensures rows { (mid : List (ARow _)) × EachGoes rows.old.items mid × EachDue history.now [] mid × EachEnds conn is_live mid rows.new.items }
+    ensures rows { (mid : List (ARow _)) × EachGoes rows.old.items mid × EachDue history.now [] mid
+        × EachEnds conn is_live mid rows.new.items }
     ensures none { result ≡ false → NoneRose rows.old.items rows.new.items }
 {
     let rows = rows.as_mut_slice();
@@ -83,7 +84,8 @@ impl<S: Shut> Table<S> {
         ensures history { OnOk result (self.new.realm ≡ self.old.realm ▷ entry) }
         ensures rows { OnOk result (EachWent self.old.rows.items self.new.rows.items) }
         ensures sound { OnOk result (Sound self.new.realm self.new.rows.items) }
-        ensures none { IfOk result (λ is_full. is_full ≡ false → NoneFull self.old.rows.items → NoneFull self.new.rows.items) }
+        ensures none { IfOk result (λ is_full. is_full ≡ false → NoneFull self.old.rows.items
+            → NoneFull self.new.rows.items) }
         ensures knows { OnOk result (Knows self.old → Knows self.new) }
         ensures err { OnErr result (self.new ≡ self.old) }
         ensures silent { is_silent entry ≡ true → IsOk result }
@@ -114,9 +116,11 @@ impl<S: Shut> Table<S> {
         requires new { IsNewRow conn row }
         requires room { vec_len self.old.rows < vec_capacity self.old.rows }
         ensures history { OnOk result (self.new.realm ≡ self.old.realm ▷ entry) }
-        ensures rows { OnOk result ((place : ℕ) × EachWent (insert self.old.rows.items place row) self.new.rows.items) }
+        ensures rows { OnOk result ((place : ℕ)
+            × EachWent (insert self.old.rows.items place row) self.new.rows.items) }
         ensures sound { OnOk result (Sound self.new.realm self.new.rows.items) }
-        ensures none { IfOk result (λ is_full. is_full ≡ false → NoneFull self.old.rows.items → NoneFull self.new.rows.items) }
+        ensures none { IfOk result (λ is_full. is_full ≡ false → NoneFull self.old.rows.items
+            → NoneFull self.new.rows.items) }
         ensures knows { OnOk result (Knows self.old → Knows self.new) }
         ensures err { OnErr result (self.new ≡ self.old) }
         ensures back { IfErr result (λ r. r ≡ row) }

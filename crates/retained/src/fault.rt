@@ -1,3 +1,4 @@
+//! Why a publication is not retained.
 use std::alloc::{AllocError, AllocFailed};
 use thiserror::Error;
 

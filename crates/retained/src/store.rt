@@ -1,3 +1,4 @@
+//! The last publication of each topic, topics ascending.
 ghost use Rattle.std.specs.Prelude.{◌≡◌, ◌↔◌, ◌≤◌, [], true, false, length, Err, IfOk, IsOk, OnOk, OnErr, MatchResult};
 ghost use Rattle.std.specs.Cmp.Lexicographic.{slice_cmp};
 ghost use Rattle.std.specs.List.{filter};
@@ -66,7 +67,8 @@ impl Store {
     /// refused, which a topic that has one needs not. Nothing is changed then.
     pub fn keep(&mut self, _alloc: Global, publication: Shared<Publication>) -> Result<(), Fault>
         ensures kept { OnOk result (self.new ≡ set_topic publication self.old) }
-        ensures full { (result ≡ Err Fault.RetainedFull) ↔ (has_room self.old publication.topic ≡ false) }
+        ensures full { (result ≡ Err Fault.RetainedFull)
+            ↔ (has_room self.old publication.topic ≡ false) }
         ensures replaced { has_topic publication.topic self.old ≡ true → IsOk result }
         ensures unchanged { OnErr result (self.new ≡ self.old) }
         ensures few { length self.new ≤ 1000 }
@@ -95,7 +97,8 @@ impl Store {
         alloc: Global,
         pattern: &Pattern,
     ) -> Result<Vec<Shared<Publication>>, AllocError>
-        ensures found { IfOk result (λ found. found.items ≡ filter (λ p. matches pattern.now p.topic) self.now) }
+        ensures found { IfOk result (λ found.
+            found.items ≡ filter (λ p. matches pattern.now p.topic) self.now) }
         ensures order { IfOk result (λ found. AreByTopic found.items) }
     {
         let mut found = Vec::new(alloc);
@@ -118,7 +121,8 @@ fn compare(publication: &Shared<Publication>, topic: &str) -> Ordering
 /// Where the topic is among publications in order, or where it goes.
 fn place_of(publications: &[Shared<Publication>], topic: &str) -> Result<usize, usize>
     requires { AreByTopic publications.now }
-    ensures { MatchResult result (λ i. IsAt publications.now i topic.now) (λ i. GoesAt publications.now i topic.now) }
+    ensures { MatchResult result (λ i. IsAt publications.now i topic.now)
+        (λ i. GoesAt publications.now i topic.now) }
 {
     publications.binary_search_by(|publication| compare(publication, topic))
 }

@@ -1,3 +1,4 @@
+//! Copies of entries, for a world that keeps what was posted.
 ghost use Rattle.std.specs.Prelude.{◌≡◌, IfOk};
 
 use message_tree::Text;

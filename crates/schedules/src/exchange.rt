@@ -1,3 +1,4 @@
+//! A realm with its inbox and its queues, and the steps that it makes.
 ghost use Rattle.std.specs.Prelude.{◌≡◌, ◌≤◌, true, false, [], MatchOption, IfOk, OnErr};
 ghost use Rattle.realm.specs.Grants.{pairs_of};
 ghost use Rattle.realm.specs.Sessions.{live, may_come};
@@ -61,7 +62,8 @@ impl Exchange {
         inbox_cap: usize,
         outbox_cap: usize,
     ) -> Result<Exchange, Fault>
-        ensures { IfOk result (λ exchange. exchange ≡ new_world (pairs_of config.grants.items) inbox_cap outbox_cap) }
+        ensures { IfOk result (λ exchange.
+            exchange ≡ new_world (pairs_of config.grants.items) inbox_cap outbox_cap) }
     {
         let realm = Realm::new(alloc, config)?;
         Ok(Exchange {
@@ -213,7 +215,8 @@ impl Exchange {
 
     /// Whose item is the first that waits to be pushed.
     pub fn first_to_push(&self) -> Option<Conn>
-        ensures { MatchOption result (self.now.pushing ≡ []) (λ conn. IsFirstOf conn self.now.pushing) }
+        ensures { MatchOption result (self.now.pushing ≡ [])
+            (λ conn. IsFirstOf conn self.now.pushing) }
     {
         first_conn(&self.pushing)
     }

@@ -1,3 +1,4 @@
+//! The queue of each session.
 // The queues of the sessions. One that is empty is not kept.
 ghost use Rattle.std.specs.Prelude.{◌≡◌, ◌≢◌, ◌==◌, ◌++◌, ℕ, true, false, [], ◌∷◌, cond, length, MatchOption, IfNone, OnOk, OnErr};
 ghost use Rattle.schedules.specs.body.Outboxes.{outbox_of, AreFilled, AreFilledBut, HasRoom};
@@ -62,7 +63,8 @@ pub(crate) fn make_room(
 pub(crate) fn add(outboxes: &mut Outboxes, conn: Conn, item: Item)
     requires room { HasRoom outboxes.old conn }
     requires others { AreFilledBut conn outboxes.old }
-    ensures added { (c : ℕ) → outbox_of outboxes.new c ≡ outbox_of outboxes.old c ++ cond (conn == c) (item ∷ []) [] }
+    ensures added { (c : ℕ) → outbox_of outboxes.new c ≡ outbox_of outboxes.old c ++
+        cond (conn == c) (item ∷ []) [] }
     ensures filled { AreFilled outboxes.new }
 {
     if let Some(outbox) = outboxes.get_mut(&conn) {
@@ -73,8 +75,10 @@ pub(crate) fn add(outboxes: &mut Outboxes, conn: Conn, item: Item)
 /// Takes the front of the connection's queue.
 pub(crate) fn take(outboxes: &mut Outboxes, conn: Conn) -> Option<Item>
     requires { AreFilled outboxes.old }
-    ensures taken { MatchOption result (outbox_of outboxes.old conn ≡ []) (λ item. (c : ℕ) → outbox_of outboxes.old c ≡ cond (conn == c) (item ∷ []) [] ++ outbox_of outboxes.new c) }
-    ensures nothing { IfNone result ((c : ℕ) → outbox_of outboxes.new c ≡ outbox_of outboxes.old c) }
+    ensures taken { MatchOption result (outbox_of outboxes.old conn ≡ []) (λ item. (c : ℕ)
+        → outbox_of outboxes.old c ≡ cond (conn == c) (item ∷ []) [] ++ outbox_of outboxes.new c) }
+    ensures nothing { IfNone result ((c : ℕ)
+        → outbox_of outboxes.new c ≡ outbox_of outboxes.old c) }
     ensures filled { AreFilled outboxes.new }
 {
     let item = take_front(outboxes, conn);
@@ -85,8 +89,10 @@ pub(crate) fn take(outboxes: &mut Outboxes, conn: Conn) -> Option<Item>
 /// Takes the front of the connection's queue, which may be left empty.
 fn take_front(outboxes: &mut Outboxes, conn: Conn) -> Option<Item>
     requires { AreFilled outboxes.old }
-    ensures taken { MatchOption result (outbox_of outboxes.old conn ≡ []) (λ item. (c : ℕ) → outbox_of outboxes.old c ≡ cond (conn == c) (item ∷ []) [] ++ outbox_of outboxes.new c) }
-    ensures nothing { IfNone result ((c : ℕ) → outbox_of outboxes.new c ≡ outbox_of outboxes.old c) }
+    ensures taken { MatchOption result (outbox_of outboxes.old conn ≡ []) (λ item. (c : ℕ)
+        → outbox_of outboxes.old c ≡ cond (conn == c) (item ∷ []) [] ++ outbox_of outboxes.new c) }
+    ensures nothing { IfNone result ((c : ℕ)
+        → outbox_of outboxes.new c ≡ outbox_of outboxes.old c) }
     ensures others { AreFilledBut conn outboxes.new }
 {
     match outboxes.get_mut(&conn) {

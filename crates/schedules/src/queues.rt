@@ -1,3 +1,4 @@
+//! Lists by connection: the first, the least, what is removed.
 ghost use Rattle.std.specs.Prelude.{◌≡◌, ℕ, [], ◌∷◌, drop, MatchOption, None};
 ghost use Rattle.std.specs.List.{filter};
 ghost use Rattle.std.specs.Option.{option_copied};
@@ -61,14 +62,16 @@ fn front(inbox: &VecDeque<Entry>) -> Option<&Entry>
 
 /// The first item that waits to be pushed, and for whom it is.
 fn first(pushing: &VecDeque<(Conn, Item)>) -> Option<&(Conn, Item)>
-    ensures { MatchOption (option_copied result) (pushing.now.items ≡ []) (λ pair. pushing.now.items ≡ pair ∷ drop 1 pushing.now.items) }
+    ensures { MatchOption (option_copied result) (pushing.now.items ≡ [])
+        (λ pair. pushing.now.items ≡ pair ∷ drop 1 pushing.now.items) }
 {
     pushing.front()
 }
 
 /// For whom the first item is that waits to be pushed.
 pub fn first_conn(pushing: &VecDeque<(Conn, Item)>) -> Option<Conn>
-    ensures { MatchOption result (pushing.now.items ≡ []) (λ conn. IsFirstOf conn pushing.now.items) }
+    ensures { MatchOption result (pushing.now.items ≡ [])
+        (λ conn. IsFirstOf conn pushing.now.items) }
 {
     match first(pushing) {
         None => None,
@@ -97,7 +100,9 @@ pub fn next_post<'a>(
     marks: &[Conn],
     inbox: &'a VecDeque<Entry>,
 ) -> Option<&'a Entry>
-    ensures { FrontIs (option_copied result) (unless_any pushing.now.items (unless_any (filter (live realm.now) marks.now) inbox.now.items)) (drop 1 inbox.now.items) }
+    ensures { FrontIs (option_copied result)
+        (unless_any pushing.now.items
+        (unless_any (filter (live realm.now) marks.now) inbox.now.items)) (drop 1 inbox.now.items) }
 {
     match first(pushing) {
         Some(_waits) => None,
@@ -110,7 +115,8 @@ pub fn next_post<'a>(
 
 /// The least of those connections that are live, unless any item waits to be pushed.
 pub fn next_leaver(realm: &Realm, pushing: &VecDeque<(Conn, Item)>, marks: &[Conn]) -> Option<Conn>
-    ensures { MatchOption result (unless_any pushing.now.items (filter (live realm.now) marks.now) ≡ []) (λ c. IsLeast c (unless_any pushing.now.items (filter (live realm.now) marks.now))) }
+    ensures { MatchOption result (unless_any pushing.now.items (filter (live realm.now) marks.now) ≡
+        []) (λ c. IsLeast c (unless_any pushing.now.items (filter (live realm.now) marks.now))) }
 {
     match first(pushing) {
         Some(_) => None,

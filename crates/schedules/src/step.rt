@@ -1,3 +1,4 @@
+//! The steps of a world, and what comes of one.
 use realm::Entry;
 use session::Item;
 use wamp_ids::Conn;

@@ -1,3 +1,4 @@
+//! A world: a realm that moves one step at a time, in any order that a schedule gives.
 ghost use Rattle.std.specs.Prelude.{◌≡◌, ◌≤◌, ◌<◌, ◌++◌, ℕ, true, false, [], take, length, vec_len, vec_capacity, IfOk, OnOk, OnErr, MatchOption};
 ghost use Rattle.realm.specs.declared.fault.Fault.TheVariants.{NoMemory};
 ghost use Rattle.realm.specs.Grants.{pairs_of};
@@ -67,7 +68,8 @@ impl World {
     ) -> Result<World, Fault>
         requires inbox { 1 ≤ inbox_cap }
         requires outbox { 1 ≤ outbox_cap }
-        ensures { IfOk result (λ world. world ≡ new_world (pairs_of config.grants.items) inbox_cap outbox_cap) }
+        ensures { IfOk result (λ world.
+            world ≡ new_world (pairs_of config.grants.items) inbox_cap outbox_cap) }
     {
         let exchange = Exchange::new(alloc, config, inbox_cap, outbox_cap)?;
         Ok(World { exchange })
@@ -128,7 +130,8 @@ impl World {
 
     /// Whose item is the first that waits to be pushed.
     pub fn first_to_push(&self) -> Option<Conn>
-        ensures { MatchOption result (self.now.pushing ≡ []) (λ conn. IsFirstOf conn self.now.pushing) }
+        ensures { MatchOption result (self.now.pushing ≡ [])
+            (λ conn. IsFirstOf conn self.now.pushing) }
     {
         self.exchange.first_to_push()
     }
@@ -195,7 +198,8 @@ impl World {
     /// holds of what they make, however they are ordered.
     pub fn run(&mut self, alloc: Global, steps: Vec<Step>) -> Run
         ensures reaches { Reaches self.old (take result.done steps.items) self.new }
-        ensures done { MatchOption result.fault (result.done ≡ length steps.items) (λ fault. (fault ≡ NoMemory) × (result.done < length steps.items)) }
+        ensures done { MatchOption result.fault (result.done ≡ length steps.items)
+            (λ fault. (fault ≡ NoMemory) × (result.done < length steps.items)) }
         ensures taken { self.new.taken ≡ self.old.taken ++ result.taken.items }
         ensures delivers { Delivers self.new }
     {

@@ -1,3 +1,4 @@
+//! Who holds which patterns, under which numbers.
 ghost use Rattle.std.specs.Prelude.{◌≡◌, ◌≢◌, ◌↔◌, [], None, Some, Err, IfOk, IfSome, OnErr, IsOk, IsSome, true, false, cond, not, nat_lt, ◌+◌};
 ghost use Rattle.std.specs.Option.{option_copied};
 ghost use Rattle.subscription_index.specs.Index.{IsIndex, IsStrictlyAscending, number_held, holds_number, pattern_of, without, without_all, subscribed, matching};
@@ -58,7 +59,8 @@ impl Index {
     /// held already is refused for neither reason, and takes no memory.
     pub fn hold(&mut self, alloc: Global, conn: Conn, pattern: Pattern) -> Result<Id, Fault>
         ensures ok { IfOk result (λ n. subscribed self.old conn pattern ≡ Some (n, self.new)) }
-        ensures full { (result ≡ Err Fault.TooManySubscriptions) ↔ (subscribed self.old conn pattern ≡ None) }
+        ensures full { (result ≡ Err Fault.TooManySubscriptions)
+            ↔ (subscribed self.old conn pattern ≡ None) }
         ensures again { IsSome (number_held self.old.rows conn pattern) → IsOk result }
         ensures unchanged { OnErr result (self.new ≡ self.old) }
         ensures index { IsIndex self.new }
@@ -106,7 +108,8 @@ impl Index {
     /// nothing is changed.
     pub fn release(&mut self, conn: Conn, number: Id) -> bool
         ensures held { result ≡ holds_number self.old.rows conn number }
-        ensures released { result ≡ true → self.new ≡ record { rows = without self.old.rows conn number; opened = self.old.opened } }
+        ensures released { result ≡ true → self.new ≡ record
+            { rows = without self.old.rows conn number; opened = self.old.opened } }
         ensures unchanged { result ≡ false → self.new ≡ self.old }
         ensures index { IsIndex self.new }
     {
@@ -122,7 +125,10 @@ impl Index {
 
     /// Ends all subscriptions of the connection.
     pub fn drop_all(&mut self, conn: Conn)
-        ensures others { self.new ≡ record { rows = without_all self.old.rows conn; opened = self.old.opened } }
+        ensures others { self.new ≡ record {
+          rows = without_all self.old.rows conn;
+          opened = self.old.opened;
+        } }
         ensures index { IsIndex self.new }
     {
         while let Some(number) = self.first_of(conn) {

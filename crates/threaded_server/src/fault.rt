@@ -1,3 +1,4 @@
+//! Why serving ended.
 use std::alloc::AllocError;
 use thiserror::Error;
 

@@ -1,3 +1,4 @@
+//! What standard error is told of a fault, and the exit status that it gives.
 ghost use Rattle.std.specs.Prelude.{◌≡◌, ◌⊎◌, ◌+◌, ◌++◌, ◌<◌, ◌≢◌, ◌≤◌, Err, IfErr, OnOk, string_bytes};
 ghost use Rattle.rawsocket.specs.Devices.{GrowsByBeginning};
 ghost use Rattle.rawsocket.specs.declared.fault.Fault.TheVariants.{WriteFault as WriteFailed};

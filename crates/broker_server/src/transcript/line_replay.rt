@@ -1,3 +1,4 @@
+//! A replay as it stands between two lines: the realm, and which numbers were named so far.
 ghost use Rattle.std.specs.Prelude.{◌≡◌, ◌++◌, ℕ, true, cond, IfErr, IfOk, OnOk};
 ghost use Rattle.realm.specs.History.{◌▷◌};
 ghost use Rattle.realm.specs.Sessions.{conn_of, live, may_come, may_join};

@@ -1,3 +1,4 @@
+//! `replay`: reads the input to its end, and writes what each piece gives before it reads the next.
 ghost use Rattle.std.specs.Prelude.{◌≡◌, ◌≢◌, ◌++◌, ◌+◌, ◌<◌, ◌≤◌, ◌⊎◌, ℕ, [], length, take, true, IfErr, IfOk, OnErr, OnOk};
 ghost use Rattle.broker_server.specs.Grants.{bytes_of};
 ghost use Rattle.broker_server.specs.Outcome.{BeginsReplay, IsReplayed, StopsAt, IsFresh, FromRealm, HasCause};

@@ -159,7 +159,9 @@ impl<S: Sink> Sink for FailsAt<S> {
 
 /// The frames of a stream that comes in these pieces, and the fault that ends them.
 pub fn frames_of(alloc: Global, pieces: &[Vec<u8>]) -> Result<Fed, Fault>
-    ensures reads { IfOk result (λ fed. (held : List ℕ) × Reads (flat_map (λ piece. piece.items) pieces.now) (contents fed.frames.items) held × (fed.fault ≡ fault_of held)) }
+    ensures reads { IfOk result (λ fed. (held : List ℕ)
+        × Reads (flat_map (λ piece. piece.items) pieces.now) (contents fed.frames.items) held
+        × (fed.fault ≡ fault_of held)) }
     ensures memory { IfErr result (λ e. e ≡ Fault.NoMemory) }
 {
     let mut deframer = Deframer::new(alloc);

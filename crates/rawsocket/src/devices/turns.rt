@@ -66,9 +66,11 @@ pub fn read_turn<S: Source>(
     turns: &mut Turns,
 ) -> Result<usize, Fault>
     ensures within { IfOk result (λ n. n ≤ length buffer.new) }
-    ensures given { IfOk result (λ n. S.given source.new ≡ S.given source.old ++ take n buffer.new) }
+    ensures given { IfOk result (λ n. S.given source.new ≡ S.given source.old ++ take n
+        buffer.new) }
     ensures left { ReadConsumes (S.left source.old) (S.left source.new) result buffer.new }
-    ensures end { IfOk result (λ n. S.is_ended source.new ≡ (S.is_ended source.old || tells_end n buffer.new)) }
+    ensures end { IfOk result (λ n. S.is_ended source.new
+        ≡ (S.is_ended source.old || tells_end n buffer.new)) }
     ensures kept { OnErr result (S.given source.new ≡ S.given source.old) }
     ensures goes_on { OnErr result (S.is_ended source.new ≡ S.is_ended source.old) }
     ensures turn { OnOk result (turns.old ≡ turns.new + 1) }
@@ -76,7 +78,8 @@ pub fn read_turn<S: Source>(
     ensures calls { S.calls source.new + turns.new ≡ S.calls source.old + turns.old }
     ensures failures { S.failures source.old ≤ S.failures source.new }
     ensures device { result ≡ Err Fault.ReadFault → S.failures source.old < S.failures source.new }
-    ensures told { IfErr result (λ e. e ≢ Fault.ReadFault → S.failures source.new ≡ S.failures source.old) }
+    ensures told { IfErr result (λ e. e ≢ Fault.ReadFault
+        → S.failures source.new ≡ S.failures source.old) }
     ensures turns { result ≡ Err Fault.TooManyTurns → turns.new ≡ 0 }
     ensures which { IfErr result (λ e. e ≢ Fault.ReadFault → e ≡ Fault.TooManyTurns) }
 {
@@ -98,7 +101,8 @@ pub fn write_all<S: Sink>(sink: &mut S, octets: &[u8], turns: &mut Turns) -> Res
     ensures calls { S.calls sink.new + turns.new ≡ S.calls sink.old + turns.old }
     ensures failures { S.failures sink.old ≤ S.failures sink.new }
     ensures device { result ≡ Err Fault.WriteFault → S.failures sink.old < S.failures sink.new }
-    ensures told { IfErr result (λ e. e ≢ Fault.WriteFault → S.failures sink.new ≡ S.failures sink.old) }
+    ensures told { IfErr result (λ e. e ≢ Fault.WriteFault
+        → S.failures sink.new ≡ S.failures sink.old) }
     ensures turns { result ≡ Err Fault.TooManyTurns → turns.new ≡ 0 }
     ensures which { IfErr result (λ e. e ≢ Fault.WriteFault → e ≡ Fault.TooManyTurns) }
 {
@@ -125,7 +129,8 @@ pub fn send<S: Sink>(sink: &mut S, octets: &[u8], turns: &mut Turns) -> Result<(
     ensures calls { S.calls sink.new + turns.new ≡ S.calls sink.old + turns.old }
     ensures failures { S.failures sink.old ≤ S.failures sink.new }
     ensures device { result ≡ Err Fault.WriteFault → S.failures sink.old < S.failures sink.new }
-    ensures told { IfErr result (λ e. e ≢ Fault.WriteFault → S.failures sink.new ≡ S.failures sink.old) }
+    ensures told { IfErr result (λ e. e ≢ Fault.WriteFault
+        → S.failures sink.new ≡ S.failures sink.old) }
     ensures turns { result ≡ Err Fault.TooManyTurns → turns.new ≡ 0 }
     ensures which { IfErr result (λ e. e ≢ Fault.WriteFault → e ≡ Fault.TooManyTurns) }
 {

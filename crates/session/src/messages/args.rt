@@ -1,3 +1,4 @@
+//! The arguments of a publication, and perhaps the octets that they are in a message.
 ghost use Rattle.std.specs.Prelude.{◌≡◌, ◌≤◌, ◌↔◌, None, Some, IfSome, IsOk, IfOk, IfErr, true};
 ghost use Rattle.std.specs.Option.{option_copied};
 ghost use Rattle.message_tree.specs.Data.{depth, is_carried};

@@ -1,3 +1,4 @@
+//! The dictionaries of the broker's messages.
 // The dictionaries of the broker's messages, each key of them set where it is wanted.
 ghost use Rattle.std.specs.Prelude.{◌≡◌, ◌≤◌, IfOk, IfErr, OnOk, true};
 ghost use Rattle.message_tree.specs.Data.{flag, text, dict, put, entries_depth, is_carried, entries_carried};
@@ -140,7 +141,8 @@ fn put_text(alloc: Global, dict: &mut Dict, key: &str, of: &str) -> Result<(), F
 
 /// Sets a key to a dictionary.
 fn put_dict(alloc: Global, outer: &mut Dict, key: &str, inner: Dict) -> Result<(), Fault>
-    ensures ok { OnOk result (dict_view outer.new ≡ put key.now (dict (dict_view inner)) (dict_view outer.old)) }
+    ensures ok { OnOk result (dict_view outer.new ≡ put
+        key.now (dict (dict_view inner)) (dict_view outer.old)) }
     ensures err { IfErr result (λ fault. fault ≡ Fault.NoMemory) }
 {
     put(alloc, outer, key, dictionary(inner))
@@ -149,7 +151,8 @@ fn put_dict(alloc: Global, outer: &mut Dict, key: &str, inner: Dict) -> Result<(
 /// Sets a key where it is wanted.
 #[tactic(auto, unfolding(crate::specs::ToClient::put_if))]
 fn put_if(alloc: Global, dict: &mut Dict, wanted: bool, key: &str, value: Tree) -> Result<(), Fault>
-    ensures ok { OnOk result (dict_view dict.new ≡ put_if wanted key.now (view value) (dict_view dict.old)) }
+    ensures ok { OnOk result (dict_view dict.new ≡ put_if wanted
+        key.now (view value) (dict_view dict.old)) }
     ensures err { IfErr result (λ fault. fault ≡ Fault.NoMemory) }
 {
     if wanted {
@@ -166,7 +169,8 @@ fn put_text_if(
     key: &str,
     of: &str,
 ) -> Result<(), Fault>
-    ensures ok { OnOk result (dict_view dict.new ≡ put_if wanted key.now (text of.now) (dict_view dict.old)) }
+    ensures ok { OnOk result (dict_view dict.new ≡ put_if wanted
+        key.now (text of.now) (dict_view dict.old)) }
     ensures err { IfErr result (λ fault. fault ≡ Fault.NoMemory) }
 {
     let value = text(alloc, of)?;

@@ -1,3 +1,4 @@
+//! The elements of a client's message, one after another.
 ghost use Rattle.std.specs.Prelude.{◌≡◌, ◌≤◌, ℕ, ℤ, IfOk, OnErr, IfErr, OnOk, IfSome, MatchOption, None, Some};
 ghost use Rattle.message_tree.specs.Data.{item, no_items, text, dict, whole, depth, items_depth};
 ghost use Rattle.message_tree.specs.View.{view, items_view};
@@ -44,7 +45,8 @@ impl Elements {
 
     /// The next element.
     pub fn next(&mut self) -> Option<Tree>
-        ensures first { MatchOption result (self.old ≡ no_items) (λ t. self.old ≡ item (view t) self.new) }
+        ensures first { MatchOption result (self.old ≡ no_items)
+            (λ t. self.old ≡ item (view t) self.new) }
         ensures bounded { IfSome result (λ t. depth (view t) ≤ 99) }
     {
         self.rest.pop_front()

@@ -1,3 +1,4 @@
+//! From a message to what its client says.
 ghost use Rattle.std.specs.Prelude.{◌≡◌, ◌≤◌, IfOk, IfErr, OnErr, None, Some, option_map, true};
 ghost use Rattle.message_tree.specs.Data.{find_entry, depth as depth_of};
 ghost use Rattle.message_tree.specs.View.{view};

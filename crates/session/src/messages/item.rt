@@ -1,3 +1,4 @@
+//! What the broker tells a session.
 use crate::messages::args::CarriedArgs;
 use eligibility::{Lists, Who};
 use message_tree::{Octets, Shared};

@@ -1,3 +1,4 @@
+//! What a client says.
 use crate::messages::args::Args;
 use message_tree::{Options, Text};
 use wamp_ids::Id;

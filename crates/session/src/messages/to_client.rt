@@ -1,3 +1,4 @@
+//! From what the broker tells to the message that says it.
 ghost use Rattle.std.specs.Prelude.{◌≡◌, ◌≤◌, IfOk, IfErr, IfSome, Some, option_map, true};
 ghost use Rattle.message_tree.specs.Data.{text, dict, list, item, no_items, depth, items_depth, entries_depth, is_carried, items_carried, entries_carried};
 ghost use Rattle.message_tree.specs.View.{view, items_view, dict_view};

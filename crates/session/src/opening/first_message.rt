@@ -1,3 +1,4 @@
+//! The first message of a session: a HELLO for a realm that is there, or why not.
 ghost use Rattle.std.specs.Prelude.{◌≡◌, ◌<◌, ◌↔◌, true, false, None, Some, IfOk, IfErr, IfSome, ◌⊎◌, length, string_bytes, option_map, position};
 ghost use Rattle.std.specs.Str.{bytes_eq};
 ghost use Rattle.session.specs.FirstMessage.{first_of, is_hello, abort_uri_of, reason_of};
@@ -17,9 +18,11 @@ use wamp_ids::Topic;
 /// [`Fault::Shape`] where it is another message, [`Fault::NoSuchRealm`] where it names none of the
 /// realms.
 pub fn first(said: Said, realms: &[Topic]) -> Result<First, Fault>
-    ensures ok { IfOk result (λ f. first_of said realms.now ≡ Some (f.realm, option_map string_bytes f.authid)) }
+    ensures ok { IfOk result (λ f. first_of said realms.now ≡
+        Some (f.realm, option_map string_bytes f.authid)) }
     ensures in_list { IfOk result (λ f. f.realm < length realms.now) }
-    ensures no_such_realm { (result ≡ Err Fault.NoSuchRealm) ↔ ((is_hello said ≡ true) × (first_of said realms.now ≡ None)) }
+    ensures no_such_realm { (result ≡ Err Fault.NoSuchRealm)
+        ↔ ((is_hello said ≡ true) × (first_of said realms.now ≡ None)) }
     ensures shape { (result ≡ Err Fault.Shape) ↔ (is_hello said ≡ false) }
     ensures faults { IfErr result (λ fault. (fault ≡ Fault.NoSuchRealm) ⊎ (fault ≡ Fault.Shape)) }
 {

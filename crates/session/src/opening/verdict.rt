@@ -43,8 +43,10 @@ fn ask(
     realms: &[Topic],
     payload: &[u8],
 ) -> Result<First, Fault>
-    ensures ok { IfOk result (λ f. Asks serializer realms.now payload.now (f.realm, option_map string_bytes f.authid)) }
-    ensures refused { IfErr result (λ f. f ≢ Fault.NoMemory → IsRefused serializer realms.now payload.now f) }
+    ensures ok { IfOk result (λ f. Asks serializer realms.now
+        payload.now (f.realm, option_map string_bytes f.authid)) }
+    ensures refused { IfErr result (λ f. f ≢ Fault.NoMemory
+        → IsRefused serializer realms.now payload.now f) }
 {
     let message = match decode(alloc, serializer, payload) {
         Ok(message) => message,
@@ -64,7 +66,8 @@ fn write_abort(
     reason: Reason,
     out: &mut Vec<u8>,
 ) -> Result<(), Fault>
-    ensures ok { OnOk result (out.new.items ≡ out.old.items ++ abort_frame serializer (Some reason)) }
+    ensures ok { OnOk result (out.new.items ≡ out.old.items ++ abort_frame
+        serializer (Some reason)) }
     ensures fault { IfErr result (λ f. f ≡ Fault.NoMemory) }
 {
     let message = farewell(alloc, 3, reason)?;
@@ -101,7 +104,9 @@ fn decide(
     early: Vec<Frame>,
     out: &mut Vec<u8>,
 ) -> Result<Verdict, Fault>
-    ensures decided { IfOk result (λ v. AddsFor client.serializer client.limit realms.now Kind.Message payload.now (contents early.items) out.old.items out.new.items (verdict_of v)) }
+    ensures decided { IfOk result (λ v. AddsFor client.serializer client.limit realms.now
+        Kind.Message payload.now (contents early.items) out.old.items
+        out.new.items (verdict_of v)) }
     ensures fault { IfErr result (λ f. f ≡ Fault.NoMemory) }
 {
     match ask(alloc, client.serializer, realms, payload) {
@@ -114,8 +119,10 @@ fn decide(
 /// Answers a PING, unless the client takes fewer octets.
 fn answer_ping(alloc: Global, limit: u32, payload: &[u8], out: &mut Vec<u8>) -> Result<bool, Fault>
     requires { limit ≤ 16777215 }
-    ensures answered { result ≡ Ok true → (length payload.now ≤ limit) × (out.new.items ≡ out.old.items ++ spelled (pong payload.now)) }
-    ensures long { result ≡ Ok false → (limit < length payload.now) × (out.new.items ≡ out.old.items) }
+    ensures answered { result ≡ Ok true → (length payload.now ≤ limit)
+        × (out.new.items ≡ out.old.items ++ spelled (pong payload.now)) }
+    ensures long { result ≡ Ok false → (limit < length payload.now)
+        × (out.new.items ≡ out.old.items) }
     ensures fault { IfErr result (λ f. f ≡ Fault.NoMemory) }
 {
     if payload.len() > limit as usize {
@@ -135,7 +142,8 @@ fn judge_rest(
     fault: Option<rawsocket::Fault>,
     out: &mut Vec<u8>,
 ) -> Result<Verdict, Fault>
-    ensures decided { IfOk result (λ v. Adds serializer 0 [] fault [] out.old.items out.new.items (verdict_of v)) }
+    ensures decided { IfOk result (λ v. Adds serializer 0 [] fault [] out.old.items
+        out.new.items (verdict_of v)) }
     ensures fault { IfErr result (λ f. f ≡ Fault.NoMemory) }
 {
     match fault {
@@ -155,7 +163,8 @@ pub(crate) fn judge(
     out: &mut Vec<u8>,
 ) -> Result<Verdict, Fault>
     requires { client.limit ≤ 16777215 }
-    ensures decided { IfOk result (λ v. Adds client.serializer client.limit realms.now fault (contents frames.items) out.old.items out.new.items (verdict_of v)) }
+    ensures decided { IfOk result (λ v. Adds client.serializer client.limit realms.now
+        fault (contents frames.items) out.old.items out.new.items (verdict_of v)) }
     ensures fault { IfErr result (λ f. f ≡ Fault.NoMemory) }
 {
     let mut left = VecDeque::from_vec(frames);

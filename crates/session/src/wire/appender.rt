@@ -73,7 +73,8 @@ impl Appender {
         serializer: Serializer,
         n: u64,
     ) -> Result<(), Fault>
-        ensures ok { OnOk result (self.new.since ≡ self.old.since ++ serialized serializer (number n)) }
+        ensures ok { OnOk result (self.new.since ≡ self.old.since ++ serialized
+            serializer (number n)) }
         ensures before { self.new.before ≡ self.old.before }
         ensures err { IfErr result (λ f. f ≡ Fault.NoMemory) }
     {
@@ -95,10 +96,12 @@ impl Appender {
         serializer: Serializer,
         of: &str,
     ) -> Result<(), Fault>
-        ensures ok { OnOk result (self.new.since ≡ self.old.since ++ serialized serializer (text of.now)) }
+        ensures ok { OnOk result (self.new.since ≡ self.old.since ++ serialized
+            serializer (text of.now)) }
         ensures before { self.new.before ≡ self.old.before }
         ensures spelled { OnOk result (has_spelling serializer (text of.now) ≡ true) }
-        ensures unspelled { result ≡ Err Fault.TooLongForClient → has_spelling serializer (text of.now) ≡ false }
+        ensures unspelled { result ≡ Err Fault.TooLongForClient
+            → has_spelling serializer (text of.now) ≡ false }
         ensures fault { IfErr result (λ f. (f ≡ Fault.NoMemory) ⊎ (f ≡ Fault.TooLongForClient)) }
     {
         match serializer {
@@ -119,10 +122,12 @@ impl Appender {
         tree: &Tree,
     ) -> Result<(), Fault>
         requires { is_carried (view tree.now) ≡ true }
-        ensures ok { OnOk result (self.new.since ≡ self.old.since ++ serialized serializer (view tree.now)) }
+        ensures ok { OnOk result (self.new.since ≡ self.old.since ++ serialized
+            serializer (view tree.now)) }
         ensures before { self.new.before ≡ self.old.before }
         ensures spelled { OnOk result (has_spelling serializer (view tree.now) ≡ true) }
-        ensures unspelled { result ≡ Err Fault.TooLongForClient → has_spelling serializer (view tree.now) ≡ false }
+        ensures unspelled { result ≡ Err Fault.TooLongForClient
+            → has_spelling serializer (view tree.now) ≡ false }
         ensures fault { IfErr result (λ f. (f ≡ Fault.NoMemory) ⊎ (f ≡ Fault.TooLongForClient)) }
     {
         match serializer {
@@ -139,7 +144,8 @@ impl Appender {
     #[tactic(auto, unfolding(msgpack_codec::specs::Short::list_head))]
     pub(crate) fn open_list(&mut self, serializer: Serializer, count: u8) -> Result<(), AllocError>
         requires { count < 16 }
-        ensures ok { OnOk result (self.new.since ≡ self.old.since ++ list_opening serializer count) }
+        ensures ok { OnOk result (self.new.since ≡ self.old.since ++ list_opening serializer
+            count) }
         ensures before { self.new.before ≡ self.old.before }
     {
         match serializer {
@@ -174,7 +180,8 @@ impl Appender {
     #[tactic(auto, unfolding(msgpack_codec::specs::Short::dict_head))]
     pub(crate) fn open_dict(&mut self, serializer: Serializer, count: u8) -> Result<(), AllocError>
         requires { count < 16 }
-        ensures ok { OnOk result (self.new.since ≡ self.old.since ++ dict_opening serializer count) }
+        ensures ok { OnOk result (self.new.since ≡ self.old.since ++ dict_opening serializer
+            count) }
         ensures before { self.new.before ≡ self.old.before }
     {
         match serializer {
@@ -191,7 +198,8 @@ impl Appender {
         later: bool,
         key: &str,
     ) -> Result<(), Fault>
-        ensures ok { OnOk result (self.new.since ≡ self.old.since ++ key_text serializer later key.now) }
+        ensures ok { OnOk result (self.new.since ≡ self.old.since ++ key_text serializer later
+            key.now) }
         ensures before { self.new.before ≡ self.old.before }
         ensures err { IfErr result (λ f. f ≡ Fault.NoMemory) }
     {
@@ -214,7 +222,8 @@ impl Appender {
 
     /// Writes the truth value true.
     pub(crate) fn put_true(&mut self, serializer: Serializer) -> Result<(), AllocError>
-        ensures ok { OnOk result (self.new.since ≡ self.old.since ++ serialized serializer (flag true)) }
+        ensures ok { OnOk result (self.new.since ≡ self.old.since ++ serialized
+            serializer (flag true)) }
         ensures before { self.new.before ≡ self.old.before }
     {
         match serializer {

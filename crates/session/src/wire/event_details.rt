@@ -21,7 +21,8 @@ fn put_publisher(
 ) -> Result<(), Fault>
     ensures ok { OnOk result (out.new.since ≡ out.old.since
         ++ entries_from serializer false (publisher_entries made.now)) }
-    ensures spelled { OnOk result (entries_have_spelling serializer (publisher_entries made.now) ≡ true) }
+    ensures spelled { OnOk result (entries_have_spelling serializer (publisher_entries made.now) ≡
+        true) }
     ensures unspelled { result ≡ Err Fault.TooLongForClient
         → entries_have_spelling serializer (publisher_entries made.now) ≡ false }
     ensures before { out.new.before ≡ out.old.before }
@@ -71,7 +72,8 @@ fn put_topic(
 ) -> Result<(), Fault>
     ensures ok { OnOk result (out.new.since ≡ out.old.since
         ++ entries_from serializer later (topic_entries with_topic topic.now)) }
-    ensures spelled { OnOk result (entries_have_spelling serializer (topic_entries with_topic topic.now) ≡ true) }
+    ensures spelled { OnOk result (entries_have_spelling
+        serializer (topic_entries with_topic topic.now) ≡ true) }
     ensures unspelled { result ≡ Err Fault.TooLongForClient
         → entries_have_spelling serializer (topic_entries with_topic topic.now) ≡ false }
     ensures before { out.new.before ≡ out.old.before }

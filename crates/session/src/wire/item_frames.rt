@@ -165,7 +165,8 @@ fn put_item(
     serializer: Serializer,
     item: &Item,
 ) -> Result<(), Fault>
-    ensures ok { OnOk result (out.new.since ≡ out.old.since ++ (frame_of serializer item.now).payload) }
+    ensures ok { OnOk result (out.new.since ≡ out.old.since
+        ++ (frame_of serializer item.now).payload) }
     ensures spelled { OnOk result (IsSpelled serializer (message_of item.now)) }
     ensures unspelled { result ≡ Err Fault.TooLongForClient
         → IsUnspelled serializer (message_of item.now) }
@@ -206,7 +207,8 @@ fn put_message(
     serializer: Serializer,
     item: &Item,
 ) -> Result<(), Fault>
-    ensures ok { OnOk result (out.new.since ≡ out.old.since ++ (frame_of serializer item.now).payload) }
+    ensures ok { OnOk result (out.new.since ≡ out.old.since
+        ++ (frame_of serializer item.now).payload) }
     ensures spelled { OnOk result (IsSpelled serializer (message_of item.now)) }
     ensures unspelled { result ≡ Err Fault.TooLongForClient
         → IsUnspelled serializer (message_of item.now) }
@@ -234,7 +236,8 @@ pub fn write_payload(
     item: &Item,
     out: &mut Vec<u8>,
 ) -> Result<(), Fault>
-    ensures ok { OnOk result (out.new.items ≡ out.old.items ++ (frame_of serializer item.now).payload) }
+    ensures ok { OnOk result (out.new.items ≡ out.old.items
+        ++ (frame_of serializer item.now).payload) }
     ensures spelled { OnOk result (IsSpelled serializer (message_of item.now)) }
     ensures err { OnErr result (out.new.items ≡ out.old.items) }
     ensures unspelled { result ≡ Err Fault.TooLongForClient

@@ -27,7 +27,8 @@ pub fn decode(alloc: Global, serializer: Serializer, octets: &[u8]) -> Result<Me
 
 fn decode_json(alloc: Global, octets: &[u8]) -> Result<Message, Fault>
     ensures ok { IfOk result (λ m. Decodes Serializer.Json octets.now (meaning m)) }
-    ensures bad { IfErr result (λ f. f ≢ Fault.NoMemory → IsUndecodable Serializer.Json octets.now f) }
+    ensures bad { IfErr result (λ f. f ≢ Fault.NoMemory
+        → IsUndecodable Serializer.Json octets.now f) }
 {
     match json_codec::decode(alloc, octets) {
         Ok(message) => Ok(message),
@@ -40,7 +41,8 @@ fn decode_json(alloc: Global, octets: &[u8]) -> Result<Message, Fault>
 
 fn decode_msgpack(alloc: Global, octets: &[u8]) -> Result<Message, Fault>
     ensures ok { IfOk result (λ m. Decodes Serializer.MsgPack octets.now (meaning m)) }
-    ensures bad { IfErr result (λ f. f ≢ Fault.NoMemory → IsUndecodable Serializer.MsgPack octets.now f) }
+    ensures bad { IfErr result (λ f. f ≢ Fault.NoMemory
+        → IsUndecodable Serializer.MsgPack octets.now f) }
 {
     match msgpack_codec::decode(alloc, octets) {
         Ok(message) => Ok(message),
