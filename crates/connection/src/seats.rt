@@ -4,10 +4,7 @@ ghost use Rattle.connection.specs.Seats.{free_at, Takes, given_back};
 
 use crate::fault::Fault;
 use std::marker::Model;
-use wamp_ids::{Conn, seat};
-
-/// How many seats there are.
-const SEATS: usize = 256;
+use wamp_ids::{Conn, SEATS, seat};
 
 /// A fixed table of 256 seats, each for one connection at a time. A seat gives the numbers of its connections one after another:
 /// seat 1 gives 1, 257, 513, and so on, so that [`wamp_ids::seat`] of a number is the seat that gave it. No number is given twice.
@@ -61,7 +58,7 @@ impl Seats {
         ensures err { OnErr result (self.new ≡ self.old) }
         ensures fault { IfErr result (λ f. f ≡ Fault.TooManyConnections) }
     {
-        for place in 0..SEATS {
+        for place in 0..SEATS as usize {
             if let Some(conn) = self.free_number(place) {
                 self.given[place] += 1;
                 self.is_out[place] = true;

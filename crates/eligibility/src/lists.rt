@@ -8,7 +8,7 @@ ghost use Rattle.eligibility.specs.declared.who.Who.{Who};
 
 use crate::fault::Fault;
 use crate::lookup::{Numbers, Texts};
-use crate::options::{flag_at, numbers_at, text_lists, texts_at, texts_of};
+use crate::options::{flag_at, numbers_at, text_lists, texts_of};
 use crate::who::Who;
 use message_tree::{Dict, Text};
 use std::alloc::{AllocError, Global};
@@ -110,30 +110,14 @@ impl Lists {
     /// # Errors
     /// [`Fault::Shape`] where one of the seven has a wrong type, [`Fault::NoMemory`] where a growth
     /// was refused.
-    #[tactic(auto, unfolding(crate::specs::Lists::audience_of))]
     pub fn read(alloc: Global, options: &Dict) -> Result<Lists, Fault>
         ensures ok { IfOk result (λ l. audience_of (dict_view options.now) ≡ Some l) }
         ensures bad { result ≡ Err Fault.Shape → audience_of (dict_view options.now) ≡ None }
     {
-        let exclude_me = flag_at(options, "exclude_me", true)?;
-        let exclude = numbers_at(alloc, options, "exclude")?;
-        let exclude_authid = texts_at(alloc, options, "exclude_authid")?;
-        let exclude_authrole = texts_at(alloc, options, "exclude_authrole")?;
-        let eligible = numbers_at(alloc, options, "eligible")?;
-        let eligible_authid = texts_at(alloc, options, "eligible_authid")?;
-        let eligible_authrole = texts_at(alloc, options, "eligible_authrole")?;
-        let named = Named {
-            exclude,
-            exclude_authid,
-            exclude_authrole,
-            eligible,
-            eligible_authid,
-            eligible_authrole,
-        };
-        Ok(Lists {
-            exclude_me,
-            named: named.apart(alloc)?,
-        })
+        match options.try_copy(alloc) {
+            Ok(options) => Lists::take(alloc, options),
+            Err(_) => Err(Fault::NoMemory),
+        }
     }
 
     /// What the options say, as [`Lists::read`]. They are spent, and their texts moved.

@@ -1,5 +1,4 @@
-//! The lists of a publication in a form in which a receiver is found in few steps.
-// The lists of a publication, each in a form in which one look-up takes few steps.
+//! The lists of a publication, each in a form in which one look-up takes few steps.
 ghost use Rattle.std.specs.Prelude.{◌≡◌, ◌||◌, ◌<◌, ◌^◌, ℕ, List, IfOk, OnOk};
 ghost use Rattle.std.specs.Ordering.{nat_cmp};
 ghost use Rattle.std.specs.BTreeSet.{contains, contains_text};

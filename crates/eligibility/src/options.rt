@@ -1,10 +1,9 @@
-//! One option of a PUBLISH, read by its kind: a flag, a list of ids, a list of texts.
-// Reading one option by its kind. An option whose value is null counts as absent.
+//! Reading one option by its kind. An option whose value is null counts as absent.
 ghost use Rattle.std.specs.Prelude.{◌≡◌, ◌<◌, ◌^◌, pos, codes, option_map, IfOk, OnErr, IfErr, None, Some};
 ghost use Rattle.message_tree.specs.Data.{find_entry, whole, fits_codecs};
 ghost use Rattle.message_tree.specs.View.{view, dict_view, items_view};
 ghost use Rattle.eligibility.specs.Options.{flag_or, each_of, list_or_none, number_of, text_of};
-ghost use Rattle.eligibility.specs.Lists.{numbers_at, texts_at};
+ghost use Rattle.eligibility.specs.Lists.{numbers_at};
 
 use crate::fault::Fault;
 use crate::lookup::{Numbers, Texts};
@@ -12,10 +11,10 @@ use message_tree::{Dict, Text, Tree};
 use std::alloc::Global;
 
 pub(crate) fn flag_at(options: &Dict, key: &str, absent: bool) -> Result<bool, Fault>
-    ensures ok { IfOk result (λ b. flag_or absent (find_entry key.now (dict_view options.now)) ≡
-        Some b) }
-    ensures bad { OnErr result (flag_or absent (find_entry key.now (dict_view options.now)) ≡
-        None) }
+    ensures ok { IfOk result (λ b. flag_or absent (find_entry key.now (dict_view options.now))
+        ≡ Some b) }
+    ensures bad { OnErr result (flag_or absent (find_entry key.now (dict_view options.now))
+        ≡ None) }
     ensures fault { IfErr result (λ fault. fault ≡ Fault.Shape) }
 {
     match options.get(key) {
@@ -41,21 +40,6 @@ pub(crate) fn numbers_at(alloc: Global, options: &Dict, key: &str) -> Result<Opt
     }
 }
 
-pub(crate) fn texts_at(alloc: Global, options: &Dict, key: &str) -> Result<Option<Texts>, Fault>
-    ensures ok { IfOk result (λ r. texts_at key.now (dict_view options.now) ≡ Some r) }
-    ensures bad { result ≡ Err Fault.Shape → texts_at key.now (dict_view options.now) ≡ None }
-{
-    match options.get(key) {
-        None => Ok(None),
-        Some(Tree::Null) => Ok(None),
-        Some(Tree::List(items)) => {
-            let texts = texts_in(alloc, items)?;
-            Ok(Some(Texts::of(alloc, texts)?))
-        }
-        Some(_) => Err(Fault::Shape),
-    }
-}
-
 /// The four options that list texts, each where it is given.
 #[derive(Drop)]
 pub(crate) struct TextLists {
@@ -67,14 +51,14 @@ pub(crate) struct TextLists {
 
 /// Takes them out of the options, which are spent.
 pub(crate) fn text_lists(options: Dict) -> TextLists
-    ensures exclude_authid { option_map view result.exclude_authid ≡
-        find_entry (codes "exclude_authid") (dict_view options) }
-    ensures exclude_authrole { option_map view result.exclude_authrole ≡
-        find_entry (codes "exclude_authrole") (dict_view options) }
-    ensures eligible_authid { option_map view result.eligible_authid ≡
-        find_entry (codes "eligible_authid") (dict_view options) }
-    ensures eligible_authrole { option_map view result.eligible_authrole ≡
-        find_entry (codes "eligible_authrole") (dict_view options) }
+    ensures exclude_authid { option_map view result.exclude_authid
+        ≡ find_entry (codes "exclude_authid") (dict_view options) }
+    ensures exclude_authrole { option_map view result.exclude_authrole
+        ≡ find_entry (codes "exclude_authrole") (dict_view options) }
+    ensures eligible_authid { option_map view result.eligible_authid
+        ≡ find_entry (codes "eligible_authid") (dict_view options) }
+    ensures eligible_authrole { option_map view result.eligible_authrole
+        ≡ find_entry (codes "eligible_authrole") (dict_view options) }
 {
     let mut options = options;
     let exclude_authid = options.take("exclude_authid");
@@ -134,28 +118,6 @@ fn fits_codecs(number: i128) -> bool
     -(1 << 63) <= number && number < 1 << 64
 }
 
-fn texts_in(alloc: Global, items: &Vec<Tree>) -> Result<Vec<Text>, Fault>
-    ensures ok { IfOk result (λ v. each_of text_of (items_view items.now.items) ≡ Some v.items) }
-    ensures bad { result ≡ Err Fault.Shape → each_of text_of (items_view items.now.items) ≡ None }
-{
-    let mut texts = Vec::with_capacity(alloc, items.len())?;
-    for item in items {
-        texts.push(text_of(alloc, item)?)?;
-    }
-    Ok(texts)
-}
-
-fn text_of(alloc: Global, tree: &Tree) -> Result<Text, Fault>
-    ensures ok { IfOk result (λ t. text_of (view tree.now) ≡ Some t) }
-    ensures bad { result ≡ Err Fault.Shape → text_of (view tree.now) ≡ None }
-{
-    match tree {
-        Tree::Text(text) => Ok(Text::of(alloc, text.as_str())?),
-        _ => Err(Fault::Shape),
-    }
-}
-
-/// As [`texts_in`], with the texts moved.
 fn texts_from(alloc: Global, items: Vec<Tree>) -> Result<Vec<Text>, Fault>
     ensures ok { IfOk result (λ v. each_of text_of (items_view items.items) ≡ Some v.items) }
     ensures bad { result ≡ Err Fault.Shape → each_of text_of (items_view items.items) ≡ None }

@@ -167,8 +167,8 @@ fn value(alloc: Global, octets: &[u8], room: u8) -> Result<(Tree, &[u8]), Fault>
 #[cycle(value)]
 #[tactic(auto, unfolding(crate::specs::body::Decoder::nest_at))]
 fn nest(alloc: Global, form: Form, octets: &[u8], room: u8) -> Result<(Tree, &[u8]), Fault>
-    ensures ok { IfOk result (λ x. nest_at (value_at room) form octets.now ≡
-        Ok (view x.0, x.1.now)) }
+    ensures ok { IfOk result (λ x. nest_at (value_at room) form octets.now
+        ≡ Ok (view x.0, x.1.now)) }
     ensures err { IfErr result (λ e. e ≢ Fault.NoMemory
         → nest_at (value_at room) form octets.now ≡ Err e) }
 {
@@ -192,8 +192,8 @@ fn nest(alloc: Global, form: Form, octets: &[u8], room: u8) -> Result<(Tree, &[u
 fn make_room(found: &mut Vec<Tree>, count: u64, left: usize) -> Result<(), Fault>
     ensures items { found.new.items ≡ found.old.items }
     ensures room { OnOk result (vec_len found.new < vec_capacity found.new) }
-    ensures few { vec_capacity found.new ≤
-        max (vec_capacity found.old) (vec_len found.old + left + 1) }
+    ensures few { vec_capacity found.new
+        ≤ max (vec_capacity found.old) (vec_len found.old + left + 1) }
     ensures err { IfErr result (λ e. e ≡ Fault.NoMemory) }
 {
     let len = found.len();

@@ -65,8 +65,8 @@ fn roles_of(alloc: Global, pairs: Vec<(String, String)>) -> Result<IndexMap<Stri
 /// Keeps the role of an authid that has none yet.
 fn keep_first(roles: &mut IndexMap<String, Text>, authid: String, role: Text) -> Result<(), Fault>
     ensures { OnOk result ((name : List ℕ)
-        → get_by_text roles.new name ≡
-        first_of (get_by_text roles.old name) (role_in ((string_bytes authid, role) ∷ []) name)) }
+        → get_by_text roles.new name
+        ≡ first_of (get_by_text roles.old name) (role_in ((string_bytes authid, role) ∷ []) name)) }
 {
     if !roles.contains_key(authid.as_str()) {
         roles.insert(authid, role)?;

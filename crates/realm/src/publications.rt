@@ -76,8 +76,8 @@ fn accepted_with(
     args: Args,
 ) -> Result<AcceptedPublication, Reason>
     ensures answer { (word : ℕ) (w : Who)
-        → published_by (has_room store.now topic) word w topic args (Some publish_options) ≡
-        made_with word w result }
+        → published_by (has_room store.now topic) word w topic args (Some publish_options)
+        ≡ made_with word w result }
     ensures room { IfOk result (λ a. a.publish_options.retained ≡ true
         → has_room store.now a.topic ≡ true) }
 {
@@ -106,8 +106,8 @@ fn accepted(
     args: Args,
 ) -> Result<Result<AcceptedPublication, Reason>, Fault>
     ensures answer { IfOk result (λ accepted. (word : ℕ) (w : Who)
-        → published_by (has_room store.now topic) word w topic args (publish_options_of options) ≡
-        made_with word w accepted) }
+        → published_by (has_room store.now topic) word w topic args (publish_options_of options)
+        ≡ made_with word w accepted) }
     ensures room { IfOk result (λ accepted.
         IfOk accepted (λ a. a.publish_options.retained ≡ true
         → has_room store.now a.topic ≡ true)) }
@@ -133,8 +133,8 @@ fn publication(
     word: u64,
     accepted: AcceptedPublication,
 ) -> Result<Publication, Fault>
-    ensures { IfOk result (λ p. p ≡
-        (made_by word publisher.now accepted.topic accepted.args
+    ensures { IfOk result (λ p. p
+        ≡ (made_by word publisher.now accepted.topic accepted.args
         accepted.publish_options).publication) }
 {
     let publisher = publisher.twin()?;

@@ -5,10 +5,7 @@ ghost use Rattle.realm.specs.body.LiveSessions.{may_join_by};
 
 use std::alloc::{AllocError, Global};
 use std::marker::Model;
-use wamp_ids::{Conn, seat};
-
-/// How many seats there are.
-const SEATS: usize = 256;
+use wamp_ids::{Conn, SEATS, seat};
 
 /// The last connection that asked for a session, at each seat.
 #[derive(Drop)]
@@ -32,7 +29,7 @@ impl Seats {
     pub fn new(alloc: Global) -> Result<Seats, AllocError>
         ensures { IfOk result (λ seats. seats ≡ replicate 256 None) }
     {
-        let mut last = Vec::with_capacity(alloc, SEATS)?;
+        let mut last = Vec::with_capacity(alloc, SEATS as usize)?;
         for _ in 0..SEATS {
             last.push(None)?;
         }

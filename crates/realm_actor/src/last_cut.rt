@@ -25,8 +25,8 @@ impl<S: Shut> Row<S> {
 // Names the row's connection, where it is marked, and takes the marks away.
 fn name_one<S: Shut>(row: &mut Row<S>, last_cut: &mut Vec<Conn>)
     requires { length last_cut.old.items < vec_capacity last_cut.old }
-    ensures named { last_cut.new.items ≡ last_cut.old.items ++
-        cond (is_named row.old) (row.old.conn ∷ []) [] }
+    ensures named { last_cut.new.items ≡ last_cut.old.items
+        ++ cond (is_named row.old) (row.old.conn ∷ []) [] }
     ensures row { Unmarked row.old row.new }
     ensures capacity { vec_capacity last_cut.new ≡ vec_capacity last_cut.old }
 {

@@ -7,7 +7,7 @@ ghost use Rattle.session.specs.declared.messages.item.Publication.{Publication};
 /// Of each topic at most one publication is retained: the last one that was to be. They are in
 /// strictly ascending order of their topics.
 pub fn one_a_topic()
-    ensures last { (kept : List Publication) (topic : List ℕ) →
-        of_topic topic (retained_of kept) ≡ take 1 (of_topic topic kept) }
+    ensures last { (kept : List Publication) (topic : List ℕ)
+        → of_topic topic (retained_of kept) ≡ take 1 (of_topic topic kept) }
     ensures order { (kept : List Publication) → AreByTopic (retained_of kept) }
 {}

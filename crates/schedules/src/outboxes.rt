@@ -1,5 +1,4 @@
-//! The queue of each session.
-// The queues of the sessions. One that is empty is not kept.
+//! The queues of the sessions. One that is empty is not kept.
 ghost use Rattle.std.specs.Prelude.{◌≡◌, ◌≢◌, ◌==◌, ◌++◌, ℕ, true, false, [], ◌∷◌, cond, length, MatchOption, IfNone, OnOk, OnErr};
 ghost use Rattle.schedules.specs.body.Outboxes.{outbox_of, AreFilled, AreFilledBut, HasRoom};
 
@@ -63,8 +62,8 @@ pub(crate) fn make_room(
 pub(crate) fn add(outboxes: &mut Outboxes, conn: Conn, item: Item)
     requires room { HasRoom outboxes.old conn }
     requires others { AreFilledBut conn outboxes.old }
-    ensures added { (c : ℕ) → outbox_of outboxes.new c ≡ outbox_of outboxes.old c ++
-        cond (conn == c) (item ∷ []) [] }
+    ensures added { (c : ℕ) → outbox_of outboxes.new c ≡ outbox_of outboxes.old c
+        ++ cond (conn == c) (item ∷ []) [] }
     ensures filled { AreFilled outboxes.new }
 {
     if let Some(outbox) = outboxes.get_mut(&conn) {

@@ -115,8 +115,8 @@ pub fn next_post<'a>(
 
 /// The least of those connections that are live, unless any item waits to be pushed.
 pub fn next_leaver(realm: &Realm, pushing: &VecDeque<(Conn, Item)>, marks: &[Conn]) -> Option<Conn>
-    ensures { MatchOption result (unless_any pushing.now.items (filter (live realm.now) marks.now) ≡
-        []) (λ c. IsLeast c (unless_any pushing.now.items (filter (live realm.now) marks.now))) }
+    ensures { MatchOption result (unless_any pushing.now.items (filter (live realm.now) marks.now)
+        ≡ []) (λ c. IsLeast c (unless_any pushing.now.items (filter (live realm.now) marks.now))) }
 {
     match first(pushing) {
         Some(_) => None,

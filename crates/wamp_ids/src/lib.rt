@@ -14,7 +14,7 @@ mod pattern;
 mod topic;
 
 pub use components::{dot_in, fits};
-pub use conn::{Conn, seat};
+pub use conn::{Conn, SEATS, seat};
 pub use fault::Fault;
 pub use id::Id;
 pub use pattern::{Pattern, Policy};

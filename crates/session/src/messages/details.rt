@@ -1,5 +1,4 @@
-//! The dictionaries of the broker's messages.
-// The dictionaries of the broker's messages, each key of them set where it is wanted.
+//! The dictionaries of the broker's messages, each key of them set where it is wanted.
 ghost use Rattle.std.specs.Prelude.{◌≡◌, ◌≤◌, IfOk, IfErr, OnOk, true};
 ghost use Rattle.message_tree.specs.Data.{flag, text, dict, put, entries_depth, is_carried, entries_carried};
 ghost use Rattle.message_tree.specs.View.{view, dict_view};

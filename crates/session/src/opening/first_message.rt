@@ -18,8 +18,8 @@ use wamp_ids::Topic;
 /// [`Fault::Shape`] where it is another message, [`Fault::NoSuchRealm`] where it names none of the
 /// realms.
 pub fn first(said: Said, realms: &[Topic]) -> Result<First, Fault>
-    ensures ok { IfOk result (λ f. first_of said realms.now ≡
-        Some (f.realm, option_map string_bytes f.authid)) }
+    ensures ok { IfOk result (λ f. first_of said realms.now
+        ≡ Some (f.realm, option_map string_bytes f.authid)) }
     ensures in_list { IfOk result (λ f. f.realm < length realms.now) }
     ensures no_such_realm { (result ≡ Err Fault.NoSuchRealm)
         ↔ ((is_hello said ≡ true) × (first_of said realms.now ≡ None)) }

@@ -21,8 +21,8 @@ fn put_publisher(
 ) -> Result<(), Fault>
     ensures ok { OnOk result (out.new.since ≡ out.old.since
         ++ entries_from serializer false (publisher_entries made.now)) }
-    ensures spelled { OnOk result (entries_have_spelling serializer (publisher_entries made.now) ≡
-        true) }
+    ensures spelled { OnOk result (entries_have_spelling serializer (publisher_entries made.now)
+        ≡ true) }
     ensures unspelled { result ≡ Err Fault.TooLongForClient
         → entries_have_spelling serializer (publisher_entries made.now) ≡ false }
     ensures before { out.new.before ≡ out.old.before }
