@@ -7,7 +7,7 @@ use crate::telling::{given_text, outcome_text, run_text};
 use crate::words::{conn, number};
 use case_items::{grant_of, unless_refused};
 use case_text::{Table, line_of, part};
-use schedules::{Entry, RealmConfig, Step, World};
+use realm_core::{Entry, RealmConfig, Step, World};
 use std::alloc::{AllocError, Global};
 use std::{io, mem};
 use wamp_ids::Topic;

@@ -1,6 +1,6 @@
 //! One session after another in one world.
 use message_tree::Octets;
-use schedules::{Entry, Fault, Step, Stepped, World};
+use realm_core::{Entry, Fault, Step, Stepped, World};
 use std::alloc::Global;
 use std::io;
 use wamp_ids::Conn;

@@ -3,7 +3,7 @@ use crate::words::{conn, conn_and_word, number};
 use case_items::said_of;
 use case_text::part;
 use message_tree::{Octets, Text};
-use schedules::{Entry, Step};
+use realm_core::{Entry, Step};
 use std::alloc::Global;
 use std::io;
 

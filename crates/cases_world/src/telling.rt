@@ -1,6 +1,6 @@
 //! What steps did, and what sessions are told, as text.
 use case_items::item_text;
-use schedules::{Fault, Item, Run, Stepped};
+use realm_core::{Fault, Item, Run, Stepped};
 use std::alloc::Global;
 use std::io;
 use wamp_ids::Conn;

@@ -1,4 +1,4 @@
-//! The broker core over every schedule: a realm, the posts that wait for it, and the queues of its
+//! A realm over every schedule: a realm, the posts that wait for it, and the queues of its
 //! sessions, one step at a time in any order.
 //!
 //! What each step does is a relation of `specs/`, one case for each kind of step; [`World`] is a body
@@ -17,9 +17,5 @@ mod queues;
 mod step;
 mod world;
 
-pub use realm::{
-    Args, CarriedArgs, Entry, Fault, Item, Lists, Publication, Realm, RealmConfig, Reason, Request,
-    Said, Who, says_with_word,
-};
 pub use step::{Step, Stepped};
 pub use world::{Run, World};
