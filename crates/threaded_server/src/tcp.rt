@@ -67,6 +67,7 @@ impl Write for TcpHandle {
 pub struct TcpAcceptor<R: Clock + Drop> {
     listener: TcpListener,
     clock: R,
+    failure: Option<io::Error>,
     // It takes no bytes.
     answers: GhostList<Answer>,
 }
@@ -77,8 +78,14 @@ impl<R: Clock + Drop> TcpAcceptor<R> {
         TcpAcceptor {
             listener,
             clock,
+            failure: None,
             answers: GhostList::new(),
         }
+    }
+
+    /// Why accepting failed the last time that it did, also where it has given streams since. None where it never failed.
+    pub fn last_failure(&self) -> Option<&io::Error> {
+        self.failure.as_ref()
     }
 }
 
@@ -98,7 +105,10 @@ impl<R: Clock + Drop> Acceptor for TcpAcceptor<R> {
     fn accept(&mut self) -> Accepted<TcpStream> {
         let accepted = match self.listener.accept() {
             Ok((stream, _)) => Accepted::Stream(stream),
-            Err(_) => Accepted::Failed,
+            Err(failure) => {
+                self.failure = Some(failure);
+                Accepted::Failed
+            }
         };
         self.answers.add(Snapshot::of(&accepted.answer()));
         accepted
