@@ -80,7 +80,8 @@ impl<S: Shut> Inbox<S> {
     ghost use Rattle.realm_inbox.specs.EndViews.{received, capacity, inbox_of};
 
     /// Waits for a post. It is the next of its seat: what had been posted there before it is exactly what was received of the seat.
-    /// `None` once each sender is gone: the door, each poster and each seat. Before it waits, it wakes who waits for room.
+    /// `None` once each sender is gone: the door, each poster and each seat. It wakes who waits for room: with each post that it
+    /// gives, and before it waits itself.
     ///
     /// No post is missed, nor that the last sender is gone: each turn looks first, and then sleeps; a sender posts, or goes, and then
     /// wakes it; and a wake that comes before the sleep ends it at once.
@@ -91,11 +92,14 @@ impl<S: Shut> Inbox<S> {
     {
         for _ in rt.forever() {
             match self.look(rt) {
-                Ok(post) => return Some(post),
+                Ok(post) => {
+                    self.wake();
+                    return Some(post);
+                }
                 Err(TryRecvError::Disconnected) => return None,
                 Err(TryRecvError::Empty) => {}
             }
-            self.wake();
+            self.room.ring();
             self.parker.park(rt);
         }
         unreachable!()
