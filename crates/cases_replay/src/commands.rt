@@ -49,10 +49,10 @@ pub fn failure(alloc: Global, fault: &Fault, reason: &str) -> io::Result<String>
     };
     let mut sink = MemorySink::new(alloc);
     let status = report_failure(fault, &line, &mut sink);
-    let lines = std::str::from_utf8(sink.octets()).unwrap_or("");
-    if !lines.ends_with('\n') {
+    if !sink.octets().ends_with(&line) {
         return Err(AllocError)?;
     }
+    let lines = std::str::from_utf8(sink.octets()).unwrap_or("");
     Ok(format!(in alloc; "status {status}: {lines}")?)
 }
 
