@@ -4,3 +4,6 @@ pub(crate) mod command;
 pub(crate) mod diagnostics;
 pub(crate) mod grammar;
 pub(crate) mod grants;
+pub(crate) mod printable;
+pub(crate) mod refusal;
+pub(crate) mod version;

@@ -1,6 +1,7 @@
 //! A case: the input of a replay, the devices that it is read from and written to, and the run.
-use crate::commands::{command, reports};
+use crate::commands::{command, explained, failure, reports};
 use crate::script::Script;
+use broker_server::Fault;
 use case_text::{Table, line_of};
 use std::alloc::Global;
 use std::io;
@@ -45,6 +46,8 @@ impl Case {
     fn set(&mut self, alloc: Global, word: &str, text: &str) -> io::Result<String> {
         match word {
             "command" => return command(alloc, text),
+            "explain" => return explained(alloc, text),
+            "reason" => return failure(alloc, &Fault::ListenFault, text),
             "grants" => self.script.grants = String::from_str(alloc, text)?,
             "read" => self.script.failing_read = call_of(text),
             "write" => self.script.failing_write = call_of(text),

@@ -1,17 +1,25 @@
 //! Words of a command line, and faults as they are reported.
-use broker_server::{Command, Config, Fault, Ids, read_command, report};
+use broker_server::{
+    Command, Config, Fault, Ids, explain, read_command, report, report_failure, shown_line,
+};
 use rawsocket::devices::MemorySink;
 use std::alloc::{AllocError, Global};
 use std::io;
 
-/// What is read of the words of a command line, which stand apart by spaces.
-pub fn command(alloc: Global, text: &str) -> io::Result<String> {
+/// Words, which stand apart by spaces.
+fn words_of(alloc: Global, text: &str) -> Result<Vec<String>, AllocError> {
     let mut words = Vec::new(alloc);
     for word in text.split(' ') {
         words.push(String::from_str(alloc, word)?)?;
     }
-    match read_command(alloc, &words) {
+    Ok(words)
+}
+
+/// What is read of the words of a command line.
+pub fn command(alloc: Global, text: &str) -> io::Result<String> {
+    match read_command(alloc, &words_of(alloc, text)?) {
         Ok(Command::Help(help)) => help_line(alloc, help.as_str()),
+        Ok(Command::Version(line)) => Ok(format!(in alloc; "version {line}")?),
         Ok(Command::Replay(config)) => {
             let start = String::from_str(alloc, "replay")?;
             config_line(start, &config)
@@ -21,6 +29,32 @@ pub fn command(alloc: Global, text: &str) -> io::Result<String> {
         }
         Err(fault) => Ok(format!(in alloc; "fault {fault}\n")?),
     }
+}
+
+/// What the program writes of the words of a command line that is refused.
+pub fn explained(alloc: Global, text: &str) -> io::Result<String> {
+    let words = words_of(alloc, text)?;
+    let Err(fault) = read_command(alloc, &words) else {
+        return Ok(String::from_str(alloc, "accepted\n")?);
+    };
+    match explain(alloc, &words) {
+        Ok(reason) => failure(alloc, &fault, reason.as_str()),
+        Err(fault) => Ok(format!(in alloc; "fault {fault}\n")?),
+    }
+}
+
+/// What is written of a fault with this reason, and the exit status.
+pub fn failure(alloc: Global, fault: &Fault, reason: &str) -> io::Result<String> {
+    let Ok(line) = shown_line(alloc, reason) else {
+        return Err(AllocError)?;
+    };
+    let mut sink = MemorySink::new(alloc);
+    let status = report_failure(fault, &line, &mut sink);
+    if !sink.octets().ends_with(&line) {
+        return Err(AllocError)?;
+    }
+    let lines = std::str::from_utf8(sink.octets()).unwrap_or("");
+    Ok(format!(in alloc; "status {status}: {lines}")?)
 }
 
 /// Whether the help names the commands.

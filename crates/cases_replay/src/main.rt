@@ -9,6 +9,8 @@
 //! - `reads`, `writes`: replays it so for each read, or each write and flush, that fails, the first one first, until none does, and says
 //!   how many octets were written and the fault: a line for those that come to the same.
 //! - `command WORDS`: what is read of these words of a command line.
+//! - `explain WORDS`: what is written of these words, which are refused, and the exit status.
+//! - `reason TEXT`: what is written of a fault with this reason, and the exit status.
 //! - `reports`: what is reported of each fault, and the exit status.
 #![tactic(auto)]
 

@@ -1,13 +1,19 @@
 //! `wampd`: a publish-subscribe broker for WAMP. The command line asks for help, a replay or a running broker.
 //!
-//! It stands on `broker_server` and `rawsocket`. Contracts say that help is printed whole, and which exit status a fault has.
+//! It stands on `broker_server` and `rawsocket`. Contracts say that help is printed whole, what is told of a fault, and which exit status
+//! it has.
 #![tactic(auto)]
 
 ghost use Rattle.std.specs.Prelude.{◌≡◌, ◌≢◌, ◌<◌, ◌≤◌, ◌+◌, ◌++◌, Err, IfErr, OnOk};
 ghost use Rattle.rawsocket.specs.Devices.{GrowsByBeginning};
-ghost use Rattle.broker_server.specs.Commands.{IsServable, status_of};
+ghost use Rattle.broker_server.specs.Commands.{IsServable, IsWritten, fault_line, status_of};
 
-use broker_server::{Command, Config, Fault, TcpAcceptor, read_command, replay, report, serve_on};
+mod failure;
+
+use broker_server::{
+    Command, Config, Fault, TcpAcceptor, read_command, replay, report_failure, serve_on,
+};
+use failure::Failure;
 use rawsocket::devices::{ReadSource, Sink, Turns, WriteSink, send};
 use std::alloc::Global;
 use std::env;
@@ -24,19 +30,22 @@ fn main(rt: HostRuntime) -> ExitCode {
     ExitCode::from(status_after(ran, &mut errors))
 }
 
-/// Reports the fault, if there is one, and gives the exit status.
-fn status_after<S: Sink>(ran: Result<(), Fault>, errors: &mut S) -> u8
+/// Tells of the failure, if there is one, and gives the exit status.
+fn status_after<S: Sink>(ran: Result<(), Failure>, errors: &mut S) -> u8
     ensures fine { OnOk ran (result ≡ 0) }
-    ensures fault { IfErr ran (λ fault. result ≡ status_of fault) }
+    ensures fault { IfErr ran (λ failure. result ≡ status_of failure.fault) }
+    ensures told { IfErr ran (λ failure. S.failures errors.new ≡ S.failures errors.old
+        → IsWritten (fault_line failure.fault ++ failure.more.items)
+        (S.taken errors.old) (S.taken errors.new) (S.calls errors.old) (S.calls errors.new)) }
 {
     match ran {
         Ok(()) => 0,
-        Err(fault) => report(&fault, errors),
+        Err(failure) => report_failure(&failure.fault, &failure.more, errors),
     }
 }
 
 /// Runs what the words after the program's name ask for.
-fn run<R>(host: &HostRuntime, rt: R) -> Result<(), Fault>
+fn run<R>(host: &HostRuntime, rt: R) -> Result<(), Failure>
 where
     R: Threads
         + Wait
@@ -48,24 +57,34 @@ where
         + 'static,
 {
     let alloc = host.alloc();
-    let Ok(words) = env::args(host) else {
-        return Err(Fault::NoMemory);
+    let Some(words) = words_of(host) else {
+        return Err(Failure::of(alloc, Fault::NoMemory));
     };
-    let Ok(words) = words.skip(1).collect(alloc) else {
-        return Err(Fault::NoMemory);
+    let command = match read_command(alloc, &words) {
+        Ok(command) => command,
+        Err(fault) => return Err(Failure::of_words(alloc, fault, &words)),
     };
-    let words: Vec<String> = words;
     let mut output = WriteSink::new(host.stdout());
-    match read_command(alloc, &words)? {
+    let ran = match command {
         Command::Help(text) => print(&mut output, text.as_str().as_bytes()),
+        Command::Version(text) => print(&mut output, text.as_str().as_bytes()),
         Command::Replay(config) => {
             let mut input = ReadSource::new(host.stdin());
             replay(alloc, &mut input, &mut output, &config)
         }
         Command::Serve { host, port, config } => {
-            serve(rt, alloc, &mut output, host.as_str(), port, &config)
+            return serve(rt, alloc, &mut output, host.as_str(), port, &config);
         }
+    };
+    match ran {
+        Ok(()) => Ok(()),
+        Err(fault) => Err(Failure::of(alloc, fault)),
     }
+}
+
+/// The words after the program's name.
+fn words_of(host: &HostRuntime) -> Option<Vec<String>> {
+    env::args(host).ok()?.skip(1).collect(host.alloc()).ok()
 }
 
 /// Listens, says so, and serves whoever connects.
@@ -76,7 +95,7 @@ fn serve<R, S: Sink>(
     host: &str,
     port: u16,
     config: &Config,
-) -> Result<(), Fault>
+) -> Result<(), Failure>
 where
     R: Threads
         + Wait
@@ -88,14 +107,24 @@ where
         + 'static,
     requires { IsServable config.now }
 {
-    let Ok(listener) = TcpListener::bind(&rt, (host, port)) else {
-        return Err(Fault::ListenFault);
+    let listener = match TcpListener::bind(&rt, (host, port)) {
+        Ok(listener) => listener,
+        Err(error) => return Err(Failure::to_listen(alloc, host, port, &error)),
     };
-    let line = format!(in alloc; "listening on {host}:{port}\n")?;
-    print(output, line.as_bytes())?;
+    if let Err(fault) = announce(alloc, output, host, port) {
+        return Err(Failure::of(alloc, fault));
+    }
     let mut acceptor = TcpAcceptor::new(listener, rt);
-    serve_on(rt, alloc, &mut acceptor, config)?;
-    Ok(())
+    match serve_on(rt, alloc, &mut acceptor, config) {
+        Ok(()) => Ok(()),
+        Err(fault) => Err(Failure::to_serve(alloc, Fault::from(fault), acceptor.last_failure())),
+    }
+}
+
+/// Says where it listens.
+fn announce<S: Sink>(alloc: Global, output: &mut S, host: &str, port: u16) -> Result<(), Fault> {
+    let line = format!(in alloc; "listening on {host}:{port}\n")?;
+    print(output, line.as_bytes())
 }
 
 /// Prints a text, given as its octets, whole.

@@ -3,7 +3,7 @@ ghost use Rattle.std.specs.Prelude.{◌≡◌, ◌⊎◌, ◌+◌, ◌++◌, ◌
 ghost use Rattle.rawsocket.specs.Devices.{GrowsByBeginning};
 ghost use Rattle.rawsocket.specs.declared.fault.Fault.TheVariants.{WriteFault as WriteFailed};
 ghost use Rattle.session.specs.Opened.{AreUsedUp, AreWithinTurns};
-ghost use Rattle.broker_server.specs.Commands.{fault_line, line_number, name_of, status_of};
+ghost use Rattle.broker_server.specs.Commands.{IsWritten, fault_line, line_number, name_of, status_of};
 
 use crate::fault::Fault;
 use itoa::Buffer;
@@ -66,6 +66,21 @@ fn write_fault<S: Sink>(
     send(sink, b"\n", turns)
 }
 
+/// The exit status of a fault.
+fn status(fault: &Fault) -> u8
+    ensures { result ≡ status_of fault.now }
+{
+    match fault {
+        Fault::Usage => 2,
+        Fault::BadLine(_) => 2,
+        Fault::NoMemory => 1,
+        Fault::ReadFault => 1,
+        Fault::WriteFault => 1,
+        Fault::TooManyTurns => 1,
+        Fault::ListenFault => 1,
+    }
+}
+
 /// Writes the line of a fault, and gives the exit status: 2 for a command line or a line of input
 /// that isn't accepted, 1 for the others. A sink that fails is passed over; a beginning of the line
 /// is written then. It takes no memory.
@@ -77,13 +92,41 @@ pub fn report<S: Sink>(fault: &Fault, sink: &mut S) -> u8
 {
     let mut turns = Turns::new();
     let _ = write_fault(fault, sink, &mut turns);
-    match fault {
-        Fault::Usage => 2,
-        Fault::BadLine(_) => 2,
-        Fault::NoMemory => 1,
-        Fault::ReadFault => 1,
-        Fault::WriteFault => 1,
-        Fault::TooManyTurns => 1,
-        Fault::ListenFault => 1,
-    }
+    status(fault)
+}
+
+/// Writes the line of a fault, and behind it what else is told of it.
+fn write_failure<S: Sink>(
+    fault: &Fault,
+    more: &[u8],
+    sink: &mut S,
+    turns: &mut Turns,
+) -> Result<(), rawsocket::Fault>
+    ensures written { OnOk result (S.taken sink.new
+        ≡ S.taken sink.old ++ (fault_line fault.now ++ more.now)) }
+    ensures begun { GrowsByBeginning (S.taken sink.old) (S.taken sink.new)
+        (fault_line fault.now ++ more.now) }
+    ensures calls { S.calls sink.new + turns.new ≡ S.calls sink.old + turns.old }
+    ensures failures { S.failures sink.old ≤ S.failures sink.new }
+    ensures device { result ≡ Err WriteFailed → S.failures sink.old < S.failures sink.new }
+    ensures turns { IfErr result (λ of. of ≢ WriteFailed → turns.new ≡ 0) }
+{
+    write_fault(fault, sink, turns)?;
+    send(sink, more, turns)
+}
+
+/// Writes the line of a fault as `report` does, and behind it what else is told of it, as it stands: `shown_line` of a reason, or a help.
+/// It gives the exit status that `report` gives. A sink that fails is passed over; a beginning is written then. It takes no memory.
+pub fn report_failure<S: Sink>(fault: &Fault, more: &[u8], sink: &mut S) -> u8
+    ensures status { result ≡ status_of fault.now }
+    ensures lines { S.failures sink.new ≡ S.failures sink.old
+        → IsWritten (fault_line fault.now ++ more.now) (S.taken sink.old) (S.taken sink.new)
+        (S.calls sink.old) (S.calls sink.new) }
+    ensures begun { GrowsByBeginning (S.taken sink.old) (S.taken sink.new)
+        (fault_line fault.now ++ more.now) }
+    ensures writes { AreWithinTurns (S.calls sink.old) (S.calls sink.new) }
+{
+    let mut turns = Turns::new();
+    let _ = write_failure(fault, more, sink, &mut turns);
+    status(fault)
 }

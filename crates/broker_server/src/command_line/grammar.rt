@@ -1,4 +1,5 @@
 //! The grammar of the command line, and its help.
+use crate::command_line::version::VERSION;
 use clap::{Arg, ArgAction, Command};
 use std::alloc::{AllocError, Global};
 
@@ -7,6 +8,7 @@ pub fn grammar<'a>(alloc: Global) -> Result<Command<'a>, AllocError> {
     Command::new(alloc, "wampd")
         .bin_name("wampd")?
         .about("A publish-subscribe broker for WAMP")
+        .version(VERSION)
         .no_binary_name(true)
         .subcommand_required(true)
         .subcommand(replay(alloc)?)?
