@@ -4,7 +4,7 @@ ghost use Rattle.std.specs.Prelude.{◌≤◌};
 use crate::acts::{act_of, answered, joining_of, told};
 use crate::room::{Room, post};
 use crate::tally::Received;
-use crate::threads::pass_all;
+use crate::threads::{Taking, pass_all};
 use crate::wire::Wire;
 use case_text::{crossing, line_of, may_be_sent, part};
 use realm_inbox::{Act, Door, Inbox, Poster, Seat};
@@ -44,8 +44,10 @@ impl Case {
                 line_of(alloc, line)
             }
             "inbox" => self.begin(alloc, text),
-            "threads" => pass_some(rt, alloc, text),
+            "threads" => pass_each(rt, alloc, text),
             "forsake" => forsake(rt, alloc, text),
+            "linger" => again(rt, alloc, text, Taking::AllBut(1)),
+            "turns" => again(rt, alloc, text, Taking::ByTurns),
             "crossing" => ends_cross(alloc),
             _ => match &mut self.room {
                 None => line_of(alloc, "no inbox"),
@@ -74,12 +76,12 @@ fn ends_cross(alloc: Global) -> io::Result<String> {
     crossing(alloc)
 }
 
-// What is received of two threads that post, up to so many posts; the text names a capacity, two connections and how many each posts.
-fn pass_up_to<R: Threads + Wait + Copy + Send + 'static>(
+// What is received of two threads that post; the text names a capacity, two connections and how many each posts.
+fn pass_some<R: Threads + Wait + Copy + Send + 'static>(
     rt: R,
     alloc: Global,
     text: &str,
-    most: u64,
+    taking: Taking,
 ) -> io::Result<Option<Received>> {
     let (cap, rest) = part(text);
     let (first, rest) = part(rest);
@@ -91,18 +93,18 @@ fn pass_up_to<R: Threads + Wait + Copy + Send + 'static>(
         count.parse::<u64>(),
     ) {
         (Ok(cap), Some(first), Some(second), Ok(count)) if cap >= 1 => {
-            Ok(pass_all(rt, alloc, cap, (first, second), count, most)?)
+            Ok(pass_all(rt, alloc, cap, (first, second), count, taking)?)
         }
         _ => Ok(None),
     }
 }
 
-fn pass_some<R: Threads + Wait + Copy + Send + 'static>(
+fn pass_each<R: Threads + Wait + Copy + Send + 'static>(
     rt: R,
     alloc: Global,
     text: &str,
 ) -> io::Result<String> {
-    match pass_up_to(rt, alloc, text, u64::MAX)? {
+    match pass_some(rt, alloc, text, Taking::UpTo(u64::MAX))? {
         Some(received) => received.told(alloc),
         None => line_of(alloc, "no capacity, two seats and count"),
     }
@@ -118,10 +120,33 @@ fn forsake<R: Threads + Wait + Copy + Send + 'static>(
     let Ok(most) = most.parse::<u64>() else {
         return line_of(alloc, "no number of posts");
     };
-    match pass_up_to(rt, alloc, rest, most)? {
+    match pass_some(rt, alloc, rest, Taking::UpTo(most))? {
         Some(received) => received.told_as_one(alloc),
         None => line_of(alloc, "no capacity, two seats and count"),
     }
+}
+
+// The same a number of times, where all is received, in one way or another. Where it is told the same each time it is told once.
+fn again<R: Threads + Wait + Copy + Send + 'static>(
+    rt: R,
+    alloc: Global,
+    text: &str,
+    taking: Taking,
+) -> io::Result<String> {
+    let (times, rest) = part(text);
+    let mut first = String::new(alloc);
+    for time in 0..times.parse::<u64>().unwrap_or(0) {
+        let Some(received) = pass_some(rt, alloc, rest, taking)? else {
+            return line_of(alloc, "no capacity, two seats and count");
+        };
+        let told = received.told_as_one(alloc)?;
+        if time == 0 {
+            first = told;
+        } else if told != first {
+            return Ok(told);
+        }
+    }
+    Ok(format!(in alloc; "{times} times: {first}")?)
 }
 
 // What a word does that needs an inbox.

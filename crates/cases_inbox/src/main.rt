@@ -10,6 +10,9 @@
 //! - `threads CAP CONN CONN COUNT`: two threads post so many PINGs each, numbered from 0, and a third receives them all.
 //! - `forsake MOST CAP CONN CONN COUNT`: the same, where the third receives at most so many, and goes: the line comes once both threads
 //!   have ended.
+//! - `linger TIMES CAP CONN CONN COUNT`: so many times `threads`, where the third receives all posts but one, waits until both threads have
+//!   ended, and receives that one. `turns TIMES CAP CONN CONN COUNT`: the same, where it looks for a post, waits for the next one, and so on in
+//!   turn.
 //! - `crossing`: what may go to other threads.
 #![tactic(auto)]
 

@@ -49,6 +49,17 @@ impl<R: Wait + Copy> Work<R> for Numbered {
     }
 }
 
+/// How much of what two threads post is received before both have ended.
+#[derive(Clone, Copy, Drop)]
+pub enum Taking {
+    /// Up to so many posts. The receiving end goes then.
+    UpTo(u64),
+    /// All but so many, which fit. The others are received once both have ended.
+    AllBut(u64),
+    /// All: the first is looked for, the next waited for, and so on in turn. Nobody is woken between the two.
+    ByTurns,
+}
+
 /// What the two posters are to do, and where it arrives. The door and all other seats are gone.
 #[derive(Drop)]
 struct Both {
@@ -79,8 +90,8 @@ fn both_of(mut room: Room, alloc: Global, first: Conn, second: Conn, count: u64)
     })
 }
 
-// Receives until each sender is gone, or so many posts came, and goes.
-fn receive_up_to<R: Wait>(rt: &R, mut inbox: Inbox<Wire>, most: u64, received: &mut Received) {
+// Receives until each sender is gone, or so many posts came.
+fn receive_up_to<R: Wait>(rt: &R, inbox: &mut Inbox<Wire>, most: u64, received: &mut Received) {
     for _ in 0..most {
         match inbox.receive(rt) {
             None => break,
@@ -89,11 +100,52 @@ fn receive_up_to<R: Wait>(rt: &R, mut inbox: Inbox<Wire>, most: u64, received: &
     }
 }
 
+// Looks until a post is found.
+fn look<R: Wait>(rt: &R, inbox: &mut Inbox<Wire>, received: &mut Received) {
+    for _ in rt.forever() {
+        if let Some(post) = inbox.try_receive(rt) {
+            received.sees(&post);
+            return;
+        }
+    }
+    unreachable!()
+}
+
+// Receives so many pairs of posts: one that is looked for, and one that is waited for.
+fn receive_by_turns<R: Wait>(rt: &R, inbox: &mut Inbox<Wire>, pairs: u64, received: &mut Received) {
+    for _ in 0..pairs {
+        look(rt, inbox, received);
+        receive_up_to(rt, inbox, 1, received);
+    }
+}
+
+// Receives what is to be received before both threads have ended, each of which posts so many. The inbox, unless it is to go.
+fn take<R: Wait>(
+    rt: &R,
+    mut inbox: Inbox<Wire>,
+    taking: Taking,
+    each: u64,
+    received: &mut Received,
+) -> Option<Inbox<Wire>> {
+    match taking {
+        Taking::UpTo(most) => {
+            receive_up_to(rt, &mut inbox, most, received);
+            return None;
+        }
+        Taking::AllBut(left) => {
+            let most = each.saturating_mul(2).saturating_sub(left);
+            receive_up_to(rt, &mut inbox, most, received);
+        }
+        Taking::ByTurns => receive_by_turns(rt, &mut inbox, each, received),
+    }
+    Some(inbox)
+}
+
 // Starts both threads and receives so much of what they post. False where memory was refused.
 fn pass<R: Threads + Wait + Copy + Send + 'static>(
     rt: R,
     both: Both,
-    most: u64,
+    taking: Taking,
     received: &mut Received,
 ) -> Result<bool, AllocError> {
     let Both {
@@ -101,6 +153,7 @@ fn pass<R: Threads + Wait + Copy + Send + 'static>(
         second,
         inbox,
     } = both;
+    let each = first.count;
     let first = start(rt, first)?;
     let second = start(rt, second);
     let Ok(second) = second else {
@@ -108,12 +161,16 @@ fn pass<R: Threads + Wait + Copy + Send + 'static>(
         first.join(&rt);
         return Err(AllocError);
     };
-    receive_up_to(&rt, inbox, most, received);
+    let rest = take(&rt, inbox, taking, each, received);
     let had_memory = first.join(&rt);
-    Ok(second.join(&rt) && had_memory)
+    let had_memory = second.join(&rt) && had_memory;
+    if let Some(mut inbox) = rest {
+        receive_up_to(&rt, &mut inbox, u64::MAX, received);
+    }
+    Ok(had_memory)
 }
 
-/// Posts so many PINGs from each of two threads through an inbox of this capacity, of which a third receives so many, and goes. What
+/// Posts so many PINGs from each of two threads through an inbox of this capacity, of which a third receives as much as it is told. What
 /// that one received; none where the two connections have the same seat.
 pub fn pass_all<R: Threads + Wait + Copy + Send + 'static>(
     rt: R,
@@ -121,7 +178,7 @@ pub fn pass_all<R: Threads + Wait + Copy + Send + 'static>(
     cap: usize,
     conns: (Conn, Conn),
     count: u64,
-    most: u64,
+    taking: Taking,
 ) -> Result<Option<Received>, AllocError>
     requires { 1 ≤ cap }
 {
@@ -135,7 +192,7 @@ pub fn pass_all<R: Threads + Wait + Copy + Send + 'static>(
         second: Tally::new(second),
         others: 0,
     };
-    if !pass(rt, both, most, &mut received)? {
+    if !pass(rt, both, taking, &mut received)? {
         return Err(AllocError);
     }
     Ok(Some(received))

@@ -105,7 +105,7 @@ impl<R: Net<Stream = TcpStream, Listener = TcpListener> + Clock + Copy + Drop> A
         self.sockets.tcp.split(alloc, stream)
     }
 
-    fn pause(&mut self) {
-        self.sockets.tcp.pause();
+    fn pause(&mut self, failures: u32) {
+        self.sockets.tcp.pause(failures);
     }
 }

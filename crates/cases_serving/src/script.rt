@@ -103,5 +103,5 @@ impl<R: Net + Drop> Acceptor for Script<R> {
         })
     }
 
-    fn pause(&mut self) {}
+    fn pause(&mut self, _failures: u32) {}
 }

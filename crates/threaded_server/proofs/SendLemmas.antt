@@ -27,6 +27,7 @@ use Rattle.realm_inbox.specs.declared.transport.Shut.{Ghosts}
 use Rattle.session.proofs.SendLemmas.{item_send}
 use Rattle.session.specs.contracts.messages.item.Item as Item
 use Rattle.threaded_server.specs.contracts.actor_thread.ActorThread as ActorThread
+use Rattle.threaded_server.specs.contracts.handover.Handover as Handover
 use Rattle.threaded_server.specs.contracts.seat_table.SeatTable as SeatTable
 use Rattle.threaded_server.specs.contracts.id_words.IdWords as IdWords
 use Rattle.threaded_server.specs.contracts.plan.Plan as Plan
@@ -64,19 +65,22 @@ module _ (S : RattleType) (shut : Ghosts S.Denot) where
   posters_send : IsSend S → IsSend posters
   posters_send s = option_send _ (heap.Vec-send _ (option_send _ (poster_send S shut s)))
 
-  desk_send : IsSend S → IsSend (Mutex.the_row posters)
-  desk_send s = let p = posters_send s in search (p, crosses, sendable) depth 40
+  handover_send : IsSend S → IsSend (Handover.the_row S shut)
+  handover_send s = declared_send (Handover.the_type S shut) (posters_send s, (option_send S s, tt))
 
-  desk_sync : IsSend S → IsSync (Mutex.the_row posters)
-  desk_sync s = let p = posters_send s in search (p, crosses, sendable) depth 40
+  slot_send : IsSend S → IsSend (Mutex.the_row (Handover.the_row S shut))
+  slot_send s = let h = handover_send s in search (h, crosses, sendable) depth 40
 
-  shared_send : IsSend S → IsSend (Arc.the_row (Mutex.the_row posters) Global.the_row global.ghosts)
-  shared_send s = heap.Arc-send _ (desk_send s) (desk_sync s)
+  slot_sync : IsSend S → IsSync (Mutex.the_row (Handover.the_row S shut))
+  slot_sync s = let h = handover_send s in search (h, crosses, sendable) depth 40
+
+  shared_send : IsSend S → IsSend (Arc.the_row (Mutex.the_row (Handover.the_row S shut)) Global.the_row global.ghosts)
+  shared_send s = heap.Arc-send _ (slot_send s) (slot_sync s)
 
 module _ (I O S : RattleType) (shut : Ghosts S.Denot) where
   pub reader_send : IsSend I → IsSend O → IsSend S → IsSend (Reader.the_row I O S shut)
   reader_send i o s = declared_send (Reader.the_type I O S shut)
-      (search (heap.send, crosses, sendable) depth 60, (search (plan_send, plan_sync, crosses, sendable) depth 60 fits 20000, (as_row_send (row_field I) i, (as_row_send (row_field O) o, (as_row_send (row_field S) s, (as_row_send (Arc.the_field (Mutex.the_row (posters S shut)) Global.the_row global.ghosts) (shared_send S shut s), (search (crosses, sendable) depth 60, tt)))))))
+      (search (heap.send, crosses, sendable) depth 60, (search (plan_send, plan_sync, crosses, sendable) depth 60 fits 20000, (as_row_send (row_field I) i, (as_row_send (row_field O) o, (as_row_send (row_field S) s, (as_row_send (Arc.the_field (Mutex.the_row (Handover.the_row S shut)) Global.the_row global.ghosts) (shared_send S shut s), (search (crosses, sendable) depth 60, tt)))))))
 
 module _ (S : RattleType) (shut : Ghosts S.Denot) where
   pub actor_work_send : IsSend S → IsSend (ActorThread.the_row S shut)

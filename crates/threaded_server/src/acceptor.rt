@@ -75,7 +75,7 @@ pub trait Acceptor {
     ) -> Result<Parts<Self::Source, Self::Sink, Self::Shut>, AllocError>
         ensures { answers self.new ≡ answers self.old };
 
-    /// A pause after a failure, before accepting is tried again.
-    fn pause(&mut self)
+    /// A pause after a failure, before accepting is tried again: so many failures there were in a row, that one included.
+    fn pause(&mut self, failures: u32)
         ensures { answers self.new ≡ answers self.old };
 }

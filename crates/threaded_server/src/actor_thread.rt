@@ -8,7 +8,7 @@ use crate::work::Work;
 use crossbeam_channel::Sender;
 use realm::RealmConfig;
 use realm_actor::Actor;
-use realm_inbox::{Inbox, Shut};
+use realm_inbox::{Act, Inbox, Post, Shut};
 use std::alloc::Global;
 use std::sync::{Arc, Wait};
 
@@ -27,8 +27,7 @@ pub struct ActorThread<S: Shut> {
 
 impl<R: Wait + Copy, S: Shut> Work<R> for ActorThread<S> {
     /// Makes the actor, which runs until it is stopped, marks whose sessions it holds then, and tells that they are marked. What is
-    /// posted behind the stop is received until each sender is gone, and dropped: a Join's outbox is closed so, and its writer ends.
-    /// It isn't left to the inbox, whose posts stay as long as a sender does.
+    /// posted behind the stop is turned away until each sender is gone.
     fn run(self, rt: R) {
         let ActorThread {
             alloc,
@@ -47,21 +46,32 @@ impl<R: Wait + Copy, S: Shut> Work<R> for ActorThread<S> {
         mark_held(&actor, &marks);
         drop(actor);
         let _ = teller.send(&rt, true);
-        receive_rest(&rt, inbox);
+        turn_away_rest(&rt, inbox);
     }
 }
 
-// Receives until each sender is gone, and drops what comes.
-fn receive_rest<R: Wait, S: Shut>(rt: &R, mut inbox: Inbox<S>) {
+// Receives until each sender is gone, and turns away what comes. It can't be left in the inbox, whose posts last as long as a sender does:
+// the writer of a session that asked to join would wait for its outbox, its reader for the writer, and the sender is the reader's.
+fn turn_away_rest<R: Wait, S: Shut>(rt: &R, mut inbox: Inbox<S>) {
     for _ in rt.forever() {
-        if inbox.receive(rt).is_none() {
-            return;
+        match inbox.receive(rt) {
+            Some(post) => turn_away(&post),
+            None => return,
         }
     }
     unreachable!()
 }
 
-// SeatTable the connections whose sessions the actor holds.
+// Nobody joins any more: the outbox is closed, so that its writer ends, and the transport is shut. Another post says nothing to anybody.
+fn turn_away<S: Shut>(post: &Post<S>) {
+    if let Post::Act(letter) = post {
+        if let Act::Join(joining) = &letter.act {
+            joining.transport.shut();
+        }
+    }
+}
+
+// Marks the connections whose sessions the actor holds.
 fn mark_held<S: Shut>(actor: &Actor<S, IdWords>, marks: &SeatTable) {
     for place in 0..SEATS {
         if let Some(conn) = marks.conn_at(place) {

@@ -1,7 +1,8 @@
 //! The connections that are served, and their seats.
 use crate::acceptor::Parts;
+use crate::handover::{Handover, Posters, Slot};
 use crate::plan::Plan;
-use crate::reader_thread::{PosterSlot, Posters, Reader};
+use crate::reader_thread::Reader;
 use crate::realm_handle::RealmHandle;
 use crate::seat_table::{SEATS, SeatTable};
 use connection::Seats;
@@ -18,8 +19,7 @@ use wamp_ids::{Conn, seat};
 #[derive(Drop)]
 struct Connection<S: Shut> {
     conn: Conn,
-    transport: S,
-    poster_slot: Arc<PosterSlot<S>>,
+    slot: Arc<Slot<S>>,
     is_over: Arc<AtomicBool>,
     reader: JoinHandle<()>,
 }
@@ -74,18 +74,18 @@ impl<S: Shut> ConnectionTable<S> {
     fn release<R: Threads + Wait>(&mut self, rt: &R, entry: Connection<S>) {
         let Connection {
             conn,
-            transport: _,
-            poster_slot,
+            slot,
             is_over: _,
             reader,
         } = entry;
         reader.join(rt);
-        self.free(rt, conn, &poster_slot);
+        self.free(rt, conn, &slot);
     }
 
     // Frees the seat of a connection. It stays taken, if its posters aren't there.
-    fn free<R: Wait>(&mut self, rt: &R, conn: Conn, poster_slot: &PosterSlot<S>) {
-        if let Some(posters) = poster_slot.lock(rt).take() {
+    fn free<R: Wait>(&mut self, rt: &R, conn: Conn, slot: &Slot<S>) {
+        let posters = slot.lock(rt).posters.take();
+        if let Some(posters) = posters {
             self.put_posters(posters);
             self.marks.leaves(conn);
             self.seats.give_back(conn);
@@ -112,11 +112,11 @@ impl<S: Shut> ConnectionTable<S> {
         Ok(posters)
     }
 
-    /// Ends the streams of those whose sessions no actor held at its end, or of all.
-    pub fn shut(&self, all: bool) {
+    /// Ends the streams of those whose sessions no actor held at its end.
+    pub fn shut_unheld<R: Wait>(&self, rt: &R) {
         for entry in self.entries.iter().flatten() {
-            if all || !self.marks.is_held(entry.conn) {
-                entry.transport.shut();
+            if !self.marks.is_held(entry.conn) {
+                end_stream(rt, &entry.slot);
             }
         }
     }
@@ -145,8 +145,8 @@ impl<S: Shut + Send + 'static> ConnectionTable<S> {
             refuse(parts);
             return;
         };
-        match new_poster_slot(self.alloc) {
-            Ok(poster_slot) => self.seat(rt, conn, parts, poster_slot),
+        match new_slot(self.alloc) {
+            Ok(slot) => self.seat(rt, conn, parts, slot),
             Err(_) => self.seats.give_back(conn),
         }
     }
@@ -155,17 +155,17 @@ impl<S: Shut + Send + 'static> ConnectionTable<S> {
         R: Threads + Wait + Copy + Send + 'static,
         I: Source + Drop + Send + 'static,
         O: Sink + Drop + Send + 'static,
-    >(&mut self, rt: R, conn: Conn, parts: Parts<I, O, S>, poster_slot: Arc<PosterSlot<S>>) {
+    >(&mut self, rt: R, conn: Conn, parts: Parts<I, O, S>, slot: Arc<Slot<S>>) {
         let Ok(posters) = self.take_posters(conn) else {
             self.seats.give_back(conn);
             return;
         };
         let is_whole = posters.len() == self.realms.len();
-        *poster_slot.lock(&rt) = Some(posters);
+        slot.lock(&rt).posters = Some(posters);
         self.marks.sits(conn);
-        match self.start(rt, conn, parts, &poster_slot, is_whole) {
+        match self.start(rt, conn, parts, &slot, is_whole) {
             Some(entry) => self.keep(entry),
-            None => self.free(&rt, conn, &poster_slot),
+            None => self.free(&rt, conn, &slot),
         }
     }
 
@@ -179,7 +179,7 @@ impl<S: Shut + Send + 'static> ConnectionTable<S> {
         rt: R,
         conn: Conn,
         parts: Parts<I, O, S>,
-        poster_slot: &Arc<PosterSlot<S>>,
+        slot: &Arc<Slot<S>>,
         is_whole: bool,
     ) -> Option<Connection<S>> {
         if !is_whole {
@@ -193,15 +193,15 @@ impl<S: Shut + Send + 'static> ConnectionTable<S> {
             source,
             sink,
             transport: shut.twin()?,
-            poster_slot: Arc::try_clone(poster_slot).ok()?,
+            slot: Arc::try_clone(slot).ok()?,
             is_over: Arc::try_clone(&is_over).ok()?,
         };
-        let poster_slot = Arc::try_clone(poster_slot).ok()?;
+        let slot = Arc::try_clone(slot).ok()?;
+        slot.lock(&rt).transport = Some(shut);
         let reader = start_reader(rt, reader).ok()?;
         Some(Connection {
             conn,
-            transport: shut,
-            poster_slot,
+            slot,
             is_over,
             reader,
         })
@@ -215,8 +215,20 @@ impl<S: Shut + Send + 'static> ConnectionTable<S> {
     }
 }
 
-fn new_poster_slot<S: Shut>(alloc: Global) -> Result<Arc<PosterSlot<S>>, AllocError> {
-    Ok(Arc::new(alloc, Mutex::new(None))?)
+fn new_slot<S: Shut>(alloc: Global) -> Result<Arc<Slot<S>>, AllocError> {
+    let handover = Handover {
+        posters: None,
+        transport: None,
+    };
+    Ok(Arc::new(alloc, Mutex::new(handover))?)
+}
+
+// Ends the stream of a connection, unless that is over.
+fn end_stream<R: Wait, S: Shut>(rt: &R, slot: &Slot<S>) {
+    let transport = slot.lock(rt).transport.take();
+    if let Some(transport) = transport {
+        transport.shut();
+    }
 }
 
 // Starts the thread of a reader.

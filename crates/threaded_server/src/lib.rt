@@ -18,6 +18,7 @@ mod config;
 mod connection_table;
 mod fault;
 mod grants;
+mod handover;
 mod id_words;
 mod plan;
 mod reader_thread;

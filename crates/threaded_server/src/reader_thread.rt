@@ -2,6 +2,7 @@
 ghost use Rattle.std.specs.Prelude.{◌≡◌, option_map, IfSome};
 ghost use Rattle.std.specs.String.{string_bytes};
 
+use crate::handover::{Posters, Slot};
 use crate::plan::Plan;
 use crate::work::start;
 use crate::writer_thread::Writer;
@@ -13,18 +14,12 @@ use realm_inbox::{Act, Joining, Poster, RealmHistory, Shut};
 use session::{Item, Opened, open_session};
 use std::alloc::Global;
 use std::sync::atomic::{AtomicBool, Ordering};
-use std::sync::{Arc, Mutex, Wait};
+use std::sync::{Arc, Wait};
 use std::thread::{JoinHandle, Threads};
 use wamp_ids::Conn;
 
 /// The most octets that a payload has.
 const MOST_OCTETS: u32 = 16_777_215;
-
-/// The posters of a connection, one of each realm, in the order of the realms. One that is in use isn't here.
-pub type Posters<S> = Vec<Option<Poster<S>>>;
-
-/// Where the posters of a connection lie while its reader doesn't have them.
-pub type PosterSlot<S> = Mutex<Option<Posters<S>>>;
 
 /// What a reader's thread has.
 #[derive(Drop)]
@@ -34,13 +29,14 @@ pub struct Reader<I, O, S: Shut> {
     pub source: I,
     pub sink: O,
     pub transport: S,
-    pub poster_slot: Arc<PosterSlot<S>>,
+    pub slot: Arc<Slot<S>>,
     /// Set last of all.
     pub is_over: Arc<AtomicBool>,
 }
 
 impl<I: Source + Drop, O: Sink + Drop + Send + 'static, S: Shut + Send + 'static> Reader<I, O, S> {
-    /// Serves the connection until it is over: both its threads, when it returns, but for what is left of this one.
+    /// Serves the connection until it is over: both its threads, when it returns, but for what is left of this one. The stream is closed
+    /// then, unless the realm's actor is about to let go of it.
     pub fn run<R: Threads + Wait + Copy + Send + 'static>(self, rt: R) {
         let Reader {
             alloc,
@@ -48,15 +44,18 @@ impl<I: Source + Drop, O: Sink + Drop + Send + 'static, S: Shut + Send + 'static
             source,
             sink,
             transport,
-            poster_slot,
+            slot,
             is_over,
         } = self;
-        let posters = poster_slot.lock(&rt).take();
+        let posters = slot.lock(&rt).posters.take();
         if let Some(mut posters) = posters {
             let _ = serve(rt, alloc, &plan, source, sink, &transport, &mut posters);
-            *poster_slot.lock(&rt) = Some(posters);
+            slot.lock(&rt).posters = Some(posters);
         }
         transport.shut();
+        drop(transport);
+        let accepting = slot.lock(&rt).transport.take();
+        drop(accepting);
         is_over.store(true, Ordering::SeqCst);
     }
 }

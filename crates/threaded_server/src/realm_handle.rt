@@ -84,12 +84,13 @@ impl<S: Shut> RealmHandle<S> {
         }
     }
 
-    /// Tells the actor to stop. False where it is gone.
-    pub fn stop<R: Wait>(&mut self, rt: &R) -> bool {
-        self.door.stop(rt)
+    /// Tells the actor to stop. Where there is none nothing happens.
+    pub fn stop<R: Wait>(&mut self, rt: &R) {
+        let _ = self.door.stop(rt);
     }
 
-    /// Waits until the actor, which was told to stop, has marked whose sessions it holds. Where there is none it returns at once.
+    /// Waits until the actor, which was told to stop, has marked whose sessions it holds. Where there is none it returns at once, and
+    /// nobody's session is held.
     pub fn await_marks<R: Wait>(&self, rt: &R) {
         let _ = self.told.recv(rt);
     }

@@ -178,22 +178,23 @@ fn accept_all<R: Threads + Wait + Copy + Send + 'static, A: Acceptor>(
                     return Err(Fault::ListenFault);
                 }
                 connection_table.reap(&rt);
-                acceptor.pause();
+                acceptor.pause(failures);
             }
         }
     }
     unreachable!()
 }
 
-// Stops the actors, ends the streams that no session's writer will end, and waits for all threads.
+// Stops the actors, ends the streams that no session's writer will end, and waits for all threads. Each actor turns away what is posted behind
+// its stop until the realm's door and seats are given up, which is last of all: so no thread waits for what nobody would do.
 fn close<R: Threads + Wait, S: Shut>(rt: &R, connection_table: &mut ConnectionTable<S>) {
-    if !stop_all(rt, connection_table) {
-        connection_table.shut(true);
+    for realm in connection_table.realms.iter_mut() {
+        realm.stop(rt);
     }
     for realm in connection_table.realms.iter() {
         realm.await_marks(rt);
     }
-    connection_table.shut(false);
+    connection_table.shut_unheld(rt);
     connection_table.join_all(rt);
     for _ in rt.forever() {
         match connection_table.realms.pop() {
@@ -202,15 +203,4 @@ fn close<R: Threads + Wait, S: Shut>(rt: &R, connection_table: &mut ConnectionTa
         }
     }
     unreachable!()
-}
-
-// False where an actor was gone already.
-fn stop_all<R: Wait, S: Shut>(rt: &R, connection_table: &mut ConnectionTable<S>) -> bool {
-    let mut all_told = true;
-    for realm in connection_table.realms.iter_mut() {
-        if !realm.stop(rt) {
-            all_told = false;
-        }
-    }
-    all_told
 }

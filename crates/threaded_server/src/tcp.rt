@@ -16,8 +16,11 @@ use std::time::{Clock, Duration};
 /// How many octets a stream holds back until it is told to pass them on.
 const HELD: usize = 65_536;
 
-/// How many milliseconds are waited after accepting failed.
+/// How many milliseconds are waited after accepting failed, for each failure in a row.
 const PAUSE: u64 = 20;
+
+/// The most milliseconds that are waited after accepting failed.
+const MOST_PAUSE: u64 = 250;
 
 /// One holder of a stream: all of them share one descriptor, which is closed with the last of them.
 #[derive(Drop)]
@@ -61,8 +64,11 @@ impl Write for TcpHandle {
     }
 }
 
-/// Accepts over TCP. It never says to stop. After a failure it sleeps for 20 milliseconds, so that E26 comes after some two seconds
-/// of failures at the least.
+/// Accepts over TCP. It never says to stop.
+///
+/// After a failure it sleeps for 20 milliseconds for each failure that there was in a row, but for 250 at most. So a few failures cost
+/// little time, and E26 comes after some 23 seconds of failures at the least: a table of descriptors that is full has as long to get
+/// room. A descriptor is closed when its connection is over ([`serve_on`](crate::serve_on)), also while nothing is accepted.
 #[derive(Drop)]
 pub struct TcpAcceptor<R: Clock + Drop> {
     listener: TcpListener,
@@ -137,7 +143,8 @@ impl<R: Clock + Drop> Acceptor for TcpAcceptor<R> {
         })
     }
 
-    fn pause(&mut self) {
-        thread::sleep(&self.clock, Duration::from_millis(PAUSE));
+    fn pause(&mut self, failures: u32) {
+        let pause = MOST_PAUSE.min(PAUSE * failures as u64);
+        thread::sleep(&self.clock, Duration::from_millis(pause));
     }
 }

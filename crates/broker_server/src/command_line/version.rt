@@ -6,7 +6,7 @@ use std::alloc::{AllocError, Global};
 
 /// The version, and the toolchain that its proofs are checked with. A build has no way to put its
 /// commit in here; a package names it (`tools/package`), and refuses another toolchain than this.
-pub const VERSION: &str = "0.9.0 (rattle-kit-13b)";
+pub const VERSION: &str = "0.9.0 (rattle-kit-13)";
 
 /// The line that says which version this is, in memory of its own.
 pub fn version(alloc: Global) -> Result<String, AllocError>
