@@ -81,7 +81,8 @@ fn post_message<R: Wait, S: Shut, P: Posting<S>>(
     payload: &[u8],
     poster: &mut P,
 ) -> Result<(), ReadEnd>
-    ensures { IsPosted serializer None (record { kind = Kind.Message; payload = payload.now } ∷ []) (P.posted poster.old) (P.posted poster.new) result }
+    ensures { IsPosted serializer None (record { kind = Kind.Message; payload = payload.now } ∷ [])
+        (P.posted poster.old) (P.posted poster.new) result }
 {
     let said = match read_message(alloc, serializer, payload) {
         Ok(said) => said,
@@ -111,7 +112,8 @@ fn post_frame<R: Wait, S: Shut, P: Posting<S>>(
     frame: Frame,
     poster: &mut P,
 ) -> Result<(), ReadEnd>
-    ensures { IsPosted serializer None (content frame ∷ []) (P.posted poster.old) (P.posted poster.new) result }
+    ensures { IsPosted serializer None (content frame ∷ []) (P.posted poster.old)
+        (P.posted poster.new) result }
 {
     match frame.kind {
         Kind::Message => post_message(rt, alloc, serializer, &frame.payload, poster),
@@ -126,7 +128,8 @@ fn post_fault<R: Wait, S: Shut, P: Posting<S>>(
     fault: Option<rawsocket::Fault>,
     poster: &mut P,
 ) -> Result<(), ReadEnd>
-    ensures { (s : Serializer) → IsPosted s fault [] (P.posted poster.old) (P.posted poster.new) result }
+    ensures { (s : Serializer) → IsPosted s fault [] (P.posted poster.old) (P.posted poster.new)
+        result }
 {
     let Some(fault) = fault else {
         return Ok(());
@@ -146,7 +149,8 @@ fn post_frames<R: Wait, S: Shut, P: Posting<S>>(
     fault: Option<rawsocket::Fault>,
     poster: &mut P,
 ) -> Result<(), ReadEnd>
-    ensures { IsPosted serializer fault (contents frames.items) (P.posted poster.old) (P.posted poster.new) result }
+    ensures { IsPosted serializer fault (contents frames.items) (P.posted poster.old)
+        (P.posted poster.new) result }
 {
     let mut left = VecDeque::from_vec(frames);
     'frames: while let Some(frame) = left.pop_front() {
@@ -167,7 +171,8 @@ fn advance<R: Wait, S: Shut, P: Posting<S>>(
     piece: &[u8],
     poster: &mut P,
 ) -> Result<(), ReadEnd>
-    ensures { IsAdvance serializer (contents early.items) deframer.old piece.now deframer.new (P.posted poster.old) (P.posted poster.new) result }
+    ensures { IsAdvance serializer (contents early.items) deframer.old piece.now
+        deframer.new (P.posted poster.old) (P.posted poster.new) result }
 {
     let fed = match deframer.feed(alloc, piece) {
         Ok(fed) => fed,
@@ -187,14 +192,16 @@ fn read_piece<I: Source>(
 ) -> Result<usize, ReadEnd>
     requires { 0 < length buffer.old }
     ensures within { IfOk result (λ n. n ≤ length buffer.new) }
-    ensures given { IfOk result (λ n. I.given source.new ≡ I.given source.old ++ take n buffer.new) }
+    ensures given { IfOk result (λ n. I.given source.new ≡ I.given source.old ++ take n
+        buffer.new) }
     ensures turn { OnOk result (turns.old ≡ turns.new + 1) }
     ensures fine { OnOk result (I.failures source.new ≡ I.failures source.old) }
     ensures kept { OnErr result (I.given source.new ≡ I.given source.old) }
     ensures end { IfErr result IsStreamEnd }
     ensures ended { result ≡ Err ReadEnd.Ended → I.is_ended source.new ≡ true }
     ensures device { result ≡ Err ReadEnd.Device → I.failures source.old < I.failures source.new }
-    ensures told { IfErr result (λ e. e ≢ ReadEnd.Device → I.failures source.new ≡ I.failures source.old) }
+    ensures told { IfErr result (λ e. e ≢ ReadEnd.Device
+        → I.failures source.new ≡ I.failures source.old) }
     ensures calls { I.calls source.new + turns.new ≡ I.calls source.old + turns.old }
     ensures turns { result ≡ Err ReadEnd.TooManyTurns → turns.new ≡ 0 }
 {
@@ -218,12 +225,14 @@ fn read_on<R: Wait, S: Shut, I: Source, P: Posting<S>>(
     poster: &mut P,
 ) -> ReadEnd
     requires { 0 < length buffer.old }
-    ensures posted { ReadsSince (I.given source.old) (I.given source.new) (P.posted poster.old) (P.posted poster.new) (IsReadUpTo serializer (contents early.items) deframer result) }
+    ensures posted { ReadsSince (I.given source.old) (I.given source.new) (P.posted poster.old)
+        (P.posted poster.new) (IsReadUpTo serializer (contents early.items) deframer result) }
     ensures ended { result ≡ ReadEnd.Ended → I.is_ended source.new ≡ true }
     ensures device { result ≡ ReadEnd.Device → I.failures source.old < I.failures source.new }
     ensures reads_told { result ≢ ReadEnd.Device → I.failures source.new ≡ I.failures source.old }
     ensures reads { AreWithinTurns (I.calls source.old) (I.calls source.new) }
-    ensures turns { result ≡ ReadEnd.TooManyTurns → AreUsedUp (I.calls source.old) (I.calls source.new) }
+    ensures turns { result ≡ ReadEnd.TooManyTurns
+        → AreUsedUp (I.calls source.old) (I.calls source.new) }
 {
     let mut deframer = deframer;
     let mut turns = Turns::new();
@@ -267,12 +276,15 @@ fn read_up_to<R: Wait, S: Shut, I: Source, P: Posting<S>>(
     opened: Opened,
     poster: &mut P,
 ) -> ReadEnd
-    ensures posted { ReadsSince (I.given source.old) (I.given source.new) (P.posted poster.old) (P.posted poster.new) (IsReadUpTo opened.serializer (contents opened.early.items) opened.deframer result) }
+    ensures posted { ReadsSince (I.given source.old) (I.given source.new) (P.posted poster.old)
+        (P.posted poster.new)
+        (IsReadUpTo opened.serializer (contents opened.early.items) opened.deframer result) }
     ensures ended { result ≡ ReadEnd.Ended → I.is_ended source.new ≡ true }
     ensures device { result ≡ ReadEnd.Device → I.failures source.old < I.failures source.new }
     ensures reads_told { result ≢ ReadEnd.Device → I.failures source.new ≡ I.failures source.old }
     ensures reads { AreWithinTurns (I.calls source.old) (I.calls source.new) }
-    ensures turns { result ≡ ReadEnd.TooManyTurns → AreUsedUp (I.calls source.old) (I.calls source.new) }
+    ensures turns { result ≡ ReadEnd.TooManyTurns
+        → AreUsedUp (I.calls source.old) (I.calls source.new) }
 {
     let Ok(mut buffer) = vec![in alloc; 0; PIECE] else {
         return ReadEnd::NoMemory;
@@ -302,13 +314,17 @@ pub fn read_posts<R: Wait, S: Shut, I: Source, P: Posting<S>>(
     opened: Opened,
     poster: &mut P,
 ) -> ReadEnd
-    ensures posted { ReadsSince (I.given source.old) (I.given source.new) (P.posted poster.old) (P.posted poster.new) (IsReadBy opened.serializer (contents opened.early.items) opened.deframer result) }
+    ensures posted { ReadsSince (I.given source.old) (I.given source.new) (P.posted poster.old)
+        (P.posted poster.new)
+        (IsReadBy opened.serializer (contents opened.early.items) opened.deframer result) }
     ensures ended { result ≡ ReadEnd.Ended → I.is_ended source.new ≡ true }
     ensures device { result ≡ ReadEnd.Device → I.failures source.old < I.failures source.new }
     ensures failures { I.failures source.old ≤ I.failures source.new }
-    ensures reads_told { result ≢ ReadEnd.Device → result ≢ ReadEnd.ActorGone → I.failures source.new ≡ I.failures source.old }
+    ensures reads_told { result ≢ ReadEnd.Device → result ≢ ReadEnd.ActorGone
+        → I.failures source.new ≡ I.failures source.old }
     ensures reads { AreWithinTurns (I.calls source.old) (I.calls source.new) }
-    ensures turns { result ≡ ReadEnd.TooManyTurns → AreUsedUp (I.calls source.old) (I.calls source.new) }
+    ensures turns { result ≡ ReadEnd.TooManyTurns
+        → AreUsedUp (I.calls source.old) (I.calls source.new) }
 {
     let end = read_up_to(rt, alloc, source, opened, poster);
     leave(rt, poster, end)

@@ -40,12 +40,14 @@ fn next_item<R: Wait, H: Owed<Item>, S: Sink>(
     ensures none { OnErr result (drain.new.taken ≡ drain.old.taken) }
     ensures drain { IsLater H.begins drain.old drain.new }
     ensures between { IfErr result IsBetween }
-    ensures stopped { result ≡ Err WriteEnd.Stopped → drain.old.empty_finds < drain.new.empty_finds }
+    ensures stopped { result ≡ Err WriteEnd.Stopped
+        → drain.old.empty_finds < drain.new.empty_finds }
     ensures kept { S.taken sink.new ≡ S.taken sink.old }
     ensures calls { S.calls sink.new ≡ S.calls sink.old }
     ensures fine { OnOk result (S.failures sink.new ≡ S.failures sink.old) }
     ensures device { result ≡ Err WriteEnd.Device → S.failures sink.old < S.failures sink.new }
-    ensures told { IfErr result (λ e. e ≢ WriteEnd.Device → S.failures sink.new ≡ S.failures sink.old) }
+    ensures told { IfErr result (λ e. e ≢ WriteEnd.Device
+        → S.failures sink.new ≡ S.failures sink.old) }
 {
     match drain.next(rt) {
         Next::Item(item) => return Ok(item),
@@ -79,7 +81,8 @@ fn hand<S: Sink>(sink: &mut S, octets: &[u8], turns: &mut Turns) -> Result<(), W
     ensures calls { S.calls sink.new + turns.new ≡ S.calls sink.old + turns.old }
     ensures fine { OnOk result (S.failures sink.new ≡ S.failures sink.old) }
     ensures device { result ≡ Err WriteEnd.Device → S.failures sink.old < S.failures sink.new }
-    ensures told { IfErr result (λ e. e ≢ WriteEnd.Device → S.failures sink.new ≡ S.failures sink.old) }
+    ensures told { IfErr result (λ e. e ≢ WriteEnd.Device
+        → S.failures sink.new ≡ S.failures sink.old) }
     ensures turns { result ≡ Err WriteEnd.TooManyTurns → turns.new ≡ 0 }
 {
     match write_all(sink, octets, turns) {
@@ -118,13 +121,16 @@ fn write_one<S: Sink>(
 ) -> Result<(), WriteEnd>
     requires limit { limit ≤ 16777215 }
     requires buffer { buffer.old.items ≡ [] }
-    ensures written { OnOk result (S.taken sink.new ≡ S.taken sink.old ++ octets_of serializer item.now) }
+    ensures written { OnOk result (S.taken sink.new ≡ S.taken sink.old ++ octets_of serializer
+        item.now) }
     ensures writable { OnOk result (IsWritable serializer limit item.now) }
-    ensures ended { IfErr result (λ e. BreaksAt serializer limit e item.now (S.taken sink.old) (S.taken sink.new)) }
+    ensures ended { IfErr result (λ e. BreaksAt serializer limit e
+        item.now (S.taken sink.old) (S.taken sink.new)) }
     ensures calls { S.calls sink.new + turns.new ≡ S.calls sink.old + turns.old }
     ensures fine { OnOk result (S.failures sink.new ≡ S.failures sink.old) }
     ensures device { result ≡ Err WriteEnd.Device → S.failures sink.old < S.failures sink.new }
-    ensures told { IfErr result (λ e. e ≢ WriteEnd.Device → S.failures sink.new ≡ S.failures sink.old) }
+    ensures told { IfErr result (λ e. e ≢ WriteEnd.Device
+        → S.failures sink.new ≡ S.failures sink.old) }
     ensures turns { result ≡ Err WriteEnd.TooManyTurns → turns.new ≡ 0 }
 {
     match write_item(alloc, serializer, limit, item, buffer) {
@@ -145,14 +151,18 @@ fn write_next<R: Wait, H: Owed<Item>, S: Sink>(
     turns: &mut Turns,
 ) -> Result<(), WriteEnd>
     requires { limit ≤ 16777215 }
-    ensures done { OnOk result (WritesSince drain.old.taken drain.new.taken (S.taken sink.old) (S.taken sink.new) (IsWhole serializer limit)) }
-    ensures ended { IfErr result (λ e. WritesSince drain.old.taken drain.new.taken (S.taken sink.old) (S.taken sink.new) (IsWrittenBy serializer limit e)) }
+    ensures done { OnOk result (WritesSince drain.old.taken
+        drain.new.taken (S.taken sink.old) (S.taken sink.new) (IsWhole serializer limit)) }
+    ensures ended { IfErr result (λ e. WritesSince drain.old.taken
+        drain.new.taken (S.taken sink.old) (S.taken sink.new) (IsWrittenBy serializer limit e)) }
     ensures drain { IsLater H.begins drain.old drain.new }
-    ensures stopped { result ≡ Err WriteEnd.Stopped → drain.old.empty_finds < drain.new.empty_finds }
+    ensures stopped { result ≡ Err WriteEnd.Stopped
+        → drain.old.empty_finds < drain.new.empty_finds }
     ensures calls { S.calls sink.new + turns.new ≡ S.calls sink.old + turns.old }
     ensures fine { OnOk result (S.failures sink.new ≡ S.failures sink.old) }
     ensures device { result ≡ Err WriteEnd.Device → S.failures sink.old < S.failures sink.new }
-    ensures told { IfErr result (λ e. e ≢ WriteEnd.Device → S.failures sink.new ≡ S.failures sink.old) }
+    ensures told { IfErr result (λ e. e ≢ WriteEnd.Device
+        → S.failures sink.new ≡ S.failures sink.old) }
     ensures turns { result ≡ Err WriteEnd.TooManyTurns → turns.new ≡ 0 }
 {
     empty(alloc, buffer);
@@ -178,13 +188,16 @@ pub fn write_items<R: Wait, H: Owed<Item>, S: Sink>(
     limit: u32,
 ) -> (Drain<Item, H>, WriteEnd)
     requires { limit ≤ 16777215 }
-    ensures written { WritesSince drain.taken result.0.taken (S.taken sink.old) (S.taken sink.new) (IsWrittenBy serializer limit result.1) }
+    ensures written { WritesSince drain.taken
+        result.0.taken (S.taken sink.old) (S.taken sink.new)
+        (IsWrittenBy serializer limit result.1) }
     ensures drain { IsLater H.begins drain result.0 }
     ensures stopped { result.1 ≡ WriteEnd.Stopped → drain.empty_finds < result.0.empty_finds }
     ensures device { result.1 ≡ WriteEnd.Device → S.failures sink.old < S.failures sink.new }
     ensures writes_told { result.1 ≢ WriteEnd.Device → S.failures sink.new ≡ S.failures sink.old }
     ensures writes { AreWithinTurns (S.calls sink.old) (S.calls sink.new) }
-    ensures turns { result.1 ≡ WriteEnd.TooManyTurns → AreUsedUp (S.calls sink.old) (S.calls sink.new) }
+    ensures turns { result.1 ≡ WriteEnd.TooManyTurns
+        → AreUsedUp (S.calls sink.old) (S.calls sink.new) }
 {
     let mut drain = drain;
     let mut buffer = Vec::new(alloc);

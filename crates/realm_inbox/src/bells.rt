@@ -38,9 +38,12 @@ pub(crate) fn send<T: Drop, V, P: Protocol<T, V>, M: Outcome<T, V> + Lesson<T, V
     message: T,
 ) -> Result<(), T>
     requires channel { IsSeatAt (sends_on sender.now) pass.old }
-    requires rule { Pushes P.holds (ruled_capacity (sends_on sender.now)) pass.old.id (view pass.old) message (M.then (view pass.old) message) × Learns P.holds pass.old.id (view pass.old) (M.fact (view pass.old)) }
+    requires rule { Pushes P.holds (ruled_capacity (sends_on sender.now))
+        pass.old.id (view pass.old) message (M.then (view pass.old) message)
+        × Learns P.holds pass.old.id (view pass.old) (M.fact (view pass.old)) }
     ensures channel { IsSeatAt (sends_on sender.now) pass.new × (pass.new.id ≡ pass.old.id) }
-    ensures rule { MatchResult result (λ _. M.then (view pass.old) message (view pass.new)) (λ back. (back ≡ message) × (view pass.new ≡ view pass.old)) }
+    ensures rule { MatchResult result (λ _. M.then (view pass.old) message (view pass.new))
+        (λ back. (back ≡ message) × (view pass.new ≡ view pass.old)) }
 {
     let mut message = message;
     let mut heard = None;

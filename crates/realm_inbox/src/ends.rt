@@ -86,9 +86,11 @@ impl<S: Shut> Inbox<S> {
     /// No post is missed, nor that the last sender is gone: each turn looks first, and then sleeps; a sender posts, or goes, and then
     /// wakes it; and a wake that comes before the sleep ends it at once.
     pub fn receive<R: Wait>(&mut self, rt: &R) -> Option<Post<S>>
-        ensures given { MatchOption result (received self.new ≡ received self.old) (λ p. received self.new ≡ received self.old ++ p ∷ []) }
+        ensures given { MatchOption result (received self.new ≡ received self.old)
+            (λ p. received self.new ≡ received self.old ++ p ∷ []) }
         ensures in_turn { IfSome result (λ p. IsNext (received self.old) p) }
-        ensures same { (inbox_of self.new ≡ inbox_of self.old) × (capacity self.new ≡ capacity self.old) }
+        ensures same { (inbox_of self.new ≡ inbox_of self.old)
+            × (capacity self.new ≡ capacity self.old) }
     {
         for _ in rt.forever() {
             match self.look(rt) {
@@ -109,18 +111,22 @@ impl<S: Shut> Inbox<S> {
     /// empty at one moment of the call, a post may wait all the same, and each sender may be gone. It wakes nobody who waits for
     /// room: see [`Inbox::wake`].
     pub fn try_receive<R: Wait>(&mut self, rt: &R) -> Option<Post<S>>
-        ensures given { MatchOption result (received self.new ≡ received self.old) (λ p. received self.new ≡ received self.old ++ p ∷ []) }
+        ensures given { MatchOption result (received self.new ≡ received self.old)
+            (λ p. received self.new ≡ received self.old ++ p ∷ []) }
         ensures in_turn { IfSome result (λ p. IsNext (received self.old) p) }
-        ensures same { (inbox_of self.new ≡ inbox_of self.old) × (capacity self.new ≡ capacity self.old) }
+        ensures same { (inbox_of self.new ≡ inbox_of self.old)
+            × (capacity self.new ≡ capacity self.old) }
     {
         self.look(rt).ok()
     }
 
     // A post, or why none was found.
     fn look<R: Wait>(&mut self, rt: &R) -> Result<Post<S>, TryRecvError>
-        ensures given { MatchResult result (λ p. received self.new ≡ received self.old ++ p ∷ []) (λ _. received self.new ≡ received self.old) }
+        ensures given { MatchResult result (λ p. received self.new ≡ received self.old ++ p ∷ [])
+            (λ _. received self.new ≡ received self.old) }
         ensures in_turn { IfOk result (λ p. IsNext (received self.old) p) }
-        ensures same { (inbox_of self.new ≡ inbox_of self.old) × (capacity self.new ≡ capacity self.old) }
+        ensures same { (inbox_of self.new ≡ inbox_of self.old)
+            × (capacity self.new ≡ capacity self.old) }
     {
         self.receiver.try_recv_as::<Receives, R>(rt, &mut self.pass)
     }
@@ -162,8 +168,11 @@ impl<S: Shut> Seat<S> {
     fn post<R: Wait>(&mut self, rt: &R, conn: Conn, act: Act<S>) -> Result<(), Act<S>>
         requires seat { seat_of conn ≡ seat_number self.old }
         requires own { BringsOwn conn act }
-        ensures posted { MatchResult result (λ _. posted_at self.new ≡ posted_at self.old ++ (conn, act) ∷ []) (λ back. (back ≡ act) × (posted_at self.new ≡ posted_at self.old)) }
-        ensures same { (seat_number self.new ≡ seat_number self.old) × (inbox_of_seat self.new ≡ inbox_of_seat self.old) }
+        ensures posted { MatchResult result (λ _.
+            posted_at self.new ≡ posted_at self.old ++ (conn, act) ∷ []) (λ back. (back ≡ act)
+            × (posted_at self.new ≡ posted_at self.old)) }
+        ensures same { (seat_number self.new ≡ seat_number self.old)
+            × (inbox_of_seat self.new ≡ inbox_of_seat self.old) }
     {
         let before = Snapshot::of(&self.past);
         let said = (conn, act);
@@ -206,8 +215,11 @@ impl<S: Shut> Poster<S> {
     /// The act, where the inbox is gone. Nothing was posted then.
     pub fn post<R: Wait>(&mut self, rt: &R, act: Act<S>) -> Result<(), Act<S>>
         requires own { BringsOwn (poster_conn self.old) act }
-        ensures posted { MatchResult result (λ _. posted self.new ≡ posted self.old ++ (poster_conn self.old, act) ∷ []) (λ back. (back ≡ act) × (posted self.new ≡ posted self.old)) }
-        ensures same { (poster_conn self.new ≡ poster_conn self.old) × (inbox_of_poster self.new ≡ inbox_of_poster self.old) }
+        ensures posted { MatchResult result (λ _.
+            posted self.new ≡ posted self.old ++ (poster_conn self.old, act) ∷ [])
+            (λ back. (back ≡ act) × (posted self.new ≡ posted self.old)) }
+        ensures same { (poster_conn self.new ≡ poster_conn self.old)
+            × (inbox_of_poster self.new ≡ inbox_of_poster self.old) }
     {
         self.seat.post(rt, self.conn, act)
     }
@@ -261,7 +273,8 @@ impl<S: Shut> Door<S> {
         ensures posted { IfOk result (λ p. posted p ≡ posted_at at) }
         ensures same { IfOk result (λ p. inbox_of_poster p ≡ inbox_of_seat at) }
         ensures seat { IfErr result (λ s. s ≡ at) }
-        ensures which { MatchResult result (λ _. seat_of conn ≡ seat_number at) (λ _. seat_of conn ≢ seat_number at) }
+        ensures which { MatchResult result (λ _. seat_of conn ≡ seat_number at)
+            (λ _. seat_of conn ≢ seat_number at) }
     {
         if at.number() != seat(conn) {
             return Err(at);

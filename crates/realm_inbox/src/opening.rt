@@ -23,8 +23,11 @@ pub const SEATS: u64 = 256;
 // What the door knows, cut before any seat.
 fn cut_door<S: Shut>(sender: &Sending<S>, pass: &mut Ticket<S>) -> Ticket<S>
     requires pass { IsSeatAt (sends_on sender.now) pass.old × (is_reader 0 (view pass.old) ≡ true) }
-    ensures pass { IsSeatAt (sends_on sender.now) pass.new × (is_reader 1 (view pass.new) ≡ true) × (received_in (view pass.new) ≡ received_in (view pass.old)) × (place_of pass.new ≡ place_of pass.old) }
-    ensures door { IsSeatAt (sends_on sender.now) result × (is_door (view result) ≡ true) × (stops_in (view result) ≡ 0) × (place_of result ≡ place_of pass.old) }
+    ensures pass { IsSeatAt (sends_on sender.now) pass.new × (is_reader 1 (view pass.new) ≡ true)
+        × (received_in (view pass.new) ≡ received_in (view pass.old))
+        × (place_of pass.new ≡ place_of pass.old) }
+    ensures door { IsSeatAt (sends_on sender.now) result × (is_door (view result) ≡ true)
+        × (stops_in (view result) ≡ 0) × (place_of result ≡ place_of pass.old) }
 {
     sender.another::<CutDoor>(pass)
 }
@@ -37,8 +40,11 @@ fn cut_seat<S: Shut>(
     number: u64,
 ) -> Result<Seat<S>, AllocError>
     requires count { number ≤ 256 }
-    requires pass { IsSeatAt (sends_on sender.now) pass.old × (is_reader number (view pass.old) ≡ true) }
-    ensures pass { IfOk result (λ _. IsSeatAt (sends_on sender.now) pass.new × (is_reader (number + 1) (view pass.new) ≡ true) × (received_in (view pass.new) ≡ received_in (view pass.old))) }
+    requires pass { IsSeatAt (sends_on sender.now) pass.old
+        × (is_reader number (view pass.old) ≡ true) }
+    ensures pass { IfOk result (λ _. IsSeatAt (sends_on sender.now) pass.new
+        × (is_reader (number + 1) (view pass.new) ≡ true)
+        × (received_in (view pass.new) ≡ received_in (view pass.old))) }
     ensures seat { IfOk result (λ s. IsNewSeat (place_of pass.old) number s) }
 {
     let own = sender.try_clone()?;
@@ -61,10 +67,13 @@ fn cut_seats<S: Shut>(
     pass: &mut Ticket<S>,
     count: u64,
 ) -> Result<Vec<Seat<S>>, AllocError>
-    requires pass { IsSeatAt (sends_on sender.now) pass.old × (is_reader 1 (view pass.old) ≡ true) × (received_in (view pass.old) ≡ []) }
+    requires pass { IsSeatAt (sends_on sender.now) pass.old × (is_reader 1 (view pass.old) ≡ true)
+        × (received_in (view pass.old) ≡ []) }
     requires count { count ≤ 256 }
-    ensures pass { IfOk result (λ _. IsSeatAt (sends_on sender.now) pass.new × (is_reader (count + 1) (view pass.new) ≡ true) × (received_in (view pass.new) ≡ [])) }
-    ensures seats { IfOk result (λ s. (length s.items ≡ count) × AreNewSeats (place_of pass.old) s.items) }
+    ensures pass { IfOk result (λ _. IsSeatAt (sends_on sender.now) pass.new
+        × (is_reader (count + 1) (view pass.new) ≡ true) × (received_in (view pass.new) ≡ [])) }
+    ensures seats { IfOk result (λ s. (length s.items ≡ count)
+        × AreNewSeats (place_of pass.old) s.items) }
 {
     let mut seats = Vec::new(alloc);
     for i in 0..count {

@@ -29,7 +29,8 @@ impl<S: Shut> Posting<S> for Poster<S> {
 
     fn post<R: Wait>(&mut self, rt: &R, act: Act<S>) -> Result<(), Act<S>>
         requires { is_join act ≡ false }
-        ensures { MatchResult result (λ _. posted_acts self.new ≡ posted_acts self.old ++ act ∷ []) (λ back. (back ≡ act) × (posted_acts self.new ≡ posted_acts self.old)) }
+        ensures { MatchResult result (λ _. posted_acts self.new ≡ posted_acts self.old ++ act ∷ [])
+            (λ back. (back ≡ act) × (posted_acts self.new ≡ posted_acts self.old)) }
     {
         Poster::post(self, rt, act)
     }

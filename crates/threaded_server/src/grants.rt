@@ -23,7 +23,8 @@ pub fn copy_grants(
 
 // An authid and a role, in memory of their own.
 fn own(alloc: Global, authid: &str, role: &str) -> Result<(String, String), AllocError>
-    ensures { IfOk result (λ pair. (string_bytes pair.0 ≡ authid.now) × (string_bytes pair.1 ≡ role.now)) }
+    ensures { IfOk result (λ pair. (string_bytes pair.0 ≡ authid.now)
+        × (string_bytes pair.1 ≡ role.now)) }
 {
     let authid = String::from_str(alloc, authid)?;
     let role = String::from_str(alloc, role)?;

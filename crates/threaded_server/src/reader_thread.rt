@@ -149,8 +149,11 @@ fn begin<
     S: Shut + Send + 'static,
 >(rt: R, session: Session<O, S>, conn: Conn) -> Option<Begun<S>>
     ensures own { IfSome result (λ b. b.joining.outbox.conn ≡ conn) }
-    ensures authid { IfSome result (λ b. b.joining.authid ≡ option_map string_bytes session.entry.opened.authid) }
-    ensures frames { IfSome result (λ b. (b.opened.early ≡ session.entry.opened.early) × (b.opened.deframer ≡ session.entry.opened.deframer) × (b.opened.serializer ≡ session.entry.opened.serializer)) }
+    ensures authid { IfSome result (λ b. b.joining.authid ≡ option_map string_bytes
+        session.entry.opened.authid) }
+    ensures frames { IfSome result (λ b. (b.opened.early ≡ session.entry.opened.early)
+        × (b.opened.deframer ≡ session.entry.opened.deframer)
+        × (b.opened.serializer ≡ session.entry.opened.serializer)) }
 {
     let Session {
         alloc,

@@ -104,7 +104,8 @@ fn plan_of(alloc: Global, config: &Config) -> Result<Plan, AllocError>
 
 // What a realm of this name is made from.
 fn realm_config(alloc: Global, name: &Topic, config: &Config) -> Result<RealmConfig, AllocError>
-    ensures { IfOk result (λ made. (made.name ≡ name.now) × (pairs_of made.grants.items ≡ pairs_of config.now.grants.items)) }
+    ensures { IfOk result (λ made. (made.name ≡ name.now)
+        × (pairs_of made.grants.items ≡ pairs_of config.now.grants.items)) }
 {
     Ok(RealmConfig {
         name: name.try_copy(alloc)?,

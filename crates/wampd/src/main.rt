@@ -132,7 +132,8 @@ fn print<S: Sink>(output: &mut S, text: &[u8]) -> Result<(), Fault>
     ensures written { OnOk result (S.taken output.new ≡ S.taken output.old ++ text.now) }
     ensures begun { GrowsByBeginning (S.taken output.old) (S.taken output.new) text.now }
     ensures fine { OnOk result (S.failures output.new ≡ S.failures output.old) }
-    ensures told { IfErr result (λ fault. fault ≢ Fault.WriteFault → S.failures output.new ≡ S.failures output.old) }
+    ensures told { IfErr result (λ fault. fault ≢ Fault.WriteFault
+        → S.failures output.new ≡ S.failures output.old) }
     ensures cause { result ≡ Err Fault.WriteFault → S.failures output.old < S.failures output.new }
     ensures which { IfErr result (λ fault. fault ≢ Fault.WriteFault → fault ≡ Fault.TooManyTurns) }
     ensures writes { S.calls output.new ≤ S.calls output.old + 4294967296 }

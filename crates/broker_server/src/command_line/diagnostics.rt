@@ -86,7 +86,9 @@ fn status(fault: &Fault) -> u8
 /// is written then. It takes no memory.
 pub fn report<S: Sink>(fault: &Fault, sink: &mut S) -> u8
     ensures status { result ≡ status_of fault.now }
-    ensures line { S.failures sink.new ≡ S.failures sink.old → (S.taken sink.new ≡ S.taken sink.old ++ fault_line fault.now) ⊎ AreUsedUp (S.calls sink.old) (S.calls sink.new) }
+    ensures line { S.failures sink.new ≡ S.failures sink.old
+        → (S.taken sink.new ≡ S.taken sink.old ++ fault_line fault.now)
+        ⊎ AreUsedUp (S.calls sink.old) (S.calls sink.new) }
     ensures begun { GrowsByBeginning (S.taken sink.old) (S.taken sink.new) (fault_line fault.now) }
     ensures writes { AreWithinTurns (S.calls sink.old) (S.calls sink.new) }
 {

@@ -4,8 +4,9 @@ ghost use Rattle.broker_server.specs.Commands.{asks_for_version, version_line};
 
 use std::alloc::{AllocError, Global};
 
-/// The version, and the toolchain that its proofs are checked with. A build has no way to put its
-/// commit in here; a package names it (`tools/package`), and refuses another toolchain than this.
+/// The version, and the toolchain that its proofs are checked with, whose letter may be any. A build
+/// has no way to put more in here: a package names commit and letter (`tools/package`), and refuses
+/// another toolchain.
 pub const VERSION: &str = "0.9.0 (rattle-kit-13)";
 
 /// The line that says which version this is, in memory of its own.

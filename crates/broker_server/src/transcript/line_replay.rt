@@ -103,8 +103,10 @@ impl LineReplay {
         requires may_come { may_come self.old.history entry ≡ true }
         requires number { is_number number ≡ true }
         requires named { is_named self.old number ≡ true }
-        ensures next { OnOk result (self.new ≡ record self.old { history = self.old.history ▷ entry }) }
-        ensures printed { OnOk result (PrintsEntry self.old.history entry number out.old.items out.new.items) }
+        ensures next { OnOk result (self.new ≡ record self.old
+            { history = self.old.history ▷ entry }) }
+        ensures printed { OnOk result (PrintsEntry self.old.history entry number out.old.items
+            out.new.items) }
         ensures fault { IfErr result (λ fault. fault ≡ Fault.NoMemory) }
     {
         if !self.world.is_at_rest() {
@@ -175,8 +177,10 @@ impl LineReplay {
         requires number { is_number number ≡ true }
         requires named { is_named self.old number ≡ true }
         requires may_join { may_join self.old.history number ≡ true }
-        ensures next { OnOk result (self.new ≡ record self.old { history = history_with self.old.history (opening self.old number speech) }) }
-        ensures printed { OnOk result (PrintsOpening self.old number speech out.old.items out.new.items) }
+        ensures next { OnOk result (self.new ≡ record self.old
+            { history = history_with self.old.history (opening self.old number speech) }) }
+        ensures printed { OnOk result (PrintsOpening self.old number speech out.old.items
+            out.new.items) }
         ensures fault { IfErr result (λ fault. fault ≡ Fault.NoMemory) }
     {
         match speech {
@@ -197,8 +201,11 @@ impl LineReplay {
         requires number { is_number number ≡ true }
         requires named { is_named self.old number ≡ true }
         requires may_join { may_join self.old.history number ≡ true }
-        ensures next { OnOk result (self.new ≡ record self.old { history = history_with self.old.history (opening self.old number (Speech.Said said)) }) }
-        ensures printed { OnOk result (PrintsOpening self.old number (Speech.Said said) out.old.items out.new.items) }
+        ensures next { OnOk result (self.new ≡ record self.old {
+          history = history_with self.old.history (opening self.old number (Speech.Said said));
+        }) }
+        ensures printed { OnOk result (PrintsOpening self.old number (Speech.Said said)
+            out.old.items out.new.items) }
         ensures fault { IfErr result (λ fault. fault ≡ Fault.NoMemory) }
     {
         match first(said, slice::from_ref(&self.name)) {
@@ -227,7 +234,8 @@ impl LineReplay {
     ) -> Result<(), Fault>
         requires { is_number number ≡ true }
         ensures next { OnOk result (self.new ≡ after self.old number speech) }
-        ensures printed { OnOk result (PrintsMore self.old number speech out.old.items out.new.items) }
+        ensures printed { OnOk result (PrintsMore self.old number speech out.old.items
+            out.new.items) }
         ensures fault { IfErr result (λ fault. fault ≡ Fault.NoMemory) }
     {
         if !self.is_named(number) {

@@ -35,7 +35,8 @@ pub fn print_end(out: &mut Vec<u8>, number: Conn) -> Result<(), Fault>
 
 /// The line of an item.
 pub fn print_item(alloc: Global, out: &mut Vec<u8>, number: Conn, item: &Item) -> Result<(), Fault>
-    ensures printed { OnOk result (out.new.items ≡ out.old.items ++ printed number (item_text (message_of item.now))) }
+    ensures printed { OnOk result (out.new.items ≡ out.old.items ++ printed
+        number (item_text (message_of item.now))) }
     ensures fault { IfErr result (λ fault. fault ≡ Fault.NoMemory) }
 {
     match item_message(alloc, item) {
@@ -52,7 +53,8 @@ fn print_message(
     number: Conn,
     message: &Message,
 ) -> Result<(), Fault>
-    ensures printed { OnOk result (out.new.items ≡ out.old.items ++ printed number (json_text (meaning message.now))) }
+    ensures printed { OnOk result (out.new.items ≡ out.old.items ++ printed
+        number (json_text (meaning message.now))) }
     ensures fault { IfErr result (λ fault. fault ≡ Fault.NoMemory) }
 {
     match json_codec::encode(alloc, message) {

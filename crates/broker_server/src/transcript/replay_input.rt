@@ -43,7 +43,13 @@ impl ReplayInput {
         realm: &Topic,
         grants: &[(String, String)],
     ) -> Result<ReplayInput, Fault>
-        ensures { IfOk result (λ told. told ≡ record { replay = starting (bytes_of grants.now) realm.now; rest = []; count = 0; out = [] }) }
+        ensures { IfOk result (λ told.
+            told ≡ record {
+              replay = starting (bytes_of grants.now) realm.now;
+              rest = [];
+              count = 0;
+              out = [];
+            }) }
     {
         let script = LineReplay::new(alloc, realm, grants)?;
         Ok(ReplayInput {
@@ -57,7 +63,8 @@ impl ReplayInput {
     /// Tells the line that stands in `rest`.
     fn end_line(&mut self, alloc: Global) -> Result<(), Fault>
         requires { self.old.count + 1 < 2 ^ 64 }
-        ensures told { OnOk result (TellsMore self.old.replay self.old.rest self.new.replay self.old.out self.new.out) }
+        ensures told { OnOk result (TellsMore self.old.replay self.old.rest self.new.replay
+            self.old.out self.new.out) }
         ensures rest { OnOk result (self.new.rest ≡ []) }
         ensures count { OnOk result (self.new.count ≡ self.old.count + 1) }
         ensures bad { (k : ℕ) → result ≡ Err (Fault.BadLine k) → IsRefused self.old k self.new }
@@ -77,7 +84,8 @@ impl ReplayInput {
 
     /// Takes octets without LF.
     fn keep_octets(&mut self, octets: &[u8]) -> Result<(), Fault>
-        ensures held { OnOk result (self.new ≡ record self.old { rest = self.old.rest ++ octets.now }) }
+        ensures held { OnOk result (self.new ≡ record self.old
+            { rest = self.old.rest ++ octets.now }) }
         ensures fault { IfErr result (λ fault. fault ≡ Fault.NoMemory) }
     {
         self.rest.extend_from_slice(octets)?;
@@ -90,7 +98,8 @@ impl ReplayInput {
         requires clean { has_line_feed octets.now ≡ false }
         ensures told { OnOk result (Goes self.old (octets.now ++ 10 ∷ []) self.new) }
         ensures count { OnOk result (self.new.count ≡ self.old.count + 1) }
-        ensures bad { (k : ℕ) → result ≡ Err (Fault.BadLine k) → Stops self.old (octets.now ++ 10 ∷ []) false k self.new }
+        ensures bad { (k : ℕ) → result ≡ Err (Fault.BadLine k)
+            → Stops self.old (octets.now ++ 10 ∷ []) false k self.new }
         ensures cause { IfErr result (HasCause ⊥ ⊥ ⊥) }
     {
         self.keep_octets(octets)?;
@@ -103,7 +112,8 @@ impl ReplayInput {
         requires count { self.old.count + 1 < 2 ^ 64 }
         requires clean { has_line_feed octets.now ≡ false }
         ensures told { OnOk result (Goes self.old octets.now self.new) }
-        ensures bad { (k : ℕ) → result ≡ Err (Fault.BadLine k) → Stops self.old octets.now false k self.new }
+        ensures bad { (k : ℕ) → result ≡ Err (Fault.BadLine k)
+            → Stops self.old octets.now false k self.new }
         ensures cause { IfErr result (HasCause ⊥ ⊥ ⊥) }
     {
         self.keep_octets(octets)?;
@@ -117,7 +127,8 @@ impl ReplayInput {
     pub fn feed(&mut self, alloc: Global, piece: &[u8]) -> Result<(), Fault>
         requires { self.old.count + length piece.now + 1 < 2 ^ 64 }
         ensures told { OnOk result (Goes self.old piece.now self.new) }
-        ensures bad { (k : ℕ) → result ≡ Err (Fault.BadLine k) → Stops self.old piece.now false k self.new }
+        ensures bad { (k : ℕ) → result ≡ Err (Fault.BadLine k)
+            → Stops self.old piece.now false k self.new }
         ensures cause { IfErr result (HasCause ⊥ ⊥ ⊥) }
     {
         let mut left = piece;
@@ -152,8 +163,10 @@ impl ReplayInput {
         ensures calls { O.calls sink.new + writing.new ≡ O.calls sink.old + writing.old }
         ensures failures { O.failures sink.old ≤ O.failures sink.new }
         ensures fine { OnOk result (O.failures sink.new ≡ O.failures sink.old) }
-        ensures writes_told { IfErr result (λ fault. fault ≢ Fault.WriteFault → O.failures sink.new ≡ O.failures sink.old) }
-        ensures cause { IfErr result (HasCause ⊥ (O.failures sink.old < O.failures sink.new) (writing.new ≡ 0)) }
+        ensures writes_told { IfErr result (λ fault. fault ≢ Fault.WriteFault
+            → O.failures sink.new ≡ O.failures sink.old) }
+        ensures cause { IfErr result (HasCause
+            ⊥ (O.failures sink.old < O.failures sink.new) (writing.new ≡ 0)) }
         ensures fault { (k : ℕ) → result ≢ Err (Fault.BadLine k) }
     {
         match rawsocket::send(sink, &self.out, writing) {
@@ -172,7 +185,8 @@ fn line_feed_in(octets: &[u8]) -> Option<usize>
     ensures none { IfNone result (has_line_feed octets.now ≡ false) }
     ensures within { IfSome result (λ at. at < length octets.now) }
     ensures clean { IfSome result (λ at. has_line_feed (take at octets.now) ≡ false) }
-    ensures at { IfSome result (λ at. octets.now ≡ take at octets.now ++ 10 ∷ drop (at + 1) octets.now) }
+    ensures at { IfSome result (λ at.
+        octets.now ≡ take at octets.now ++ 10 ∷ drop (at + 1) octets.now) }
 {
     for i in 0..octets.len() {
         if octets[i] == b'\n' {

@@ -18,15 +18,18 @@ fn read_piece<I: Source>(
 ) -> Result<usize, Fault>
     requires { 0 < length buffer.old }
     ensures within { IfOk result (λ n. n ≤ length buffer.new) }
-    ensures given { IfOk result (λ n. I.given source.new ≡ I.given source.old ++ take n buffer.new) }
+    ensures given { IfOk result (λ n. I.given source.new ≡ I.given source.old ++ take n
+        buffer.new) }
     ensures end { IfOk result (λ n. n ≡ 0 → I.is_ended source.new ≡ true) }
     ensures kept { OnErr result (I.given source.new ≡ I.given source.old) }
     ensures turn { OnOk result (turns.old ≡ turns.new + 1) }
     ensures calls { I.calls source.new + turns.new ≡ I.calls source.old + turns.old }
     ensures failures { I.failures source.old ≤ I.failures source.new }
     ensures fine { OnOk result (I.failures source.new ≡ I.failures source.old) }
-    ensures reads_told { IfErr result (λ fault. fault ≢ Fault.ReadFault → I.failures source.new ≡ I.failures source.old) }
-    ensures cause { IfErr result (HasCause (I.failures source.old < I.failures source.new) ⊥ (turns.new ≡ 0)) }
+    ensures reads_told { IfErr result (λ fault. fault ≢ Fault.ReadFault
+        → I.failures source.new ≡ I.failures source.old) }
+    ensures cause { IfErr result (HasCause (I.failures source.old < I.failures source.new)
+        ⊥ (turns.new ≡ 0)) }
     ensures fault { (k : ℕ) → result ≢ Err (Fault.BadLine k) }
 {
     match read_turn(source, buffer, turns) {
@@ -48,16 +51,27 @@ fn replay_all<I: Source, O: Sink>(
     requires fresh { IsFresh told.old }
     requires wide { length buffer.old ≡ 65536 }
     ensures ended { OnOk result (I.is_ended source.new ≡ true) }
-    ensures told { OnOk result (IsReplayed told.old.replay (I.given source.old) (I.given source.new) (O.taken sink.old) (O.taken sink.new) told.new.out) }
-    ensures bad { (k : ℕ) → result ≡ Err (Fault.BadLine k) → StopsAt told.old.replay (I.given source.old) (I.given source.new) (I.is_ended source.new) (O.taken sink.old) (O.taken sink.new) told.new.out k }
-    ensures begun { OnErr result (BeginsReplay told.old.replay (I.given source.old) (I.given source.new) (I.is_ended source.new) (O.taken sink.old) (O.taken sink.new)) }
+    ensures told { OnOk result (IsReplayed
+        told.old.replay (I.given source.old) (I.given source.new) (O.taken sink.old)
+        (O.taken sink.new) told.new.out) }
+    ensures bad { (k : ℕ) → result ≡ Err (Fault.BadLine k)
+        → StopsAt told.old.replay (I.given source.old) (I.given source.new) (I.is_ended source.new)
+        (O.taken sink.old) (O.taken sink.new) told.new.out k }
+    ensures begun { OnErr result (BeginsReplay
+        told.old.replay (I.given source.old) (I.given source.new) (I.is_ended source.new)
+        (O.taken sink.old) (O.taken sink.new)) }
     ensures calls { O.calls sink.new + writing.new ≡ O.calls sink.old + writing.old }
     ensures failures { O.failures sink.old ≤ O.failures sink.new }
-    ensures fine { OnOk result ((I.failures source.new ≡ I.failures source.old) × (O.failures sink.new ≡ O.failures sink.old)) }
-    ensures reads_told { IfErr result (λ fault. fault ≢ Fault.ReadFault → I.failures source.new ≡ I.failures source.old) }
-    ensures writes_told { IfErr result (λ fault. fault ≢ Fault.WriteFault → O.failures sink.new ≡ O.failures sink.old) }
+    ensures fine { OnOk result ((I.failures source.new ≡ I.failures source.old)
+        × (O.failures sink.new ≡ O.failures sink.old)) }
+    ensures reads_told { IfErr result (λ fault. fault ≢ Fault.ReadFault
+        → I.failures source.new ≡ I.failures source.old) }
+    ensures writes_told { IfErr result (λ fault. fault ≢ Fault.WriteFault
+        → O.failures sink.new ≡ O.failures sink.old) }
     ensures reads { AreWithinTurns (I.calls source.old) (I.calls source.new) }
-    ensures cause { IfErr result (HasCause (I.failures source.old < I.failures source.new) (O.failures sink.old < O.failures sink.new) ((AreUsedUp (I.calls source.old) (I.calls source.new)) ⊎ (writing.new ≡ 0))) }
+    ensures cause { IfErr result (HasCause (I.failures source.old < I.failures source.new)
+        (O.failures sink.old < O.failures sink.new)
+        ((AreUsedUp (I.calls source.old) (I.calls source.new)) ⊎ (writing.new ≡ 0))) }
 {
     let mut reading = Turns::new();
     'pieces: loop {
@@ -92,15 +106,27 @@ fn replay_to_end<I: Source, O: Sink>(
     requires fresh { IsFresh told.old }
     requires wide { length buffer.old ≡ 65536 }
     ensures ended { OnOk result (I.is_ended source.new ≡ true) }
-    ensures told { OnOk result (IsReplayed told.old.replay (I.given source.old) (I.given source.new) (O.taken sink.old) (O.taken sink.new) []) }
-    ensures bad { (k : ℕ) → result ≡ Err (Fault.BadLine k) → StopsAt told.old.replay (I.given source.old) (I.given source.new) (I.is_ended source.new) (O.taken sink.old) (O.taken sink.new) [] k }
-    ensures begun { OnErr result (BeginsReplay told.old.replay (I.given source.old) (I.given source.new) (I.is_ended source.new) (O.taken sink.old) (O.taken sink.new)) }
-    ensures fine { OnOk result ((I.failures source.new ≡ I.failures source.old) × (O.failures sink.new ≡ O.failures sink.old)) }
-    ensures reads_told { IfErr result (λ fault. fault ≢ Fault.ReadFault → I.failures source.new ≡ I.failures source.old) }
-    ensures writes_told { IfErr result (λ fault. fault ≢ Fault.WriteFault → O.failures sink.new ≡ O.failures sink.old) }
+    ensures told { OnOk result (IsReplayed
+        told.old.replay (I.given source.old) (I.given source.new) (O.taken sink.old)
+        (O.taken sink.new) []) }
+    ensures bad { (k : ℕ) → result ≡ Err (Fault.BadLine k)
+        → StopsAt told.old.replay (I.given source.old) (I.given source.new) (I.is_ended source.new)
+        (O.taken sink.old) (O.taken sink.new) [] k }
+    ensures begun { OnErr result (BeginsReplay
+        told.old.replay (I.given source.old) (I.given source.new) (I.is_ended source.new)
+        (O.taken sink.old) (O.taken sink.new)) }
+    ensures fine { OnOk result ((I.failures source.new ≡ I.failures source.old)
+        × (O.failures sink.new ≡ O.failures sink.old)) }
+    ensures reads_told { IfErr result (λ fault. fault ≢ Fault.ReadFault
+        → I.failures source.new ≡ I.failures source.old) }
+    ensures writes_told { IfErr result (λ fault. fault ≢ Fault.WriteFault
+        → O.failures sink.new ≡ O.failures sink.old) }
     ensures reads { AreWithinTurns (I.calls source.old) (I.calls source.new) }
     ensures writes { AreWithinTurns (O.calls sink.old) (O.calls sink.new) }
-    ensures cause { IfErr result (HasCause (I.failures source.old < I.failures source.new) (O.failures sink.old < O.failures sink.new) ((AreUsedUp (I.calls source.old) (I.calls source.new)) ⊎ (AreUsedUp (O.calls sink.old) (O.calls sink.new)))) }
+    ensures cause { IfErr result (HasCause (I.failures source.old < I.failures source.new)
+        (O.failures sink.old < O.failures sink.new)
+        ((AreUsedUp (I.calls source.old) (I.calls source.new))
+        ⊎ (AreUsedUp (O.calls sink.old) (O.calls sink.new)))) }
 {
     let mut writing = Turns::new();
     match replay_all(alloc, source, sink, told, &mut writing, buffer) {
@@ -134,15 +160,31 @@ pub fn replay<I: Source, O: Sink>(
 ) -> Result<(), Fault>
     requires { 0 < length config.now.realms.items }
     ensures ended { OnOk result (I.is_ended source.new ≡ true) }
-    ensures told { OnOk result (FromRealm config.now.realms.items (bytes_of config.now.grants.items) (λ start. IsReplayed start (I.given source.old) (I.given source.new) (O.taken sink.old) (O.taken sink.new) [])) }
-    ensures bad { (k : ℕ) → result ≡ Err (Fault.BadLine k) → FromRealm config.now.realms.items (bytes_of config.now.grants.items) (λ start. StopsAt start (I.given source.old) (I.given source.new) (I.is_ended source.new) (O.taken sink.old) (O.taken sink.new) [] k) }
-    ensures begun { OnErr result (FromRealm config.now.realms.items (bytes_of config.now.grants.items) (λ start. BeginsReplay start (I.given source.old) (I.given source.new) (I.is_ended source.new) (O.taken sink.old) (O.taken sink.new))) }
-    ensures fine { OnOk result ((I.failures source.new ≡ I.failures source.old) × (O.failures sink.new ≡ O.failures sink.old)) }
-    ensures reads_told { IfErr result (λ fault. fault ≢ Fault.ReadFault → I.failures source.new ≡ I.failures source.old) }
-    ensures writes_told { IfErr result (λ fault. fault ≢ Fault.WriteFault → O.failures sink.new ≡ O.failures sink.old) }
+    ensures told { OnOk result (FromRealm
+        config.now.realms.items (bytes_of config.now.grants.items)
+        (λ start. IsReplayed
+        start (I.given source.old) (I.given source.new) (O.taken sink.old) (O.taken sink.new) [])) }
+    ensures bad { (k : ℕ) → result ≡ Err (Fault.BadLine k)
+        → FromRealm config.now.realms.items (bytes_of config.now.grants.items)
+        (λ start. StopsAt start (I.given source.old) (I.given source.new) (I.is_ended source.new)
+        (O.taken sink.old) (O.taken sink.new) [] k) }
+    ensures begun { OnErr result (FromRealm
+        config.now.realms.items (bytes_of config.now.grants.items)
+        (λ start. BeginsReplay
+        start (I.given source.old) (I.given source.new) (I.is_ended source.new) (O.taken sink.old)
+        (O.taken sink.new))) }
+    ensures fine { OnOk result ((I.failures source.new ≡ I.failures source.old)
+        × (O.failures sink.new ≡ O.failures sink.old)) }
+    ensures reads_told { IfErr result (λ fault. fault ≢ Fault.ReadFault
+        → I.failures source.new ≡ I.failures source.old) }
+    ensures writes_told { IfErr result (λ fault. fault ≢ Fault.WriteFault
+        → O.failures sink.new ≡ O.failures sink.old) }
     ensures reads { AreWithinTurns (I.calls source.old) (I.calls source.new) }
     ensures writes { AreWithinTurns (O.calls sink.old) (O.calls sink.new) }
-    ensures cause { IfErr result (HasCause (I.failures source.old < I.failures source.new) (O.failures sink.old < O.failures sink.new) ((AreUsedUp (I.calls source.old) (I.calls source.new)) ⊎ (AreUsedUp (O.calls sink.old) (O.calls sink.new)))) }
+    ensures cause { IfErr result (HasCause (I.failures source.old < I.failures source.new)
+        (O.failures sink.old < O.failures sink.new)
+        ((AreUsedUp (I.calls source.old) (I.calls source.new))
+        ⊎ (AreUsedUp (O.calls sink.old) (O.calls sink.new)))) }
 {
     let Ok(mut told) = ReplayInput::new(alloc, &config.realms[0], &config.grants) else {
         return Err(Fault::NoMemory);
