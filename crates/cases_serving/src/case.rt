@@ -2,7 +2,7 @@
 use crate::client::Client;
 use crate::loopback::Loopback;
 use crate::script::Script;
-use crate::steps::{Cue, Deed, Step};
+use crate::steps::{Cue, Deed, Stand, Step};
 use crate::told::{tell, tell_last};
 use case_items::grant_of;
 use case_text::{line_of, number_of, octets_of};
@@ -31,6 +31,8 @@ pub struct Case {
     // How many of the last octets of each client are told, where not all are.
     last: Option<u64>,
     grants: Vec<(String, String)>,
+    // What clients may get, by their numbers.
+    allowed: Vec<(u64, Vec<u8>)>,
 }
 
 impl Case {
@@ -41,6 +43,7 @@ impl Case {
             outbox: OUTBOX,
             last: None,
             grants: Vec::new(alloc),
+            allowed: Vec::new(alloc),
         }
     }
 
@@ -72,8 +75,11 @@ impl Case {
             "outbox" => self.outbox = number as usize,
             "grant" => self.grants.push(grant_of(alloc, rest)?)?,
             "last" => self.last = Some(number),
-            "client" => self.come(alloc, rest, false)?,
-            "standing" => self.come(alloc, rest, true)?,
+            "may" => self.allowed.push((number, octets_of(alloc, after)?))?,
+            "client" => self.come(alloc, rest, Stand::Nowhere)?,
+            "standing" => self.come(alloc, rest, Stand::Sink)?,
+            "late" => self.come(alloc, rest, Stand::Source)?,
+            "holding" => self.come(alloc, after, Stand::End(place_of(number)))?,
             "clients" => self.come_often(alloc, number)?,
             "guests" => self.pass_by(alloc, number, after)?,
             "fails" => self.fail(number)?,
@@ -87,17 +93,17 @@ impl Case {
         Ok(String::new(alloc))
     }
 
-    fn come(&mut self, alloc: Global, text: &str, stands: bool) -> io::Result<()> {
+    fn come(&mut self, alloc: Global, text: &str, stand: Stand) -> io::Result<()> {
         let octets = octets_of(alloc, text)?;
         self.came = self.came.wrapping_add(1);
         self.steps
-            .push_back(Step::Accepts(Cue::Comes { octets, stands }))?;
+            .push_back(Step::Accepts(Cue::Comes { octets, stand }))?;
         Ok(())
     }
 
     fn come_often(&mut self, alloc: Global, count: u64) -> io::Result<()> {
         for _ in 0..count {
-            self.come(alloc, "", false)?;
+            self.come(alloc, "", Stand::Nowhere)?;
         }
         Ok(())
     }
@@ -105,7 +111,7 @@ impl Case {
     // Clients, each of which comes once the one before it has left.
     fn pass_by(&mut self, alloc: Global, count: u64, text: &str) -> io::Result<()> {
         for _ in 0..count {
-            self.come(alloc, text, false)?;
+            self.come(alloc, text, Stand::Nowhere)?;
             self.act(self.came as u64, Deed::Hears(u64::MAX))?;
         }
         Ok(())
@@ -119,8 +125,7 @@ impl Case {
     }
 
     fn act(&mut self, client: u64, deed: Deed) -> io::Result<()> {
-        let place = client.saturating_sub(1) as usize;
-        self.steps.push_back(Step::Does(place, deed))?;
+        self.steps.push_back(Step::Does(place_of(client), deed))?;
         Ok(())
     }
 
@@ -135,6 +140,28 @@ impl Case {
         let mut told = run(rt, alloc, &mut script, &config)?;
         self.tell(alloc, &mut told, &mut script.pairs.play.clients)?;
         Ok(told)
+    }
+
+    /// Does so many times what [`Case::serve`] does once. Where it is told the same each time it is told once.
+    pub fn serve_often<R: Threads + Wait + RandomSource + Net + Drop + Copy + Send + 'static>(
+        &mut self,
+        rt: R,
+        alloc: Global,
+        times: u64,
+    ) -> io::Result<String> {
+        let steps = self.take_steps(alloc);
+        let mut first = None;
+        for time in 0..times {
+            self.steps = copies_of(alloc, &steps)?;
+            let told = self.serve(rt, alloc)?;
+            match &first {
+                None => first = Some(told),
+                Some(first) if *first == told => {}
+                Some(_) => return Ok(format!(in alloc; "but after {time} times:\n{told}")?),
+            }
+        }
+        let first = first.unwrap_or(String::new(alloc));
+        Ok(format!(in alloc; "{times} times:\n{first}")?)
     }
 
     /// Serves the clients over TCP.
@@ -167,10 +194,23 @@ impl Case {
         clients: &mut [Client<T>],
     ) -> io::Result<()> {
         match self.last {
-            None => tell(told, clients),
+            None => tell(told, clients, &self.allowed),
             Some(count) => tell_last(alloc, told, clients, count as usize),
         }
     }
+}
+
+// The place of a client, from 0, by its number, from 1.
+fn place_of(client: u64) -> usize {
+    client.saturating_sub(1) as usize
+}
+
+fn copies_of(alloc: Global, steps: &VecDeque<Step>) -> io::Result<VecDeque<Step>> {
+    let mut copies = VecDeque::new(alloc);
+    for step in steps {
+        copies.push_back(step.copy(alloc)?)?;
+    }
+    Ok(copies)
 }
 
 // How serving ended.

@@ -9,7 +9,7 @@ pub struct Client<T> {
     // None once the stream has ended.
     stream: Option<T>,
     got: Vec<u8>,
-    // The other end of its sink's gate, where its sink stands still.
+    // The other end of the gate that its sink or its source stands still at.
     gate: Option<UnixStream>,
 }
 
@@ -69,8 +69,13 @@ impl<T: Read + Write + Drop> Client<T> {
         Ok(())
     }
 
-    /// Lets its sink go on.
-    pub fn free_sink(&mut self) -> io::Result<()> {
+    /// The other end of its gate, which it has no longer.
+    pub fn take_gate(&mut self) -> Option<UnixStream> {
+        self.gate.take()
+    }
+
+    /// Lets what stands still go on.
+    pub fn free(&mut self) -> io::Result<()> {
         match &mut self.gate {
             Some(gate) => gate.write_all(&[1]),
             None => Ok(()),

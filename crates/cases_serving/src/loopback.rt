@@ -57,7 +57,7 @@ impl<R: Net<Stream = TcpStream, Listener = TcpListener> + Clock + Copy + Drop> S
         match self.play.next() {
             Cue::Stops => Accepted::Stop,
             Cue::Fails => Accepted::Failed,
-            Cue::Comes { octets, stands: _ } => match self.connect(&octets) {
+            Cue::Comes { octets, stand: _ } => match self.connect(&octets) {
                 Ok(()) => self.tcp.accept(),
                 Err(_) => Accepted::Failed,
             },

@@ -2,8 +2,8 @@
 ghost use Rattle.std.specs.Prelude.{◌≡◌, ◌++◌, ◌∷◌, []};
 
 use crate::client::Client;
-use crate::steps::{Cue, Play, Step};
-use crate::stream::End;
+use crate::steps::{Cue, Play, Stand, Step};
+use crate::stream::{End, Gates, Hold};
 use rawsocket::devices::{ReadSource, WriteSink};
 use realm_inbox::GhostList;
 use std::alloc::{AllocError, Global};
@@ -12,6 +12,7 @@ use std::io;
 use std::net::Net;
 use std::os::unix::net::UnixStream;
 use std::snapshot::Snapshot;
+use std::sync::Arc;
 use threaded_server::{Accepted, Acceptor, Answer, Parts};
 
 /// What is still to be accepted, and the clients of all streams.
@@ -49,7 +50,7 @@ impl<R: Net + Drop> Pairs<R> {
         match self.play.next() {
             Cue::Stops => Accepted::Stop,
             Cue::Fails => Accepted::Failed,
-            Cue::Comes { octets, stands } => match self.connect(&octets, stands) {
+            Cue::Comes { octets, stand } => match self.connect(&octets, stand) {
                 Ok(end) => Accepted::Stream(end),
                 Err(_) => Accepted::Failed,
             },
@@ -57,18 +58,46 @@ impl<R: Net + Drop> Pairs<R> {
     }
 
     // The broker's end of a new stream, whose client sends these octets.
-    fn connect(&mut self, octets: &[u8], stands: bool) -> io::Result<End> {
+    fn connect(&mut self, octets: &[u8], stand: Stand) -> io::Result<End> {
         let (ours, theirs) = UnixStream::pair(&self.net)?;
-        let (at_sink, at_client) = if stands {
-            let (at_sink, at_client) = UnixStream::pair(&self.net)?;
-            (Some(at_sink), Some(at_client))
-        } else {
-            (None, None)
-        };
+        let (gates, at_client) = self.gates_of(stand)?;
         let mut client = Client::new(self.alloc, theirs, at_client);
         client.say(octets)?;
         self.play.clients.push(client)?;
-        Ok(End::new(self.alloc, ours, at_sink)?)
+        Ok(End::new(self.alloc, ours, gates)?)
+    }
+
+    // The gates of a stream, and what its client has of them.
+    fn gates_of(&mut self, stand: Stand) -> io::Result<(Gates, Option<UnixStream>)> {
+        let mut gates = Gates::none();
+        match stand {
+            Stand::Nowhere => return Ok((gates, None)),
+            Stand::End(place) => {
+                gates.end = self.hold_of(place)?;
+                return Ok((gates, None));
+            }
+            Stand::Sink | Stand::Source => {}
+        }
+        let (at_stream, at_client) = UnixStream::pair(&self.net)?;
+        let at_stream = Some(Arc::new(self.alloc, at_stream)?);
+        match stand {
+            Stand::Source => gates.source = at_stream,
+            _ => gates.sink = at_stream,
+        }
+        Ok((gates, Some(at_client)))
+    }
+
+    // What the client of this place has of a gate, if it has any. It hasn't then.
+    fn hold_of(&mut self, place: usize) -> io::Result<Option<Hold>> {
+        let Some(client) = self.play.clients.get_mut(place) else {
+            return Ok(None);
+        };
+        match client.take_gate() {
+            Some(gate) => Ok(Some(Hold {
+                gate: Arc::new(self.alloc, gate)?,
+            })),
+            None => Ok(None),
+        }
     }
 }
 

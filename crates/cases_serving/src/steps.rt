@@ -1,17 +1,27 @@
 //! What a case does, step by step.
 use crate::client::Client;
+use std::alloc::{AllocError, Global};
 use std::collections::VecDeque;
 use std::io::{Read, Write};
+
+/// Where a stream stands still.
+#[derive(Clone, Copy, Drop)]
+pub enum Stand {
+    Nowhere,
+    /// Its sink, when it is first written an EVENT.
+    Sink,
+    /// Its source, with what it has read behind the four octets of the handshake.
+    Source,
+    /// Who lets go of it, first of all the realm's actor or the session's writer: until the source of the client of this place, which goes on
+    /// then, is read again.
+    End(usize),
+}
 
 /// What accepting gives next.
 #[derive(Drop)]
 pub enum Cue {
     /// A stream whose client sends these octets.
-    Comes {
-        octets: Vec<u8>,
-        /// Whether its sink stands still at its first EVENT.
-        stands: bool,
-    },
+    Comes { octets: Vec<u8>, stand: Stand },
     /// It fails.
     Fails,
     /// To accept no more.
@@ -27,7 +37,7 @@ pub enum Deed {
     Says(Vec<u8>),
     /// It is waited until its sink stands still.
     Stands,
-    /// Its sink goes on.
+    /// What stands still goes on.
     Frees,
 }
 
@@ -37,6 +47,46 @@ pub enum Step {
     Accepts(Cue),
     /// Something is done with the client of this place, from 0.
     Does(usize, Deed),
+}
+
+fn copy_of(alloc: Global, octets: &[u8]) -> Result<Vec<u8>, AllocError> {
+    let mut copy = Vec::with_capacity(alloc, octets.len())?;
+    copy.extend_from_slice(octets)?;
+    Ok(copy)
+}
+
+impl Step {
+    /// The same step once more.
+    pub fn copy(&self, alloc: Global) -> Result<Step, AllocError> {
+        match self {
+            Step::Accepts(cue) => Ok(Step::Accepts(cue.copy(alloc)?)),
+            Step::Does(place, deed) => Ok(Step::Does(*place, deed.copy(alloc)?)),
+        }
+    }
+}
+
+impl Cue {
+    fn copy(&self, alloc: Global) -> Result<Cue, AllocError> {
+        match self {
+            Cue::Comes { octets, stand } => Ok(Cue::Comes {
+                octets: copy_of(alloc, octets)?,
+                stand: *stand,
+            }),
+            Cue::Fails => Ok(Cue::Fails),
+            Cue::Stops => Ok(Cue::Stops),
+        }
+    }
+}
+
+impl Deed {
+    fn copy(&self, alloc: Global) -> Result<Deed, AllocError> {
+        match self {
+            Deed::Hears(count) => Ok(Deed::Hears(*count)),
+            Deed::Says(octets) => Ok(Deed::Says(copy_of(alloc, octets)?)),
+            Deed::Stands => Ok(Deed::Stands),
+            Deed::Frees => Ok(Deed::Frees),
+        }
+    }
 }
 
 /// What is still to come, and the clients that came.
@@ -67,7 +117,7 @@ impl<T: Read + Write + Drop> Play<T> {
             Deed::Hears(count) => client.hear(count),
             Deed::Says(octets) => client.say(&octets),
             Deed::Stands => client.wait_for_sink(),
-            Deed::Frees => client.free_sink(),
+            Deed::Frees => client.free(),
         };
     }
 }

@@ -4,18 +4,33 @@ use case_text::spell;
 use std::alloc::Global;
 use std::io::{self, Read, Write};
 
-/// What each client got, by its number, if it got anything. Each is heard to its end first.
+/// What each client got, by its number, if it got anything; where it is among what that client may get, only so. Each is heard to its end
+/// first.
 pub fn tell<T: Read + Write + Drop>(
     told: &mut String,
     clients: &mut [Client<T>],
+    allowed: &[(u64, Vec<u8>)],
 ) -> io::Result<()> {
     let mut number: u64 = 0;
     for client in clients.iter_mut() {
         number = number.wrapping_add(1);
         client.hear(u64::MAX)?;
-        tell_one(told, number, client.got())?;
+        if may_get(allowed, number, client.got()) {
+            write!(told, "{number} got what it may\n")?;
+        } else {
+            tell_one(told, number, client.got())?;
+        }
     }
     Ok(())
+}
+
+fn may_get(allowed: &[(u64, Vec<u8>)], number: u64, got: &[u8]) -> bool {
+    for (client, octets) in allowed {
+        if *client == number && octets.as_slice() == got {
+            return true;
+        }
+    }
+    false
 }
 
 fn tell_one(told: &mut String, number: u64, got: &[u8]) -> io::Result<()> {
