@@ -1,4 +1,6 @@
 //! The broker's end of a stream.
+ghost use Rattle.std.specs.Io.{ReadsAtMost};
+
 use realm_inbox::Shut;
 use std::alloc::{AllocError, Global};
 use std::io::{self, Read, Write};
@@ -121,7 +123,9 @@ impl End {
     }
 
     // Reads the handshake, then what comes behind it, and stands still with that.
-    fn read_late(&mut self, gate: &UnixStream, buf: &mut [u8]) -> io::Result<usize> {
+    fn read_late(&mut self, gate: &UnixStream, buf: &mut [u8]) -> io::Result<usize>
+        ensures { ReadsAtMost result buf.new }
+    {
         let mut stream = &*self.stream;
         let mut gate = gate;
         self.reads = self.reads.wrapping_add(1);
