@@ -15,7 +15,8 @@ import sys
 ROOT = os.path.dirname(os.path.dirname(os.path.abspath(__file__)))
 REPLIES = {"json": b"\x7f\xb1\x00\x00", "msgpack": b"\x7f\xb2\x00\x00"}
 MESSAGE, PING, PONG = 0, 1, 2
-PATIENCE = 20
+# How long to wait for anything, in seconds: E26 comes some 23 s after accepts begin to fail.
+PATIENCE = 60
 FEATURES = (
     "event_retention",
     "pattern_based_subscription",

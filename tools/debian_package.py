@@ -1,10 +1,24 @@
 """A package for Debian (deb(5)), of files in memory: an archive of ar with two of tar in it. The same files give the same octets."""
+import email.utils
 import gzip
 import hashlib
 import io
 import os
 import re
 import tarfile
+
+MAINTAINER = "Kelshubai maintainers <maintainers@users.noreply.kelshubai.example>"
+COPYRIGHT = b"""Format: https://www.debian.org/doc/packaging-manuals/copyright-format/1.0/
+Upstream-Name: wampd
+
+Files: *
+Copyright: 2026 the Kelshubai maintainers
+License: Apache-2.0
+ On Debian systems the text of the Apache License, version 2.0, is in
+ /usr/share/common-licenses/Apache-2.0.
+"""
+# The program is packed as the toolchain linked it, so that its sha256 is the one that BUILT names.
+OVERRIDES = b"wampd: unstripped-binary-or-object [usr/bin/wampd]\n"
 
 ARCHITECTURES = {"x86_64": "amd64", "aarch64": "arm64"}
 SCRIPTS = {
@@ -48,11 +62,22 @@ def depends(program, libraries):
     return ", ".join(names)
 
 
+def changelog(version, when):
+    """The changelog of the package, packed. What changed for users stands in CHANGELOG.md."""
+    date = email.utils.formatdate(when, usegmt=True).replace("GMT", "+0000")
+    text = f"wampd ({version}) unstable; urgency=medium\n\n  * See CHANGELOG.md beside this file.\n\n -- {MAINTAINER}  {date}\n"
+    return packed(text.encode())
+
+
+def packed(octets):
+    return gzip.compress(octets, 9, mtime=0)
+
+
 def control(version, program, libraries, size):
     return f"""Package: wampd
 Version: {version}
 Architecture: {ARCHITECTURES[os.uname().machine]}
-Maintainer: Kelshubai maintainers <maintainers@users.noreply.kelshubai.example>
+Maintainer: {MAINTAINER}
 Installed-Size: {size}
 Depends: {depends(program, libraries)}
 Section: net

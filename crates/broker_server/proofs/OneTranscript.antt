@@ -3,14 +3,13 @@ use Rattle.std.proofs.Common.{◌≡◌, ◌⊎◌, ℕ, List, [], ◌∷◌, �
 use Rattle.std.specs.Prelude.{codes}
 use Rattle.std.specs.Str.{bytes_eq}
 use Rattle.std.proofs.lemmas.List.{length_push, same_from_push}
-use Rattle.json_codec.proofs.OneTreeAText.{one-tree}
+use Rattle.json_codec.proofs.Lemmas.{one-tree}
 use Rattle.session.specs.FromClient.{said_of}
 use Rattle.session.specs.declared.messages.said.Said.{Said as Spoken}
 use Rattle.realm.specs.declared.entry.Entry.{Entry}
 use Rattle.realm.specs.History.{◌▷◌}
 use Rattle.realm.specs.Sessions.{live}
-use Rattle.realm.proofs.GivenOnce.{given-once}
-use Rattle.realm.proofs.Conditionals.{clash}
+use Rattle.realm.proofs.Lemmas.{given-once, clash}
 use Rattle.broker_server.specs.Laws.{OneTranscript}
 use Rattle.broker_server.specs.Speech.{Hears, IsSaid}
 use Rattle.broker_server.specs.Transcript.{IsTranscript, nothing, more, Replay, Tells, PrintsFor, after, entry_of, if_ended, printed_all}

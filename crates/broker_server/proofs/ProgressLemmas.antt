@@ -1,7 +1,7 @@
 -- A replay in the midst of its input, with what was read and written so far.
 use Rattle.std.proofs.Common.{◌≡◌, ℕ, ◌+◌, ◌*◌, ◌<◌, ◌≤◌, Bool, false, true, List, [], ◌∷◌, ◌++◌, length, length-append, get_or, refl, sym, ap, ◌∙◌, append_assoc, append-nil, subst, inl, inr, arith}
 use Rattle.rawsocket.specs.Devices.{GrowsByBeginning}
-use Rattle.rawsocket.proofs.DeviceLemmas.{nothing_grown, grown_further}
+use Rattle.rawsocket.proofs.Lemmas.{nothing_grown, grown_further}
 use Rattle.broker_server.specs.Lines.{joined, lines_of}
 use Rattle.broker_server.specs.Progress.{Completes, Goes, IsAllTold, IsBadAt, IsToldOf, IsWhole, Stops, ReplayInput}
 use Rattle.realm.specs.Grants.{Grants}
@@ -39,6 +39,13 @@ module _ (t u : ReplayInput) (given_before given taken_before taken : List ℕ) 
   -- there is room for the count of the next lines
   pub Midst-count : (turns_left n : ℕ) → turns ≡ turns_left + 1 → n ≤ 65536 → u.count + n + 1 < 18446744073709551616
   Midst-count turns_left n spent small =
+      let few : u.count ≤ length midst.input = count-le t.replay midst.input midst.written u midst.told in
+      let bound : length midst.input + 65536 * turns ≤ 281474976710656 = midst.bound in
+      omega arith
+
+  -- and of the last one
+  pub Midst-last : u.count + 1 < 18446744073709551616
+  Midst-last =
       let few : u.count ≤ length midst.input = count-le t.replay midst.input midst.written u midst.told in
       let bound : length midst.input + 65536 * turns ≤ 281474976710656 = midst.bound in
       omega arith

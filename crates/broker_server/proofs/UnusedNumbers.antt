@@ -5,7 +5,7 @@ use Rattle.std.proofs.lemmas.Bool.{eq-eqb, ne_eqb, and_parts, or_left, or_right,
 use Rattle.std.proofs.lemmas.Bool.Decides.{nat_tests}
 use Rattle.std.proofs.lemmas.List.Folds.{list_any-append}
 use Rattle.wamp_ids.specs.Numbers.{seat_of}
-use Rattle.realm.proofs.Conditionals.{clash}
+use Rattle.realm.proofs.Lemmas.{clash}
 use Rattle.broker_server.specs.Lines.{is_number}
 
 abbrev names : List ℕ → ℕ → Bool

@@ -2,7 +2,7 @@
 use Rattle.std.proofs.Common.{◌≡◌, ◌≤◌, ◌++◌, ℕ, List, length, take, sym, ap, ◌∙◌, arith, append_assoc, length-append}
 use Rattle.std.proofs.lemmas.List.{take-append-le}
 use Rattle.rawsocket.specs.Devices.{GrowsByBeginning}
-use Rattle.rawsocket.proofs.DeviceLemmas.{grown_further}
+use Rattle.rawsocket.proofs.Lemmas.{grown_further}
 
 -- a beginning of the first piece is one of the whole
 pub grown_within : (before now piece more : List ℕ) → GrowsByBeginning before now piece → GrowsByBeginning before now (piece ++ more)

@@ -1,6 +1,7 @@
 -- What a replay has read and written at its end.
 use Rattle.std.specs.Prelude.{◌≡◌, ◌⊎◌, ⊤, ℕ, Bool, true, List, [], ◌∷◌, ◌++◌}
 use Rattle.rawsocket.specs.Devices.{GrowsByBeginning}
+use Rattle.rawsocket.specs.Steps.{Told, Fine, Failed}
 use Rattle.realm.specs.Grants.{Grants}
 use Rattle.broker_server.specs.declared.fault.Fault.{Fault}
 use Rattle.broker_server.specs.declared.fault.Fault.TheVariants.{NoMemory, ReadFault, WriteFault, Usage, BadLine, TooManyTurns, ListenFault}
@@ -60,6 +61,16 @@ HasCause read_failed write_failed used_up Usage = ⊥
 HasCause read_failed write_failed used_up (BadLine k) = ⊤
 HasCause read_failed write_failed used_up TooManyTurns = used_up
 HasCause read_failed write_failed used_up ListenFault = ⊥
+
+-- what a fault tells of the input; that no turn was left may be told of either stream, and is told by its cause
+abbrev pub read_told : Fault → Told
+read_told ReadFault = Failed
+read_told _ = Fine
+
+-- the same of the output
+abbrev pub write_told : Fault → Told
+write_told WriteFault = Failed
+write_told _ = Fine
 
 -- for a replay of the first of these realms, with these grants
 abbrev pub FromRealm : List (List ℕ) → Grants → (Replay → Type 0) → Type 0

@@ -37,9 +37,8 @@ pub fn item_text(alloc: Global, item: &Item) -> io::Result<String> {
     if let Item::Pong(payload) = item {
         return pong(alloc, payload.as_slice());
     }
-    match item_message(alloc, item) {
-        Ok(Some(message)) => json(alloc, &message),
-        Ok(None) => Ok(String::from_str(alloc, "no message")?),
-        Err(fault) => unless_refused(format!(in alloc; "{fault}")?),
+    match item_message(alloc, item)? {
+        Some(message) => json(alloc, &message),
+        None => Ok(String::from_str(alloc, "no message")?),
     }
 }

@@ -26,7 +26,6 @@ mod replaying;
 mod room;
 mod seating;
 mod threads;
-mod work;
 
 use case::Case;
 use std::alloc::Global;

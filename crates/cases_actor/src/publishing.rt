@@ -3,9 +3,9 @@ ghost use Rattle.std.specs.Prelude.{◌≡◌, false, IfOk, IfSome};
 ghost use Rattle.realm_inbox.specs.Joins.{is_join};
 
 use crate::seating::post_act;
-use crate::work::Work;
 use case_items::item_text;
 use case_posts::{Wire, act_of};
+use case_text::Work;
 use outbox_queue::{Drain, Waited};
 use realm_inbox::{Act, Poster, RealmHistory};
 use session::{Item, Said};

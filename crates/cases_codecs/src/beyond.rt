@@ -1,7 +1,7 @@
 //! Trees that no serialization carries, and faults as they are printed.
 use crate::reading::write;
 use message_tree::{Dict, Fault, Message, Tree};
-use std::alloc::Global;
+use std::alloc::{AllocError, Global};
 use std::io;
 
 /// Whether each is carried, and what is written of it.
@@ -13,28 +13,21 @@ pub fn beyond(alloc: Global) -> io::Result<String> {
         Tree::Whole(-9223372036854775809),
         Tree::List(vec![in alloc; Tree::Null, Tree::Uncarried]?),
     ] {
-        told(alloc, &mut text, Ok(tree))?;
+        told(alloc, &mut text, tree)?;
     }
-    told(alloc, &mut text, held(alloc))?;
+    told(alloc, &mut text, held(alloc)?)?;
     Ok(text)
 }
 
 /// A list that holds an uncarried leaf, in a dictionary.
-fn held(alloc: Global) -> Result<Tree, Fault> {
+fn held(alloc: Global) -> Result<Tree, AllocError> {
     let list = Tree::List(vec![in alloc; Tree::Uncarried]?);
     let mut dict = Dict::new(alloc);
     dict.set(alloc, String::from_str(alloc, "a")?, list)?;
     Ok(Tree::Dict(dict))
 }
 
-fn told(alloc: Global, text: &mut String, tree: Result<Tree, Fault>) -> io::Result<()> {
-    match tree {
-        Ok(tree) => told_of(alloc, text, tree),
-        Err(fault) => Ok(writeln!(text, "{fault}")?),
-    }
-}
-
-fn told_of(alloc: Global, text: &mut String, tree: Tree) -> io::Result<()> {
+fn told(alloc: Global, text: &mut String, tree: Tree) -> io::Result<()> {
     let is_carried = tree.is_carried();
     match Message::of(tree) {
         Ok(message) => {
@@ -51,9 +44,7 @@ pub fn faults(alloc: Global) -> io::Result<String> {
     use rawsocket::Fault as Transport;
 
     let mut text = String::new(alloc);
-    for fault in [Fault::NoMemory, Fault::TooDeep] {
-        writeln!(&mut text, "{fault}")?;
-    }
+    writeln!(&mut text, "{}", Fault::TooDeep)?;
     for fault in [
         json_codec::Fault::NoMemory,
         json_codec::Fault::TooDeep,

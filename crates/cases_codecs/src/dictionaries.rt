@@ -1,19 +1,17 @@
 //! Dictionaries, and what is found in them.
 use crate::describing::describe;
 use case_text::{line_of, number_of, spell};
-use message_tree::{Content, Dict, Fault, Message, Options, Tree};
-use std::alloc::Global;
+use message_tree::{Content, Dict, Message, Options, Tree};
+use std::alloc::{AllocError, Global};
 use std::io;
 
 /// The entries of a dictionary that these are set in, in its order, and each by its place.
 pub fn dictionary(alloc: Global, entries: &str) -> io::Result<String> {
-    match set(alloc, entries) {
-        Ok(dict) => entries_of(alloc, &dict),
-        Err(fault) => Ok(format!(in alloc; "{fault}\n")?),
-    }
+    let dict = set(alloc, entries)?;
+    entries_of(alloc, &dict)
 }
 
-fn set(alloc: Global, entries: &str) -> Result<Dict, Fault> {
+fn set(alloc: Global, entries: &str) -> Result<Dict, AllocError> {
     let mut dict = Dict::new(alloc);
     for entry in entries.split(' ') {
         if let Some((key, number)) = entry.split_once('=') {
@@ -107,39 +105,36 @@ fn copied(alloc: Global, content: Content) -> io::Result<String> {
     let depth = content.depth();
     let is_carried = content.is_carried();
     let mut text = format!(in alloc; "{depth} {is_carried}, content")?;
-    sameness(&mut text, is_content_copied(alloc, &content))?;
+    sameness(&mut text, is_content_copied(alloc, &content)?)?;
     text.push_str(", tree")?;
-    sameness(&mut text, is_tree_copied(alloc, content.tree()))?;
+    sameness(&mut text, is_tree_copied(alloc, content.tree())?)?;
     options_copied(alloc, text, content.into_tree())
 }
 
 fn options_copied(alloc: Global, mut text: String, tree: Tree) -> io::Result<String> {
     if let Tree::Dict(dict) = tree {
         text.push_str(", options")?;
-        sameness(&mut text, are_options_copied(alloc, &Options::of(dict)))?;
+        sameness(&mut text, are_options_copied(alloc, &Options::of(dict))?)?;
     }
     text.push('\n')?;
     Ok(text)
 }
 
-fn sameness(text: &mut String, is_same: Result<bool, Fault>) -> io::Result<()> {
-    match is_same {
-        Ok(is_same) => Ok(write!(text, " {is_same}")?),
-        Err(fault) => Ok(write!(text, " {fault}")?),
-    }
+fn sameness(text: &mut String, is_same: bool) -> io::Result<()> {
+    Ok(write!(text, " {is_same}")?)
 }
 
-fn is_content_copied(alloc: Global, content: &Content) -> Result<bool, Fault> {
+fn is_content_copied(alloc: Global, content: &Content) -> Result<bool, AllocError> {
     let copy = content.try_copy(alloc)?;
     Ok(copy.into_tree() == *content.tree())
 }
 
-fn is_tree_copied(alloc: Global, tree: &Tree) -> Result<bool, Fault> {
+fn is_tree_copied(alloc: Global, tree: &Tree) -> Result<bool, AllocError> {
     let copy = tree.try_copy(alloc)?;
     Ok(copy == *tree && copy.depth() == tree.depth())
 }
 
-fn are_options_copied(alloc: Global, options: &Options) -> Result<bool, Fault> {
+fn are_options_copied(alloc: Global, options: &Options) -> Result<bool, AllocError> {
     let copy = options.try_copy(alloc)?;
     Ok(copy.into_dict() == *options.dict())
 }

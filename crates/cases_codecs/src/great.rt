@@ -1,7 +1,7 @@
 //! Values whose length no two octets hold.
 use case_text::{line_of, number_of, spelled};
-use message_tree::{Dict, Fault, Message, Tree};
-use std::alloc::Global;
+use message_tree::{Dict, Message, Tree};
+use std::alloc::{AllocError, Global};
 use std::io;
 
 /// The words of `KIND N`: how MessagePack begins so many letters, octets, items or keys, and whether
@@ -10,13 +10,11 @@ pub fn great(alloc: Global, text: &str) -> io::Result<String> {
     let Some((kind, count)) = text.split_once(' ') else {
         return line_of(alloc, "no kind");
     };
-    match tree_of(alloc, kind, number_of(count)) {
-        Ok(tree) => told(alloc, tree),
-        Err(fault) => Ok(format!(in alloc; "{fault}\n")?),
-    }
+    let tree = tree_of(alloc, kind, number_of(count))?;
+    told(alloc, tree)
 }
 
-fn tree_of(alloc: Global, kind: &str, count: u64) -> Result<Tree, Fault> {
+fn tree_of(alloc: Global, kind: &str, count: u64) -> Result<Tree, AllocError> {
     match kind {
         "letters" => letters(alloc, count),
         "octets" => octets(alloc, count),
@@ -25,7 +23,7 @@ fn tree_of(alloc: Global, kind: &str, count: u64) -> Result<Tree, Fault> {
     }
 }
 
-fn letters(alloc: Global, count: u64) -> Result<Tree, Fault> {
+fn letters(alloc: Global, count: u64) -> Result<Tree, AllocError> {
     let mut text = String::new(alloc);
     for _ in 0..count {
         text.push('a')?;
@@ -33,11 +31,11 @@ fn letters(alloc: Global, count: u64) -> Result<Tree, Fault> {
     Ok(Tree::Text(text))
 }
 
-fn octets(alloc: Global, count: u64) -> Result<Tree, Fault> {
+fn octets(alloc: Global, count: u64) -> Result<Tree, AllocError> {
     Ok(Tree::Bytes(vec![in alloc; 0u8; count as usize]?))
 }
 
-fn items(alloc: Global, count: u64) -> Result<Tree, Fault> {
+fn items(alloc: Global, count: u64) -> Result<Tree, AllocError> {
     let mut items = Vec::new(alloc);
     for _ in 0..count {
         items.push(Tree::Null)?;
@@ -45,7 +43,7 @@ fn items(alloc: Global, count: u64) -> Result<Tree, Fault> {
     Ok(Tree::List(items))
 }
 
-fn keys(alloc: Global, count: u64) -> Result<Tree, Fault> {
+fn keys(alloc: Global, count: u64) -> Result<Tree, AllocError> {
     let mut dict = Dict::new(alloc);
     for number in 0..count {
         dict.set(alloc, format!(in alloc; "{number}")?, Tree::Null)?;

@@ -23,10 +23,11 @@ pub fn msgpack(alloc: Global, octets: &[u8]) -> io::Result<String> {
 
 /// A copy of a message in words, and as both serializations write it.
 fn told(alloc: Global, message: &Message) -> io::Result<String> {
-    match message.try_copy(alloc) {
-        Ok(copy) if copy.tree() == message.tree() => in_words(alloc, &copy),
-        Ok(_) => line_of(alloc, "the copy differs"),
-        Err(fault) => Ok(format!(in alloc; "{fault}\n")?),
+    let copy = message.try_copy(alloc)?;
+    if copy.tree() == message.tree() {
+        in_words(alloc, &copy)
+    } else {
+        line_of(alloc, "the copy differs")
     }
 }
 

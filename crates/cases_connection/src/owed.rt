@@ -47,7 +47,8 @@ impl Model for Adder {
 
     ghost view = { λ a. a.outbox.is_closed };
 
-    ghost invariant = { λ a. Owes a.listed a.outbox.added a.left.items × Grows Same a.outbox.history (Some a.listed) };
+    ghost invariant = { λ a. Owes a.listed a.outbox.added a.left.items
+        × Grows Same a.outbox.history (Some a.listed) };
 }
 
 // Lets go of an item that found no room.

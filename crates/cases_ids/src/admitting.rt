@@ -1,8 +1,8 @@
 //! Who is eligible.
 use case_text::{crossing, line_of, may_be_shared, number_of};
 use eligibility::{Lists, Who};
-use message_tree::{Dict, Fault, Shared, Text, Tree};
-use std::alloc::Global;
+use message_tree::{Dict, Shared, Text, Tree};
+use std::alloc::{AllocError, Global};
 use std::io;
 use wamp_ids::{Conn, Id};
 
@@ -120,18 +120,14 @@ pub fn beyond(
 ) -> io::Result<String> {
     let mut text = String::new(alloc);
     for number in [18446744073709551616, -9223372036854775809] {
-        match options_of(alloc, key, number) {
-            Ok(options) => {
-                text.push_str(asked(alloc, &options, receiver, publisher)?.as_str())?;
-            }
-            Err(fault) => writeln!(&mut text, "{fault}")?,
-        }
+        let options = options_of(alloc, key, number)?;
+        text.push_str(asked(alloc, &options, receiver, publisher)?.as_str())?;
     }
     Ok(text)
 }
 
 /// Options with a list of 1 and this number.
-fn options_of(alloc: Global, key: &str, number: i128) -> Result<Dict, Fault> {
+fn options_of(alloc: Global, key: &str, number: i128) -> Result<Dict, AllocError> {
     let list = vec![in alloc; Tree::Whole(1), Tree::Whole(number)]?;
     let mut options = Dict::new(alloc);
     options.set(alloc, String::from_str(alloc, key)?, Tree::List(list))?;

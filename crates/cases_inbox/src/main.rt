@@ -22,7 +22,6 @@ mod room;
 mod tally;
 mod threads;
 mod wire;
-mod work;
 
 use case::Case;
 use std::alloc::Global;

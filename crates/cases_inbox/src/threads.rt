@@ -5,7 +5,7 @@ ghost use Rattle.realm_inbox.specs.Joins.{is_join};
 use crate::room::{Room, post};
 use crate::tally::{Received, Tally};
 use crate::wire::Wire;
-use crate::work::{Work, start};
+use case_text::{Work, start};
 use message_tree::Octets;
 use realm_inbox::{Act, Inbox, Poster};
 use std::alloc::{AllocError, Global};
@@ -29,7 +29,7 @@ fn ping_of(alloc: Global, number: u64) -> Result<Act<Wire>, AllocError>
     Ok(Act::Ping(octets))
 }
 
-impl<R: Wait + Copy> Work<R> for Numbered {
+impl<R: Wait + Copy> Work<R, bool> for Numbered {
     /// Posts them, numbered from 0.
     fn run(self, rt: R) -> bool {
         let Numbered {

@@ -4,6 +4,7 @@ ghost use Rattle.std.specs.Prelude.{◌≤◌, ◌<◌};
 use crate::ends::{Added, Adder, Ends};
 use crate::numbers::Numbers;
 use crate::threads::pass_all;
+use case_text::line_of;
 use outbox_queue::{MOST_ITEMS, Next, Waited, cap_fits, pair, settle};
 use std::alloc::{AllocError, Global};
 use std::io;
@@ -101,10 +102,6 @@ impl Case {
         line.push('\n')?;
         Ok(line)
     }
-}
-
-fn line_of(alloc: Global, text: &str) -> io::Result<String> {
-    Ok(format!(in alloc; "{text}\n")?)
 }
 
 /// A capacity, and so many numbers from the first.

@@ -25,7 +25,8 @@ impl Model for Adder {
 
     ghost view = { λ a. a.outbox };
 
-    ghost invariant = { λ a. (length a.outbox.added ≡ a.added) × Grows Same a.outbox.history (Some a.numbers) };
+    ghost invariant = { λ a. (length a.outbox.added ≡ a.added)
+        × Grows Same a.outbox.history (Some a.numbers) };
 }
 
 /// What came of adding the next number.

@@ -2,6 +2,7 @@
 use crate::case::{ends_of, numbers_of};
 use crate::ends::{Added, Adder, Ends};
 use crate::numbers::Numbers;
+use case_text::{Work, start};
 use outbox_queue::{Drain, Waited};
 use std::alloc::{AllocError, Global};
 use std::io;
@@ -45,6 +46,13 @@ fn take_all<R: Wait>(rt: &R, mut drain: Drain<u64, Numbers>, first: u64) -> (u64
     (count, are_in_order)
 }
 
+impl<R: Wait + Copy> Work<R, ()> for Adder {
+    /// Adds all that is left and closes.
+    fn run(self, rt: R) {
+        add_all(&rt, self)
+    }
+}
+
 /// Passes numbers from one thread to another: the capacity, the first number, and how many.
 pub fn pass_all<R: Threads + Wait + Copy + Send + 'static>(
     rt: R,
@@ -59,7 +67,7 @@ pub fn pass_all<R: Threads + Wait + Copy + Send + 'static>(
     };
     let Ends { adder, drain } = ends;
     let first = numbers.first;
-    let Ok(adding) = thread::spawn(&rt, move || add_all(&rt, adder)) else {
+    let Ok(adding) = start(rt, adder) else {
         return Err(AllocError)?;
     };
     let (count, are_in_order) = take_all(&rt, drain, first);

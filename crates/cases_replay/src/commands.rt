@@ -37,17 +37,13 @@ pub fn explained(alloc: Global, text: &str) -> io::Result<String> {
     let Err(fault) = read_command(alloc, &words) else {
         return Ok(String::from_str(alloc, "accepted\n")?);
     };
-    match explain(alloc, &words) {
-        Ok(reason) => failure(alloc, &fault, reason.as_str()),
-        Err(fault) => Ok(format!(in alloc; "fault {fault}\n")?),
-    }
+    let reason = explain(alloc, &words)?;
+    failure(alloc, &fault, reason.as_str())
 }
 
 /// What is written of a fault with this reason, and the exit status.
 pub fn failure(alloc: Global, fault: &Fault, reason: &str) -> io::Result<String> {
-    let Ok(line) = shown_line(alloc, reason) else {
-        return Err(AllocError)?;
-    };
+    let line = shown_line(alloc, reason)?;
     let mut sink = MemorySink::new(alloc);
     let status = report_failure(fault, &line, &mut sink);
     if !sink.octets().ends_with(&line) {

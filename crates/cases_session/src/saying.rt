@@ -96,10 +96,8 @@ pub fn args_in_words(alloc: Global, args: &Args) -> io::Result<String> {
     for content in [args.args(), args.kwargs()] {
         if let Some(content) = content {
             words.push_str(" ")?;
-            match content.tree().try_copy(alloc) {
-                Ok(tree) => words.push_str(json_of(alloc, tree)?.as_str())?,
-                Err(fault) => write!(&mut words, "{fault}")?,
-            }
+            let tree = content.tree().try_copy(alloc)?;
+            words.push_str(json_of(alloc, tree)?.as_str())?;
         }
     }
     Ok(words)

@@ -8,13 +8,12 @@ use wamp_ids::{Conn, Id};
 
 /// An item's message in JSON, as a line.
 fn told(alloc: Global, item: &Item) -> io::Result<String> {
-    match item_message(alloc, item) {
-        Ok(Some(message)) => {
+    match item_message(alloc, item)? {
+        Some(message) => {
             let json = message_json(alloc, &message)?;
             Ok(format!(in alloc; "{json}\n")?)
         }
-        Ok(None) => Ok(String::from_str(alloc, "no message\n")?),
-        Err(fault) => Ok(format!(in alloc; "{fault}\n")?),
+        None => Ok(String::from_str(alloc, "no message\n")?),
     }
 }
 

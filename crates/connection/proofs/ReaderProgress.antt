@@ -1,10 +1,13 @@
 -- A stream that is read piece by piece and posted.
 use Rattle.std.proofs.Common.{◌≡◌, ◌≢◌, ℕ, List, [], ◌∷◌, ◌++◌, None, Ok, Err, inl, inr, refl, sym, ap, ◌∙◌, subst, append_assoc, append-nil, ◌≤◌, ◌<◌, arith}
 use Rattle.rawsocket.specs.Frames.{Content, Reads, fault_of}
+use Rattle.rawsocket.specs.Steps.{Meter, Fine, Steps, piece_told}
+use Rattle.rawsocket.specs.declared.devices.no_octets.NoOctets.{NoOctets}
+use Rattle.rawsocket.specs.declared.devices.no_octets.NoOctets.TheVariants as no_octets
 use Rattle.rawsocket.specs.declared.handshake.Serializer.{Serializer}
-use Rattle.rawsocket.proofs.DeframerLemmas.{pieces_join}
+use Rattle.rawsocket.proofs.Lemmas.{pieces_join}
 use Rattle.connection.specs.Posts.{Course, GoesOn, Leaves, Breaks, Posts}
-use Rattle.connection.specs.Reader.{PostsAll, PostsSome, IsReadAll, IsReadPartly, ThenGone, IsReadUpTo, IsReadBy, ReadsSince, IsAdvance, GoesWith, Departs, IsStreamEnd}
+use Rattle.connection.specs.Reader.{PostsAll, PostsSome, IsReadAll, IsReadPartly, ThenGone, IsReadUpTo, IsReadBy, ReadsSince, IsAdvance, GoesWith, Departs, end_of, read_told}
 use Rattle.realm_inbox.specs.declared.act.Act.{Act}
 use Rattle.realm_inbox.specs.declared.act.Act.TheVariants.{Gone}
 use Rattle.connection.specs.declared.reader.ReadEnd.{ReadEnd}
@@ -134,15 +137,14 @@ module _ {S : Type 0} (s : Serializer) (early : List Content) (held₀ : List �
     holds = record { frames = o.frames; new = held; reads = o.reads; posts = o.posts };
   }
 
-  pub Onward-stops : (end : ReadEnd) (given_before given after : List ℕ) (before now : List (Act S)) (held : List ℕ) → IsStreamEnd end → Onward given_before given before now held → after ≡ given
+  pub Onward-stops : (why : NoOctets) (end : ReadEnd) (given_before given after : List ℕ) (before now : List (Act S)) (held : List ℕ) → end ≡ end_of why → Onward given_before given before now held → after ≡ given
       → ReadsSince given_before after before now (IsReadUpTo s early held₀ end)
-  Onward-stops Ended given_before given after before now held is o same = so_far given_before given after before now held o same
-  Onward-stops Device given_before given after before now held is o same = so_far given_before given after before now held o same
-  Onward-stops TooManyTurns given_before given after before now held is o same = so_far given_before given after before now held o same
-  Onward-stops Left given_before given after before now held is o same = absurd is
-  Onward-stops (Violation f) given_before given after before now held is o same = absurd is
-  Onward-stops NoMemory given_before given after before now held is o same = absurd is
-  Onward-stops ActorGone given_before given after before now held is o same = absurd is
+  Onward-stops why end given_before given after before now held is o same = subst (λ e. ReadsSince given_before after before now (IsReadUpTo s early held₀ e)) (sym is) (stops why)
+    where
+      stops : (w : NoOctets) → ReadsSince given_before after before now (IsReadUpTo s early held₀ (end_of w))
+      stops no_octets.Ended = so_far given_before given after before now held o same
+      stops no_octets.Failed = so_far given_before given after before now held o same
+      stops no_octets.TooManyTurns = so_far given_before given after before now held o same
 
   early_all : (course : Course) (given new : List ℕ) (before now : List (Act S)) (frames : List Content) → Reads (held₀ ++ []) frames new → PostsAll s (fault_of new) (early ++ frames) course before now → ReadsSince given given before now (IsReadAll s early held₀ course)
   early_all course given new before now frames reads w = record { octets = []; acts = w.acts; read = sym (append-nil given); posted = w.posted; holds = record { frames = frames; new = new; reads = reads; posts = w.posts } }
@@ -248,11 +250,31 @@ departs_same NoMemory result now later (inr p) here = absurd (here p.0)
 pub departs_as : {S : Type 0} (end result wanted : ReadEnd) (now later : List (Act S)) → Departs end now later result → wanted ≢ ActorGone → result ≡ wanted → end ≡ wanted
 departs_as end result wanted now later d other is = sym (departs_same end result now later d (λ gone. other (sym is ∙ gone))) ∙ is
 
-pub failures_grow : (end : ReadEnd) (before after : ℕ) → (end ≡ Device → before < after) → (end ≢ Device → after ≡ before) → before ≤ after
-failures_grow Left before after rose same = let e : after ≡ before = same (λ (d : Left ≡ Device). cc) in omega arith
-failures_grow (Violation f) before after rose same = let e : after ≡ before = same (λ (d : Violation f ≡ Device). cc) in omega arith
-failures_grow Ended before after rose same = let e : after ≡ before = same (λ (d : Ended ≡ Device). cc) in omega arith
-failures_grow Device before after rose same = let e : before < after = rose refl in omega arith
-failures_grow TooManyTurns before after rose same = let e : after ≡ before = same (λ (d : TooManyTurns ≡ Device). cc) in omega arith
-failures_grow NoMemory before after rose same = let e : after ≡ before = same (λ (d : NoMemory ≡ Device). cc) in omega arith
-failures_grow ActorGone before after rose same = let e : after ≡ before = same (λ (d : ActorGone ≡ Device). cc) in omega arith
+-- an end by what is posted tells nothing of the stream
+pub posting_told : {S : Type 0} (s : Serializer) (early : List Content) (old piece new : List ℕ) (before now : List (Act S)) (end : ReadEnd) → IsAdvance s early old piece new before now (Err end) → read_told end ≡ Fine
+posting_told s early old piece new before now Left w = refl
+posting_told s early old piece new before now (Violation f) w = refl
+posting_told s early old piece new before now NoMemory w = refl
+posting_told s early old piece new before now ActorGone w = refl
+posting_told s early old piece new before now Ended w = refl
+posting_told s early old piece new before now Device (inl w) = absurd w.posted
+posting_told s early old piece new before now Device (inr none) = absurd (let never : Err Device ≡ Err NoMemory = none.0 in cc)
+posting_told s early old piece new before now TooManyTurns (inl w) = absurd w.posted
+posting_told s early old piece new before now TooManyTurns (inr none) = absurd (let never : Err TooManyTurns ≡ Err NoMemory = none.0 in cc)
+
+-- the end that the stream makes tells what the read told
+told_of : (why : NoOctets) → read_told (end_of why) ≡ piece_told why
+told_of no_octets.Ended = refl
+told_of no_octets.Failed = refl
+told_of no_octets.TooManyTurns = refl
+
+pub piece_steps : {a b : Meter} (why : NoOctets) (end : ReadEnd) → end ≡ end_of why → Steps a b (piece_told why) → Steps a b (read_told end)
+piece_steps {a} {b} why end is steps = subst (λ t. Steps a b t) (sym (ap read_told is ∙ told_of why)) steps
+
+ended_of : (why : NoOctets) → end_of why ≡ Ended → why ≡ no_octets.Ended
+ended_of no_octets.Ended e = refl
+ended_of no_octets.Failed e = absurd (cc)
+ended_of no_octets.TooManyTurns e = absurd (cc)
+
+pub piece_ended : (why : NoOctets) (end : ReadEnd) → end ≡ end_of why → end ≡ Ended → why ≡ no_octets.Ended
+piece_ended why end is e = ended_of why (sym is ∙ e)

@@ -1,8 +1,11 @@
 -- What a reader has posted of the octets that it read, when it ends.
-use Rattle.std.specs.Prelude.{◌≡◌, ◌⊎◌, ℕ, List, [], ◌∷◌, ◌++◌, None, Result, Ok, Err}
+use Rattle.std.specs.Prelude.{◌≡◌, ◌≢◌, ◌⊎◌, ℕ, List, [], ◌∷◌, ◌++◌, None, Result, Ok, Err}
 use Rattle.std.specs.declared.option.Option.{Option}
 use Rattle.rawsocket.specs.Frames.{Content, Reads, fault_of}
 use Rattle.rawsocket.specs.declared.fault.Fault as stream
+use Rattle.rawsocket.specs.Steps.{Meter, Told, Fine, Failed, NoTurn, WholeSteps}
+use Rattle.rawsocket.specs.declared.devices.no_octets.NoOctets.{NoOctets}
+use Rattle.rawsocket.specs.declared.devices.no_octets.NoOctets.TheVariants as no_octets
 use Rattle.rawsocket.specs.declared.handshake.Serializer.{Serializer}
 use Rattle.realm_inbox.specs.declared.act.Act.{Act}
 use Rattle.realm_inbox.specs.declared.act.Act.TheVariants.{Gone}
@@ -114,9 +117,20 @@ module _ {S : Type 0} where
   Departs ActorGone before now result = (result ≡ ActorGone) × (now ≡ before)
   Departs end before now result = GoesWith end before now result
 
--- the ends that the stream makes
-abbrev pub IsStreamEnd : ReadEnd → Type 0
-IsStreamEnd Ended = Unit {0}
-IsStreamEnd Device = Unit {0}
-IsStreamEnd TooManyTurns = Unit {0}
-IsStreamEnd _ = ⊥
+-- the end that the stream makes
+abbrev pub end_of : NoOctets → ReadEnd
+end_of no_octets.Ended = Ended
+end_of no_octets.Failed = Device
+end_of no_octets.TooManyTurns = TooManyTurns
+
+-- what an end tells of the stream
+abbrev pub read_told : ReadEnd → Told
+read_told Device = Failed
+read_told TooManyTurns = NoTurn
+read_told _ = Fine
+
+-- what was read up to this end; where nobody receives any more, that may be all that it tells
+pub record ReadsUntil (before after : ℕ → Meter) (end : ReadEnd) : Type 0 where
+  pub told : Told
+  pub is_told : end ≢ ActorGone → told ≡ read_told end
+  pub steps : WholeSteps before after told

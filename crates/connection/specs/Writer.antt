@@ -1,6 +1,7 @@
 -- What a writer has written of the items that it took, when it ends.
 use Rattle.std.specs.Prelude.{◌≡◌, ◌≤◌, ◌⊎◌, ℕ, List, [], ◌∷◌, ◌++◌, take}
 use Rattle.std.specs.List.{flat_map, AllByRecursion}
+use Rattle.rawsocket.specs.Steps.{Told, Fine, Failed, NoTurn}
 use Rattle.rawsocket.specs.declared.handshake.Serializer.{Serializer}
 use Rattle.session.specs.declared.fault.Fault.{Fault}
 use Rattle.session.specs.declared.fault.Fault.TheVariants as fault
@@ -94,3 +95,9 @@ pub record BreaksAt (s : Serializer) (limit : ℕ) (end : WriteEnd) (item : Item
 abbrev pub end_by : Fault → WriteEnd
 end_by fault.NoMemory = NoMemory
 end_by _ = TooLong
+
+-- what an end tells of the stream
+abbrev pub write_told : WriteEnd → Told
+write_told Device = Failed
+write_told TooManyTurns = NoTurn
+write_told _ = Fine

@@ -2,13 +2,13 @@
 ghost use Rattle.std.specs.Prelude.{◌≡◌, ◌≢◌, ◌≤◌, ◌<◌, ◌+◌, ◌++◌, ◌∷◌, [], None, length, take, IfOk, IfErr, OnOk, OnErr, true, false};
 ghost use Rattle.rawsocket.specs.Frames.{content, contents, fault_of};
 ghost use Rattle.rawsocket.specs.declared.handshake.Serializer.{Serializer};
-ghost use Rattle.session.specs.Opened.{AreUsedUp, AreWithinTurns};
+ghost use Rattle.rawsocket.specs.Steps.{WholeSteps, meter};
 ghost use Rattle.realm_inbox.specs.Joins.{is_join};
 ghost use Rattle.connection.specs.Posts.{Says, SaysNothing, is_farewell};
-ghost use Rattle.connection.specs.Reader.{IsPosted, IsAdvance, IsReadUpTo, IsReadBy, IsStreamEnd, ReadsSince, Departs};
+ghost use Rattle.connection.specs.Reader.{IsPosted, IsAdvance, IsReadUpTo, IsReadBy, ReadsSince, ReadsUntil, Departs, read_told};
 
 use message_tree::Octets;
-use rawsocket::devices::{PIECE, Source, Turns, read_turn};
+use rawsocket::devices::{NoOctets, PIECE, Source, Turns, read_piece};
 use rawsocket::{Deframer, Frame, Kind, Serializer};
 use realm_inbox::{Act, Posting, Shut};
 use session::{Fault, Opened, Said, decode, read_said};
@@ -33,6 +33,21 @@ pub enum ReadEnd {
     NoMemory,
     /// Nobody receives posts any more: one came back.
     ActorGone,
+}
+
+impl From<NoOctets> for ReadEnd {
+    ghost use Rattle.std.specs.Prelude.{◌≡◌};
+    ghost use Rattle.connection.specs.Reader.{end_of};
+
+    ghost from_gives = { λ of end. end ≡ end_of of };
+
+    fn from(none: NoOctets) -> ReadEnd {
+        match none {
+            NoOctets::Ended => ReadEnd::Ended,
+            NoOctets::Failed => ReadEnd::Device,
+            NoOctets::TooManyTurns => ReadEnd::TooManyTurns,
+        }
+    }
 }
 
 // Whether a client says no more after this.
@@ -184,35 +199,6 @@ fn advance<R: Wait, S: Shut, P: Posting<S>>(
     post_frames(rt, alloc, serializer, fed.frames, fed.fault, poster)
 }
 
-// Reads the next octets, at least one.
-fn read_piece<I: Source>(
-    source: &mut I,
-    buffer: &mut [u8],
-    turns: &mut Turns,
-) -> Result<usize, ReadEnd>
-    requires { 0 < length buffer.old }
-    ensures within { IfOk result (λ n. n ≤ length buffer.new) }
-    ensures given { IfOk result (λ n. I.given source.new ≡ I.given source.old ++ take n
-        buffer.new) }
-    ensures turn { OnOk result (turns.old ≡ turns.new + 1) }
-    ensures fine { OnOk result (I.failures source.new ≡ I.failures source.old) }
-    ensures kept { OnErr result (I.given source.new ≡ I.given source.old) }
-    ensures end { IfErr result IsStreamEnd }
-    ensures ended { result ≡ Err ReadEnd.Ended → I.is_ended source.new ≡ true }
-    ensures device { result ≡ Err ReadEnd.Device → I.failures source.old < I.failures source.new }
-    ensures told { IfErr result (λ e. e ≢ ReadEnd.Device
-        → I.failures source.new ≡ I.failures source.old) }
-    ensures calls { I.calls source.new + turns.new ≡ I.calls source.old + turns.old }
-    ensures turns { result ≡ Err ReadEnd.TooManyTurns → turns.new ≡ 0 }
-{
-    match read_turn(source, buffer, turns) {
-        Ok(0) => Err(ReadEnd::Ended),
-        Ok(count) => Ok(count),
-        Err(rawsocket::Fault::ReadFault) => Err(ReadEnd::Device),
-        Err(_) => Err(ReadEnd::TooManyTurns),
-    }
-}
-
 // Posts the early frames and those that the deframer holds, and then reads and posts until something ends it.
 fn read_on<R: Wait, S: Shut, I: Source, P: Posting<S>>(
     rt: &R,
@@ -228,11 +214,8 @@ fn read_on<R: Wait, S: Shut, I: Source, P: Posting<S>>(
     ensures posted { ReadsSince (I.given source.old) (I.given source.new) (P.posted poster.old)
         (P.posted poster.new) (IsReadUpTo serializer (contents early.items) deframer result) }
     ensures ended { result ≡ ReadEnd.Ended → I.is_ended source.new ≡ true }
-    ensures device { result ≡ ReadEnd.Device → I.failures source.old < I.failures source.new }
-    ensures reads_told { result ≢ ReadEnd.Device → I.failures source.new ≡ I.failures source.old }
-    ensures reads { AreWithinTurns (I.calls source.old) (I.calls source.new) }
-    ensures turns { result ≡ ReadEnd.TooManyTurns
-        → AreUsedUp (I.calls source.old) (I.calls source.new) }
+    ensures reads { WholeSteps (meter (I.calls source.old) (I.failures source.old))
+        (meter (I.calls source.new) (I.failures source.new)) (read_told result) }
 {
     let mut deframer = deframer;
     let mut turns = Turns::new();
@@ -242,7 +225,7 @@ fn read_on<R: Wait, S: Shut, I: Source, P: Posting<S>>(
     'pieces: loop {
         let count = match read_piece(source, buffer, &mut turns) {
             Ok(count) => count,
-            Err(end) => return end,
+            Err(none) => return ReadEnd::from(none),
         };
         let piece = &buffer[..count];
         let none = Vec::new(alloc);
@@ -280,11 +263,8 @@ fn read_up_to<R: Wait, S: Shut, I: Source, P: Posting<S>>(
         (P.posted poster.new)
         (IsReadUpTo opened.serializer (contents opened.early.items) opened.deframer result) }
     ensures ended { result ≡ ReadEnd.Ended → I.is_ended source.new ≡ true }
-    ensures device { result ≡ ReadEnd.Device → I.failures source.old < I.failures source.new }
-    ensures reads_told { result ≢ ReadEnd.Device → I.failures source.new ≡ I.failures source.old }
-    ensures reads { AreWithinTurns (I.calls source.old) (I.calls source.new) }
-    ensures turns { result ≡ ReadEnd.TooManyTurns
-        → AreUsedUp (I.calls source.old) (I.calls source.new) }
+    ensures reads { WholeSteps (meter (I.calls source.old) (I.failures source.old))
+        (meter (I.calls source.new) (I.failures source.new)) (read_told result) }
 {
     let Ok(mut buffer) = vec![in alloc; 0; PIECE] else {
         return ReadEnd::NoMemory;
@@ -318,13 +298,8 @@ pub fn read_posts<R: Wait, S: Shut, I: Source, P: Posting<S>>(
         (P.posted poster.new)
         (IsReadBy opened.serializer (contents opened.early.items) opened.deframer result) }
     ensures ended { result ≡ ReadEnd.Ended → I.is_ended source.new ≡ true }
-    ensures device { result ≡ ReadEnd.Device → I.failures source.old < I.failures source.new }
-    ensures failures { I.failures source.old ≤ I.failures source.new }
-    ensures reads_told { result ≢ ReadEnd.Device → result ≢ ReadEnd.ActorGone
-        → I.failures source.new ≡ I.failures source.old }
-    ensures reads { AreWithinTurns (I.calls source.old) (I.calls source.new) }
-    ensures turns { result ≡ ReadEnd.TooManyTurns
-        → AreUsedUp (I.calls source.old) (I.calls source.new) }
+    ensures reads { ReadsUntil (meter (I.calls source.old) (I.failures source.old))
+        (meter (I.calls source.new) (I.failures source.new)) result }
 {
     let end = read_up_to(rt, alloc, source, opened, poster);
     leave(rt, poster, end)

@@ -1,9 +1,9 @@
 //! The writer of a connection: it takes items and writes their frames.
-ghost use Rattle.std.specs.Prelude.{◌≡◌, ◌≢◌, ◌≤◌, ◌<◌, ◌+◌, ◌++◌, ◌∷◌, ◌⊎◌, [], IfOk, IfErr, OnOk, OnErr};
+ghost use Rattle.std.specs.Prelude.{◌≡◌, ◌≢◌, ◌≤◌, ◌<◌, ◌+◌, ◌++◌, ◌∷◌, ◌⊎◌, ℕ, [], IfOk, IfErr, OnOk, OnErr};
 ghost use Rattle.rawsocket.specs.Devices.{GrowsByBeginning};
-ghost use Rattle.session.specs.Opened.{AreUsedUp, AreWithinTurns};
+ghost use Rattle.rawsocket.specs.Steps.{Steps, WholeSteps, meter, told_by};
 ghost use Rattle.session.specs.ItemFrames.{octets_of};
-ghost use Rattle.connection.specs.Writer.{IsWritable, IsWhole, IsWrittenBy, WritesSince, IsLater, IsBetween, BreaksAt, end_by};
+ghost use Rattle.connection.specs.Writer.{IsWritable, IsWhole, IsWrittenBy, WritesSince, IsLater, IsBetween, BreaksAt, end_by, write_told};
 
 use outbox_queue::{Drain, Next, Owed, Waited};
 use rawsocket::Serializer;
@@ -43,11 +43,8 @@ fn next_item<R: Wait, H: Owed<Item>, S: Sink>(
     ensures stopped { result ≡ Err WriteEnd.Stopped
         → drain.old.empty_finds < drain.new.empty_finds }
     ensures kept { S.taken sink.new ≡ S.taken sink.old }
-    ensures calls { S.calls sink.new ≡ S.calls sink.old }
-    ensures fine { OnOk result (S.failures sink.new ≡ S.failures sink.old) }
-    ensures device { result ≡ Err WriteEnd.Device → S.failures sink.old < S.failures sink.new }
-    ensures told { IfErr result (λ e. e ≢ WriteEnd.Device
-        → S.failures sink.new ≡ S.failures sink.old) }
+    ensures steps { (turns : ℕ) → Steps (meter (S.calls sink.old) (S.failures sink.old) turns)
+        (meter (S.calls sink.new) (S.failures sink.new) turns) (told_by write_told result) }
 {
     match drain.next(rt) {
         Next::Item(item) => return Ok(item),
@@ -78,12 +75,8 @@ fn hand<S: Sink>(sink: &mut S, octets: &[u8], turns: &mut Turns) -> Result<(), W
     ensures written { OnOk result (S.taken sink.new ≡ S.taken sink.old ++ octets.now) }
     ensures begun { GrowsByBeginning (S.taken sink.old) (S.taken sink.new) octets.now }
     ensures which { IfErr result (λ e. (e ≡ WriteEnd.Device) ⊎ (e ≡ WriteEnd.TooManyTurns)) }
-    ensures calls { S.calls sink.new + turns.new ≡ S.calls sink.old + turns.old }
-    ensures fine { OnOk result (S.failures sink.new ≡ S.failures sink.old) }
-    ensures device { result ≡ Err WriteEnd.Device → S.failures sink.old < S.failures sink.new }
-    ensures told { IfErr result (λ e. e ≢ WriteEnd.Device
-        → S.failures sink.new ≡ S.failures sink.old) }
-    ensures turns { result ≡ Err WriteEnd.TooManyTurns → turns.new ≡ 0 }
+    ensures steps { Steps (meter (S.calls sink.old) (S.failures sink.old) turns.old)
+        (meter (S.calls sink.new) (S.failures sink.new) turns.new) (told_by write_told result) }
 {
     match write_all(sink, octets, turns) {
         Ok(()) => Ok(()),
@@ -96,9 +89,8 @@ fn hand<S: Sink>(sink: &mut S, octets: &[u8], turns: &mut Turns) -> Result<(), W
 fn give_up<S: Sink>(sink: &mut S, fault: Fault) -> WriteEnd
     ensures which { result ≢ WriteEnd.Device → result ≡ end_by fault }
     ensures kept { S.taken sink.new ≡ S.taken sink.old }
-    ensures calls { S.calls sink.new ≡ S.calls sink.old }
-    ensures device { result ≡ WriteEnd.Device → S.failures sink.old < S.failures sink.new }
-    ensures told { result ≢ WriteEnd.Device → S.failures sink.new ≡ S.failures sink.old }
+    ensures steps { (turns : ℕ) → Steps (meter (S.calls sink.old) (S.failures sink.old) turns)
+        (meter (S.calls sink.new) (S.failures sink.new) turns) (write_told result) }
 {
     if let Err(_) = sink.flush() {
         return WriteEnd::Device;
@@ -126,12 +118,8 @@ fn write_one<S: Sink>(
     ensures writable { OnOk result (IsWritable serializer limit item.now) }
     ensures ended { IfErr result (λ e. BreaksAt serializer limit e
         item.now (S.taken sink.old) (S.taken sink.new)) }
-    ensures calls { S.calls sink.new + turns.new ≡ S.calls sink.old + turns.old }
-    ensures fine { OnOk result (S.failures sink.new ≡ S.failures sink.old) }
-    ensures device { result ≡ Err WriteEnd.Device → S.failures sink.old < S.failures sink.new }
-    ensures told { IfErr result (λ e. e ≢ WriteEnd.Device
-        → S.failures sink.new ≡ S.failures sink.old) }
-    ensures turns { result ≡ Err WriteEnd.TooManyTurns → turns.new ≡ 0 }
+    ensures steps { Steps (meter (S.calls sink.old) (S.failures sink.old) turns.old)
+        (meter (S.calls sink.new) (S.failures sink.new) turns.new) (told_by write_told result) }
 {
     match write_item(alloc, serializer, limit, item, buffer) {
         Ok(()) => hand(sink, buffer, turns),
@@ -158,12 +146,8 @@ fn write_next<R: Wait, H: Owed<Item>, S: Sink>(
     ensures drain { IsLater H.begins drain.old drain.new }
     ensures stopped { result ≡ Err WriteEnd.Stopped
         → drain.old.empty_finds < drain.new.empty_finds }
-    ensures calls { S.calls sink.new + turns.new ≡ S.calls sink.old + turns.old }
-    ensures fine { OnOk result (S.failures sink.new ≡ S.failures sink.old) }
-    ensures device { result ≡ Err WriteEnd.Device → S.failures sink.old < S.failures sink.new }
-    ensures told { IfErr result (λ e. e ≢ WriteEnd.Device
-        → S.failures sink.new ≡ S.failures sink.old) }
-    ensures turns { result ≡ Err WriteEnd.TooManyTurns → turns.new ≡ 0 }
+    ensures steps { Steps (meter (S.calls sink.old) (S.failures sink.old) turns.old)
+        (meter (S.calls sink.new) (S.failures sink.new) turns.new) (told_by write_told result) }
 {
     empty(alloc, buffer);
     let item = match next_item(rt, drain, sink) {
@@ -193,11 +177,8 @@ pub fn write_items<R: Wait, H: Owed<Item>, S: Sink>(
         (IsWrittenBy serializer limit result.1) }
     ensures drain { IsLater H.begins drain result.0 }
     ensures stopped { result.1 ≡ WriteEnd.Stopped → drain.empty_finds < result.0.empty_finds }
-    ensures device { result.1 ≡ WriteEnd.Device → S.failures sink.old < S.failures sink.new }
-    ensures writes_told { result.1 ≢ WriteEnd.Device → S.failures sink.new ≡ S.failures sink.old }
-    ensures writes { AreWithinTurns (S.calls sink.old) (S.calls sink.new) }
-    ensures turns { result.1 ≡ WriteEnd.TooManyTurns
-        → AreUsedUp (S.calls sink.old) (S.calls sink.new) }
+    ensures writes { WholeSteps (meter (S.calls sink.old) (S.failures sink.old))
+        (meter (S.calls sink.new) (S.failures sink.new)) (write_told result.1) }
 {
     let mut drain = drain;
     let mut buffer = Vec::new(alloc);

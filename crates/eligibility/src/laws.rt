@@ -7,7 +7,8 @@ ghost use Rattle.eligibility.specs.declared.who.Who.{Who};
 /// A session that `exclude` names is never admitted, whatever else the options say.
 pub fn excluded_is_not_admitted()
     ensures { (a : Audience) (who publisher : Who) (numbers : List ℤ) →
-        a.exclude ≡ Some numbers → has_number who.id numbers ≡ true → admits a who publisher ≡ false }
+        a.exclude ≡ Some numbers → has_number who.id numbers ≡ true
+        → admits a who publisher ≡ false }
 {}
 
 /// An empty eligible list admits nobody, whatever else the options say.

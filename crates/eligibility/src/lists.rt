@@ -114,10 +114,7 @@ impl Lists {
         ensures ok { IfOk result (λ l. audience_of (dict_view options.now) ≡ Some l) }
         ensures bad { result ≡ Err Fault.Shape → audience_of (dict_view options.now) ≡ None }
     {
-        match options.try_copy(alloc) {
-            Ok(options) => Lists::take(alloc, options),
-            Err(_) => Err(Fault::NoMemory),
-        }
+        Lists::take(alloc, options.try_copy(alloc)?)
     }
 
     /// What the options say, as [`Lists::read`]. They are spent, and their texts moved.

@@ -30,7 +30,8 @@ impl Model for Numbers {
 
     ghost view = { λ n. n.given.value.items };
 
-    ghost invariant = { λ n. (q : ℕ) → q < 2 ^ 64 → has_number q n.given.value.items ≡ contains nat_cmp n.ids q };
+    ghost invariant = { λ n. (q : ℕ) → q < 2 ^ 64
+        → has_number q n.given.value.items ≡ contains nat_cmp n.ids q };
 }
 
 impl Numbers {
@@ -88,7 +89,8 @@ impl Model for Texts {
 
     ghost view = { λ t. t.given.value.items };
 
-    ghost invariant = { λ t. (s : List ℕ) → has_text s t.given.value.items ≡ contains_text t.names s };
+    ghost invariant = { λ t. (s : List ℕ)
+        → has_text s t.given.value.items ≡ contains_text t.names s };
 }
 
 impl Texts {

@@ -11,7 +11,8 @@ use Rattle.serde_json.specs.Read.{of_json, of_items, of_members, read}
 use Rattle.serde_json.specs.Written.{outline, items_outline, members_outline}
 use Rattle.serde_json.proofs.Numbers.{number_of-decimal, number_of-negative}
 use Rattle.message_tree.specs.Data as tree
-use Rattle.message_tree.proofs.EntryParts.{joined, joined-none, IsBelow, below-next, next-put}
+use Rattle.message_tree.specs.Data.{joined, IsBelow}
+use Rattle.message_tree.proofs.Lemmas.{joined-none, below-next, next-put}
 use Rattle.json_codec.specs.Encoder.{value_of, items_value, entries_value}
 use Rattle.json_codec.proofs.Laws.{depth-value_of}
 

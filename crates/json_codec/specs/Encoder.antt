@@ -1,10 +1,10 @@
 -- The JSON value that is written for a tree.
-use Rattle.std.specs.Prelude.{◌∷◌, ◌==◌, ◌&&◌, ℕ, List, [], Bool, true, not}
+use Rattle.std.specs.Prelude.{◌∷◌, ◌++◌, ◌==◌, ◌&&◌, ℕ, List, [], Bool, true, not}
 use Rattle.base64.specs.Engines.{standard}
 use Rattle.base64.specs.GeneralPurpose.{encode_of}
 use Rattle.serde_json.specs.Data as json
 use Rattle.serde_json.specs.Find.{of_integer}
-use Rattle.serde_json.specs.Written.{compact_text}
+use Rattle.serde_json.specs.Written.{comma_if, compact_text}
 use Rattle.message_tree.specs.Data as tree
 use Rattle.json_codec.specs.Decoder.{mark}
 
@@ -31,6 +31,16 @@ abbrev mutual
 -- the octets that are written for a carried tree: no space, keys ascending
 abbrev pub json_text : tree.Data → List ℕ
 json_text d = compact_text (value_of d)
+
+-- each member behind a comma
+abbrev pub further_text : tree.Items → List ℕ
+further_text tree.no_items = []
+further_text (tree.item d ds) = 44 ∷ (json_text d ++ further_text ds)
+
+-- entries, the first perhaps behind a comma
+abbrev pub entries_text : Bool → tree.Entries → List ℕ
+entries_text later tree.no_entries = []
+entries_text later (tree.entry k d es) = (comma_if later ++ (json_text (tree.text k) ++ 58 ∷ [])) ++ (json_text d ++ entries_text true es)
 
 abbrev pub is_unmarked : List ℕ → Bool
 is_unmarked [] = true

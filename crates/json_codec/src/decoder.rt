@@ -11,7 +11,7 @@ use base64::DecodeAllocError;
 use base64::engine::general_purpose::STANDARD;
 use message_tree::{Dict, Message, Tree};
 use serde_json::{Category, Map, Number, Value};
-use std::alloc::Global;
+use std::alloc::{AllocError, Global};
 
 /// The message that a JSON text is (RFC 8259).
 ///
@@ -48,9 +48,8 @@ pub fn decode(alloc: Global, octets: &[u8]) -> Result<Message, Fault>
 
 /// Takes the value apart, so that its strings are moved.
 #[cycle(tree)]
-fn tree_of(alloc: Global, value: Value) -> Result<Tree, Fault>
+fn tree_of(alloc: Global, value: Value) -> Result<Tree, AllocError>
     ensures ok { IfOk result (λ t. view t ≡ tree_data (value_view value)) }
-    ensures err { IfErr result (λ e. e ≡ Fault.NoMemory) }
 {
     match value {
         Value::Null => Ok(Tree::Null),
@@ -63,9 +62,8 @@ fn tree_of(alloc: Global, value: Value) -> Result<Tree, Fault>
 }
 
 #[cycle(tree)]
-fn tree_of_items(alloc: Global, items: Vec<Value>) -> Result<Vec<Tree>, Fault>
+fn tree_of_items(alloc: Global, items: Vec<Value>) -> Result<Vec<Tree>, AllocError>
     ensures ok { IfOk result (λ v. items_view v.items ≡ items_tree (values_view items.items)) }
-    ensures err { IfErr result (λ e. e ≡ Fault.NoMemory) }
 {
     let mut made = Vec::with_capacity(alloc, items.len())?;
     for item in items {
@@ -75,9 +73,8 @@ fn tree_of_items(alloc: Global, items: Vec<Value>) -> Result<Vec<Tree>, Fault>
 }
 
 #[cycle(tree)]
-fn tree_of_members(alloc: Global, members: Map<String, Value>) -> Result<Dict, Fault>
+fn tree_of_members(alloc: Global, members: Map<String, Value>) -> Result<Dict, AllocError>
     ensures ok { IfOk result (λ d. dict_view d ≡ members_tree (members_view members.entries)) }
-    ensures err { IfErr result (λ e. e ≡ Fault.NoMemory) }
 {
     let mut made = Dict::new(alloc);
     for (key, member) in members {
@@ -96,14 +93,13 @@ fn tree_of_number(number: &Number) -> Tree
     }
 }
 
-fn tree_of_string(alloc: Global, text: String) -> Result<Tree, Fault>
+fn tree_of_string(alloc: Global, text: String) -> Result<Tree, AllocError>
     ensures ok { IfOk result (λ t. view t ≡ string_tree (string_bytes text)) }
-    ensures err { IfErr result (λ e. e ≡ Fault.NoMemory) }
 {
     if let Some((0, rest)) = text.as_bytes().split_first() {
         match STANDARD.decode(alloc, rest) {
             Ok(bytes) => return Ok(Tree::Bytes(bytes)),
-            Err(DecodeAllocError::OutOfMemory) => return Err(Fault::NoMemory),
+            Err(DecodeAllocError::OutOfMemory) => return Err(AllocError),
             Err(DecodeAllocError::DecodeError(_)) => {}
         }
     }

@@ -1,24 +1,13 @@
 -- Entries in two parts, and a key that stands behind the first of them.
-use Rattle.std.proofs.Common.{◌≡◌, ℕ, List, Less, Greater, nat_cmp, refl, ap, ◌∙◌, subst}
-use Rattle.std.specs.Prelude.{⊤}
+use Rattle.std.proofs.Common.{◌≡◌, ℕ, List, Less, nat_cmp, refl, ap, ◌∙◌, subst}
 use Rattle.std.specs.Cmp.Lexicographic.{slice_cmp}
 use Rattle.std.specs.Ordering.{ordering_reverse}
 use Rattle.std.proofs.lemmas.Cmp.{nat_list_cmp_total}
-use Rattle.message_tree.specs.Data.{Data, Entries, no_entries, entry, put, IsAscending, IsBeforeAll}
-
--- the first entries, and then the others
-abbrev pub joined : Entries → Entries → Entries
-joined no_entries others = others
-joined (entry k d es) others = entry k d (joined es others)
+use Rattle.message_tree.specs.Data.{Data, Entries, no_entries, entry, put, joined, IsAscending, IsBeforeAll, IsBelow}
 
 pub joined-none : (es : Entries) → joined es no_entries ≡ es
 joined-none no_entries = refl
 joined-none (entry k d es) = ap (entry k d) (joined-none es)
-
--- each key of the entries is below this one
-abbrev pub IsBelow : Entries → List ℕ → Type 0
-IsBelow no_entries key = ⊤
-IsBelow (entry k d es) key = (slice_cmp nat_cmp key k ≡ Greater) × IsBelow es key
 
 -- a key above all others is put behind them
 pub put-behind : (es : Entries) (key : List ℕ) (value : Data) (others : Entries) → IsBelow es key → joined es (entry key value others) ≡ joined (put key value es) others

@@ -17,7 +17,7 @@ use Rattle.msgpack_codec.specs.Format.{form_of, marked_form, bits_of}
 use Rattle.msgpack_codec.specs.Values.{signed_from, text_from, keep_entry, is_text}
 use Rattle.msgpack_codec.specs.Short.{text_head, bytes_head, list_head, dict_head, from_zero, below_zero, whole_short, short, items_short, entries_short, item_count}
 use Rattle.msgpack_codec.specs.Grammar.{IsNumber, IsSize, IsSized, IsLeaf, AreSpelled, ArePairsSpelled, map_from, IsNest, Spells}
-use Rattle.message_tree.proofs.Comparisons.{whichever}
+use Rattle.message_tree.proofs.Lemmas.{whichever}
 use Rattle.msgpack_codec.proofs.Members.{kept_or_put}
 use Rattle.msgpack_codec.proofs.ShortIsSpelled.{complement, one_low, two_low, four_low}
 

@@ -7,7 +7,8 @@ use Rattle.std.proofs.lemmas.Bool.{and_parts, cases_lt, lt-ltb, le-ltb, ltb-true
 use Rattle.std.proofs.lemmas.Nat.{from_be_bytes-to_be_bytes_2, from_be_bytes-to_be_bytes_4, from_be_bytes-to_be_bytes_8}
 use Rattle.message_tree.specs.Data as tree
 use Rattle.message_tree.specs.View.{items_of}
-use Rattle.message_tree.proofs.EntryParts.{joined, joined-none, next-put}
+use Rattle.message_tree.specs.Data.{joined}
+use Rattle.message_tree.proofs.Lemmas.{joined-none, next-put}
 use Rattle.msgpack_codec.specs.declared.format.Form.{Form}
 use Rattle.msgpack_codec.specs.declared.format.Form.TheVariants as forms
 use Rattle.msgpack_codec.specs.declared.format.Size.{Size}

@@ -11,7 +11,7 @@ ghost use Rattle.message_tree.specs.View.{view, items_view, dict_view};
 use crate::fault::Fault;
 use crate::format::{Form, Size, Width, form_of};
 use message_tree::{Dict, Message, Tree};
-use std::alloc::Global;
+use std::alloc::{AllocError, Global};
 
 /// So many octets at the front, and those after them.
 fn octets_of(octets: &[u8], count: u64) -> Result<(&[u8], &[u8]), Fault>
@@ -94,9 +94,8 @@ fn signed(number: u64, width: Width) -> i128
 }
 
 /// A str that isn't UTF-8 is read past.
-fn text(alloc: Global, octets: &[u8]) -> Result<Tree, Fault>
+fn text(alloc: Global, octets: &[u8]) -> Result<Tree, AllocError>
     ensures ok { IfOk result (λ t. view t ≡ text_from octets.now) }
-    ensures err { IfErr result (λ e. e ≡ Fault.NoMemory) }
 {
     match str::from_utf8(octets) {
         Ok(text) => Ok(Tree::Text(String::from_str(alloc, text)?)),
@@ -189,12 +188,11 @@ fn nest(alloc: Global, form: Form, octets: &[u8], room: u8) -> Result<(Tree, &[u
 /// Makes room for one more, where there is none: for eight at first and then for twice as many as
 /// before, but for no more than the list still says to have, nor for more than this one and one at
 /// each octet that is left.
-fn make_room(found: &mut Vec<Tree>, count: u64, left: usize) -> Result<(), Fault>
+fn make_room(found: &mut Vec<Tree>, count: u64, left: usize) -> Result<(), AllocError>
     ensures items { found.new.items ≡ found.old.items }
     ensures room { OnOk result (vec_len found.new < vec_capacity found.new) }
     ensures few { vec_capacity found.new
         ≤ max (vec_capacity found.old) (vec_len found.old + left + 1) }
-    ensures err { IfErr result (λ e. e ≡ Fault.NoMemory) }
 {
     let len = found.len();
     if found.capacity() == len {
@@ -256,11 +254,16 @@ fn whole(found: Dict, texts: bool) -> Tree
 }
 
 /// Sets a key that is a text, and says whether all so far were.
-fn keep(alloc: Global, found: &mut Dict, texts: bool, key: Tree, item: Tree) -> Result<bool, Fault>
+fn keep(
+    alloc: Global,
+    found: &mut Dict,
+    texts: bool,
+    key: Tree,
+    item: Tree,
+) -> Result<bool, AllocError>
     ensures text { IfOk result (λ b. b ≡ texts && is_text (view key)) }
     ensures entries { OnOk result
         (dict_view found.new ≡ keep_entry (view key) (view item) (dict_view found.old)) }
-    ensures err { IfErr result (λ e. e ≡ Fault.NoMemory) }
 {
     match key {
         Tree::Text(name) => {

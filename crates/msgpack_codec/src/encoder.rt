@@ -9,7 +9,7 @@ ghost use Rattle.msgpack_codec.specs.Short.{text_head, bytes_head, list_head, di
 use crate::appender::Appender;
 use crate::fault::Fault;
 use message_tree::{Dict, Message, Tree};
-use std::alloc::Global;
+use std::alloc::{AllocError, Global};
 use std::mem;
 
 /// MessagePack counts octets and members in four octets at most.
@@ -17,11 +17,10 @@ const LIMIT: usize = 0x1_0000_0000;
 
 /// The head of a str of so many octets.
 #[tactic(auto, unfolding(crate::specs::Short::text_head))]
-fn put_text_head(out: &mut Appender, len: usize) -> Result<(), Fault>
+fn put_text_head(out: &mut Appender, len: usize) -> Result<(), AllocError>
     requires { len < 2 ^ 32 }
     ensures ok { OnOk result (out.new.since ≡ out.old.since ++ text_head len) }
     ensures before { out.new.before ≡ out.old.before }
-    ensures err { IfErr result (λ e. e ≡ Fault.NoMemory) }
 {
     if len < 32 {
         out.put(0xa0 + len as u8)?;
@@ -39,11 +38,10 @@ fn put_text_head(out: &mut Appender, len: usize) -> Result<(), Fault>
 
 /// The head of a bin of so many octets.
 #[tactic(auto, unfolding(crate::specs::Short::bytes_head))]
-fn put_bytes_head(out: &mut Appender, len: usize) -> Result<(), Fault>
+fn put_bytes_head(out: &mut Appender, len: usize) -> Result<(), AllocError>
     requires { len < 2 ^ 32 }
     ensures ok { OnOk result (out.new.since ≡ out.old.since ++ bytes_head len) }
     ensures before { out.new.before ≡ out.old.before }
-    ensures err { IfErr result (λ e. e ≡ Fault.NoMemory) }
 {
     if len < 0x100 {
         out.put_all(&[0xc4, len as u8])?;
@@ -59,11 +57,10 @@ fn put_bytes_head(out: &mut Appender, len: usize) -> Result<(), Fault>
 
 /// The head of an array of so many values.
 #[tactic(auto, unfolding(crate::specs::Short::list_head))]
-fn put_list_head(out: &mut Appender, len: usize) -> Result<(), Fault>
+fn put_list_head(out: &mut Appender, len: usize) -> Result<(), AllocError>
     requires { len < 2 ^ 32 }
     ensures ok { OnOk result (out.new.since ≡ out.old.since ++ list_head len) }
     ensures before { out.new.before ≡ out.old.before }
-    ensures err { IfErr result (λ e. e ≡ Fault.NoMemory) }
 {
     if len < 16 {
         out.put(0x90 + len as u8)?;
@@ -79,11 +76,10 @@ fn put_list_head(out: &mut Appender, len: usize) -> Result<(), Fault>
 
 /// The head of a map of so many pairs.
 #[tactic(auto, unfolding(crate::specs::Short::dict_head))]
-fn put_dict_head(out: &mut Appender, len: usize) -> Result<(), Fault>
+fn put_dict_head(out: &mut Appender, len: usize) -> Result<(), AllocError>
     requires { len < 2 ^ 32 }
     ensures ok { OnOk result (out.new.since ≡ out.old.since ++ dict_head len) }
     ensures before { out.new.before ≡ out.old.before }
-    ensures err { IfErr result (λ e. e ≡ Fault.NoMemory) }
 {
     if len < 16 {
         out.put(0x80 + len as u8)?;
@@ -99,10 +95,9 @@ fn put_dict_head(out: &mut Appender, len: usize) -> Result<(), Fault>
 
 /// A number from 0.
 #[tactic(auto, unfolding(crate::specs::Short::from_zero))]
-fn put_from_zero(out: &mut Appender, number: u64) -> Result<(), Fault>
+fn put_from_zero(out: &mut Appender, number: u64) -> Result<(), AllocError>
     ensures ok { OnOk result (out.new.since ≡ out.old.since ++ from_zero number) }
     ensures before { out.new.before ≡ out.old.before }
-    ensures err { IfErr result (λ e. e ≡ Fault.NoMemory) }
 {
     if number < 0x80 {
         out.put(number as u8)?;
@@ -123,11 +118,10 @@ fn put_from_zero(out: &mut Appender, number: u64) -> Result<(), Fault>
 
 /// The number -(below + 1).
 #[tactic(auto, unfolding(crate::specs::Short::below_zero))]
-fn put_below_zero(out: &mut Appender, below: u64) -> Result<(), Fault>
+fn put_below_zero(out: &mut Appender, below: u64) -> Result<(), AllocError>
     requires { below < 2 ^ 63 }
     ensures ok { OnOk result (out.new.since ≡ out.old.since ++ below_zero below) }
     ensures before { out.new.before ≡ out.old.before }
-    ensures err { IfErr result (λ e. e ≡ Fault.NoMemory) }
 {
     if below < 0x20 {
         out.put(0xff - below as u8)?;
@@ -146,11 +140,10 @@ fn put_below_zero(out: &mut Appender, below: u64) -> Result<(), Fault>
     Ok(())
 }
 
-fn put_whole(out: &mut Appender, number: i128) -> Result<(), Fault>
+fn put_whole(out: &mut Appender, number: i128) -> Result<(), AllocError>
     requires { fits_codecs number ≡ true }
     ensures ok { OnOk result (out.new.since ≡ out.old.since ++ whole_short number) }
     ensures before { out.new.before ≡ out.old.before }
-    ensures err { IfErr result (λ e. e ≡ Fault.NoMemory) }
 {
     if number < 0 {
         put_below_zero(out, (-1 - number) as u64)
@@ -159,24 +152,22 @@ fn put_whole(out: &mut Appender, number: i128) -> Result<(), Fault>
     }
 }
 
-fn put_text(out: &mut Appender, text: &str) -> Result<(), Fault>
+fn put_text(out: &mut Appender, text: &str) -> Result<(), AllocError>
     requires { length text.now < 2 ^ 32 }
     ensures ok { OnOk result
         (out.new.since ≡ out.old.since ++ (text_head (length text.now) ++ text.now)) }
     ensures before { out.new.before ≡ out.old.before }
-    ensures err { IfErr result (λ e. e ≡ Fault.NoMemory) }
 {
     put_text_head(out, text.len())?;
     out.put_all(text.as_bytes())?;
     Ok(())
 }
 
-fn put_bytes(out: &mut Appender, bytes: &[u8]) -> Result<(), Fault>
+fn put_bytes(out: &mut Appender, bytes: &[u8]) -> Result<(), AllocError>
     requires { length bytes.now < 2 ^ 32 }
     ensures ok { OnOk result
         (out.new.since ≡ out.old.since ++ (bytes_head (length bytes.now) ++ bytes.now)) }
     ensures before { out.new.before ≡ out.old.before }
-    ensures err { IfErr result (λ e. e ≡ Fault.NoMemory) }
 {
     put_bytes_head(out, bytes.len())?;
     out.put_all(bytes)?;
@@ -209,18 +200,18 @@ fn write(out: &mut Appender, tree: &Tree) -> Result<(), Fault>
         Tree::Null => Ok(out.put(0xc0)?),
         Tree::Flag(true) => Ok(out.put(0xc3)?),
         Tree::Flag(false) => Ok(out.put(0xc2)?),
-        Tree::Whole(number) => put_whole(out, *number),
+        Tree::Whole(number) => Ok(put_whole(out, *number)?),
         Tree::Text(text) => {
             if !is_short(text.as_str()) {
                 return Err(Fault::UncarriedLeaf);
             }
-            put_text(out, text.as_str())
+            Ok(put_text(out, text.as_str())?)
         }
         Tree::Bytes(bytes) => {
             if bytes.len() >= LIMIT {
                 return Err(Fault::UncarriedLeaf);
             }
-            put_bytes(out, bytes.as_slice())
+            Ok(put_bytes(out, bytes.as_slice())?)
         }
         Tree::List(items) => {
             if count(items) >= LIMIT {
@@ -312,12 +303,11 @@ pub fn encode_into(alloc: Global, tree: &Tree, out: &mut Vec<u8>) -> Result<(), 
 /// Writes a whole number at the end, as [`encode_into`] does.
 ///
 /// # Errors
-/// [`Fault::NoMemory`] where a growth was refused; what was written stays as it was.
+/// [`AllocError`] where a growth was refused; what was written stays as it was.
 #[tactic(auto, unfolding(crate::specs::Short::from_zero))]
-pub fn encode_number_into(alloc: Global, number: u64, out: &mut Vec<u8>) -> Result<(), Fault>
+pub fn encode_number_into(alloc: Global, number: u64, out: &mut Vec<u8>) -> Result<(), AllocError>
     ensures ok { OnOk result (out.new.items ≡ out.old.items ++ short (whole (pos number))) }
     ensures err { OnErr result (out.new.items ≡ out.old.items) }
-    ensures fault { IfErr result (λ e. e ≡ Fault.NoMemory) }
 {
     if number <= 0x7f {
         out.push(number as u8)?;

@@ -19,6 +19,7 @@ use Rattle.crossbeam_queue.specs.contracts.array_queue.TurnsTableRuleOptionDoing
 use Rattle.crossbeam_utils.proofs.sync.parker.RuledParker.TheSendSync as parker
 use Rattle.crossbeam_utils.proofs.sync.parker.RuledUnparker.TheSendSync as unparker
 use Rattle.ghost_state.proofs.SendLemmas.{count_send}
+use Rattle.outbox_queue.specs.contracts.counted.CountedPass as CountedPass
 use Rattle.outbox_queue.specs.contracts.drain.Drain as Drain
 use Rattle.outbox_queue.specs.contracts.drain.Drain.TheInside as drain
 use Rattle.outbox_queue.specs.contracts.ends.Producer as Producer
@@ -56,13 +57,16 @@ module _ (T H : RattleType) (owed : Ghosts H.Denot T.Denot) where
   queue_sync : IsSend T → IsSync queue
   queue_sync t = slotted.the_sync _ _ _ _ (turns.ghosts item view InStep.the_row (in_step.ghosts T H owed in_step.no_dict) turns.no_dict) global.ghosts (option_send _ (stamped_send t)) heap.send heap.sync heap.frees
 
+  counted_send : IsSend T → IsSend (CountedPass.the_row item view)
+  counted_send t = declared_send (CountedPass.the_type item view) (as_row_send (Seat.the_field (Option.the_row item) (Doing.the_row item view)) (seat.the_send (Option.the_row item) (Doing.the_row item view) (option_send item (stamped_send t))), (search (count_send, crosses, sendable) depth 60, tt))
+
   adding_send : IsSend T → IsSend (Producer.the_row T H owed)
   adding_send t =
-      view_send _ _ _ _ _ (declared_send (adding.the_type T H owed) (as_row_send (Arc.the_field queue Global.the_row global.ghosts) (heap.Arc-send queue (queue_send t) (queue_sync t)), (as_row_send (Seat.the_field (Option.the_row item) (Doing.the_row item view)) (seat.the_send (Option.the_row item) (Doing.the_row item view) (option_send item (stamped_send t))), (search sendable, (search (count_send, crosses, sendable) depth 60, (search (count_send, crosses, sendable) depth 60, tt))))))
+      view_send _ _ _ _ _ (declared_send (adding.the_type T H owed) (as_row_send (Arc.the_field queue Global.the_row global.ghosts) (heap.Arc-send queue (queue_send t) (queue_sync t)), (as_row_send (row_field (CountedPass.the_row item view)) (counted_send t), (search sendable, (search (count_send, crosses, sendable) depth 60, (search (count_send, crosses, sendable) depth 60, tt))))))
 
   taking_send : IsSend T → IsSend (Consumer.the_row T H owed)
   taking_send t =
-      view_send _ _ _ _ _ (declared_send (taking.the_type T H owed) (as_row_send (Arc.the_field queue Global.the_row global.ghosts) (heap.Arc-send queue (queue_send t) (queue_sync t)), (as_row_send (Seat.the_field (Option.the_row item) (Doing.the_row item view)) (seat.the_send (Option.the_row item) (Doing.the_row item view) (option_send item (stamped_send t))), (search sendable, (search (count_send, crosses, sendable) depth 60, tt)))))
+      view_send _ _ _ _ _ (declared_send (taking.the_type T H owed) (as_row_send (Arc.the_field queue Global.the_row global.ghosts) (heap.Arc-send queue (queue_send t) (queue_sync t)), (as_row_send (row_field (CountedPass.the_row item view)) (counted_send t), (search sendable, tt))))
 
   pub outbox_send : IsSend T → IsSend (Outbox.the_row T H owed)
   outbox_send t = view_send _ _ _ _ _ (declared_send (outbox.the_type T H owed) (as_row_send (Producer.the_field T H owed) (adding_send t), (search sendable, (search (crosses, sendable) depth 60, (search (unparker.the_field_send, unparker.the_send, crosses, heap.send, heap.sync, heap.frees, sendable) depth 60, tt)))))

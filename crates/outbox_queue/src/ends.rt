@@ -1,21 +1,22 @@
-//! The two ends of a queue: a pass each, with a count of the steps that found the queue full, or empty.
+//! The two ends of a queue, each with a pass that counts its finds: the steps that found the queue full, or empty.
 //!
-//! [`Producer::push`] and [`Consumer::pop`] are the only calls that step the queue, and each counts a find just where the queue,
-//! by its own contract, answered that it found it. Of a find of full the contract shows also what only the queue could tell:
-//! that at least its capacity was added. A find of empty leaves the taking end no such fact, so that `pop` counts none
-//! without a step is read in its few lines alone.
+//! While the ends are apart, [`Producer::push`] and [`Consumer::pop`] alone step the queue, and by the calls of `counted` alone:
+//! so each find that an end shows was a step of the queue, in that call. [`settle_ends`] has both ends in one hand: `join_places`
+//! looks how many items wait, and `take_all` takes them. Neither counts anything.
 ghost use Rattle.std.specs.Prelude.{◌≡◌, ◌+◌, ◌≤◌, ◌<◌, [], ◌∷◌, ◌++◌, length, Some, None, true, slice_get, IfOk, MatchResult, MatchOption, vec_capacity};
 ghost use Rattle.crossbeam_queue.specs.Passes.{view as shown, IsPassOf, IsSamePass, ruled_capacity};
 ghost use Rattle.outbox_queue.specs.Rule.{start, adding, taking, both};
 ghost use Rattle.outbox_queue.specs.Rule.{Grows};
 ghost use Rattle.outbox_queue.specs.Ends.{Owes};
 
+use crate::counted::CountedPass;
 use crate::owed::{Owed, Stamped};
 use crate::rule::{Adds, Ends, InStep, Naming, Settles, Takes, View, Whole};
 use crossbeam_queue::{Pass, RuledArrayQueue};
 use ghost_state::GhostCount;
 use std::alloc::{AllocError, Global};
 use std::marker::{Brand, Model};
+use std::snapshot::Snapshot;
 use std::sync::{Arc, Wait};
 
 /// The queue itself.
@@ -24,14 +25,18 @@ pub type Queue<T, H> = RuledArrayQueue<Stamped<T, H>, View<T, H>, InStep>;
 /// What one end knows of the queue. It takes no bytes.
 pub type Place<T, H> = Pass<Stamped<T, H>, View<T, H>>;
 
-/// The end that adds. Contracts see what was added, by which history, and how often the queue was found full.
+/// The same, with the end's count of finds.
+pub type CountedPlace<T, H> = CountedPass<Stamped<T, H>, View<T, H>>;
+
+/// The end that adds. Contracts see what was added, by which history, how often the queue was found full, and how much had been
+/// added when it last was.
 #[derive(Drop)]
 pub struct Producer<T, H: Owed<T>> {
     queue: Arc<Queue<T, H>>,
-    place: Place<T, H>,
+    place: CountedPlace<T, H>,
     conn: u64,
     added: GhostCount,
-    full_finds: GhostCount,
+    added_at_find: Snapshot<GhostCount>,
 }
 
 impl<T, H: Owed<T>> Model for Producer<T, H> {
@@ -43,9 +48,26 @@ impl<T, H: Owed<T>> Model for Producer<T, H> {
 
     ghost Value = { Adding T H };
 
-    ghost view = { λ e. record { queue = e.place.table_id; capacity = ruled_capacity (arc_value e.queue); conn = (shown e.place).conn; history = (shown e.place).history; added = (shown e.place).added; full_finds = e.full_finds } };
+    ghost view = { λ e. record {
+      queue = e.place.pass.table_id;
+      capacity = ruled_capacity (arc_value e.queue);
+      conn = (shown e.place.pass).conn;
+      history = (shown e.place.pass).history;
+      added = (shown e.place.pass).added;
+      full_finds = e.place.finds;
+      added_at_find = e.added_at_find.value;
+    } };
 
-    ghost invariant = { λ e. IsPassOf (arc_value e.queue) e.place × (shown e.place ≡ adding (shown e.place).conn (shown e.place).history (shown e.place).added) × (0 < ruled_capacity (arc_value e.queue)) × ((shown e.place).added ≡ [] → (e.full_finds ≡ 0) × ((shown e.place).history ≡ None)) × Owes H.owed (shown e.place).history (shown e.place).conn (shown e.place).added × (e.conn ≡ (shown e.place).conn) × (e.added ≡ length (shown e.place).added) };
+    ghost invariant = { λ e. IsPassOf (arc_value e.queue) e.place.pass
+        × (shown e.place.pass ≡ adding (shown e.place.pass).conn (shown e.place.pass).history
+        (shown e.place.pass).added)
+        × (0 < ruled_capacity (arc_value e.queue))
+        × ((shown e.place.pass).added ≡ [] → (e.place.finds ≡ 0)
+        × ((shown e.place.pass).history ≡ None))
+        × Owes H.owed (shown e.place.pass).history (shown e.place.pass).conn
+        (shown e.place.pass).added
+        × (e.conn ≡ (shown e.place.pass).conn)
+        × (e.added ≡ length (shown e.place.pass).added) };
 }
 
 impl<T: Drop, H: Owed<T>> Producer<T, H> {
@@ -74,8 +96,14 @@ impl<T: Drop, H: Owed<T>> Producer<T, H> {
 
     /// Stamps the next item that a history owes the connection.
     pub fn stamp(&self, item: T, history: &H) -> Stamped<T, H>
-        requires { slice_get (H.owed history.now self.now.conn) (length self.now.added) ≡ Some item }
-        ensures { result ≡ record { item = item; conn = self.now.conn; place = length self.now.added; history = history.now } }
+        requires { slice_get (H.owed history.now self.now.conn) (length self.now.added)
+            ≡ Some item }
+        ensures { result ≡ record {
+          item = item;
+          conn = self.now.conn;
+          place = length self.now.added;
+          history = history.now;
+        } }
     {
         Stamped::new(item, &self.conn, &self.added, history)
     }
@@ -86,17 +114,28 @@ impl<T: Drop, H: Owed<T>> Producer<T, H> {
         requires place { item.place ≡ length self.old.added }
         requires history { Grows H.begins self.old.history (Some item.history) }
         ensures { MatchResult result
-            (λ _. self.new ≡ record self.old { history = Some item.history; added = self.old.added ++ item.item ∷ [] })
-            (λ back. (back ≡ item) × (self.new ≡ record self.old { full_finds = self.old.full_finds + 1 }) × (self.old.capacity ≤ length self.old.added)) }
+            (λ _. self.new ≡ record self.old {
+              history = Some item.history;
+              added = self.old.added ++ item.item ∷ [];
+            })
+            (λ back. (back ≡ item)
+            × (self.new ≡ record self.old {
+              full_finds = self.old.full_finds + 1;
+              added_at_find = length self.old.added;
+            })
+            × (self.old.capacity ≤ length self.old.added)) }
     {
         item.shows();
-        match self.queue.push_as::<Adds, R>(rt, &mut self.place, item) {
+        match self
+            .place
+            .push_counted::<InStep, Adds, R>(rt, &self.queue, item)
+        {
             Ok(()) => {
                 self.added.tick();
                 Ok(())
             }
             Err(back) => {
-                self.full_finds.tick();
+                self.added_at_find = Snapshot::of(&self.added);
                 Err(back)
             }
         }
@@ -107,9 +146,8 @@ impl<T: Drop, H: Owed<T>> Producer<T, H> {
 #[derive(Drop)]
 pub struct Consumer<T, H: Owed<T>> {
     queue: Arc<Queue<T, H>>,
-    place: Place<T, H>,
+    place: CountedPlace<T, H>,
     conn: u64,
-    empty_finds: GhostCount,
 }
 
 impl<T, H: Owed<T>> Model for Consumer<T, H> {
@@ -121,9 +159,22 @@ impl<T, H: Owed<T>> Model for Consumer<T, H> {
 
     ghost Value = { Taking T H };
 
-    ghost view = { λ e. record { queue = e.place.table_id; capacity = ruled_capacity (arc_value e.queue); conn = (shown e.place).conn; seen = (shown e.place).seen; taken = (shown e.place).taken; empty_finds = e.empty_finds } };
+    ghost view = { λ e. record {
+      queue = e.place.pass.table_id;
+      capacity = ruled_capacity (arc_value e.queue);
+      conn = (shown e.place.pass).conn;
+      seen = (shown e.place.pass).seen;
+      taken = (shown e.place.pass).taken;
+      empty_finds = e.place.finds;
+    } };
 
-    ghost invariant = { λ e. IsPassOf (arc_value e.queue) e.place × (shown e.place ≡ taking (shown e.place).conn (shown e.place).seen (shown e.place).taken) × (0 < ruled_capacity (arc_value e.queue)) × Owes H.owed (shown e.place).seen (shown e.place).conn (shown e.place).taken × (e.conn ≡ (shown e.place).conn) };
+    ghost invariant = { λ e. IsPassOf (arc_value e.queue) e.place.pass
+        × (shown e.place.pass ≡ taking (shown e.place.pass).conn (shown e.place.pass).seen
+        (shown e.place.pass).taken)
+        × (0 < ruled_capacity (arc_value e.queue))
+        × Owes H.owed (shown e.place.pass).seen (shown e.place.pass).conn
+        (shown e.place.pass).taken
+        × (e.conn ≡ (shown e.place.pass).conn) };
 }
 
 impl<T: Drop, H: Owed<T>> Consumer<T, H> {
@@ -145,18 +196,16 @@ impl<T: Drop, H: Owed<T>> Consumer<T, H> {
     pub fn pop<R: Wait>(&mut self, rt: &R) -> Option<Stamped<T, H>>
         ensures { MatchOption result
             (self.new ≡ record self.old { empty_finds = self.old.empty_finds + 1 })
-            (λ x. (self.new ≡ record self.old { seen = Some x.history; taken = self.old.taken ++ x.item ∷ [] }) × (x.conn ≡ self.old.conn) × (x.place ≡ length self.old.taken) × Grows H.begins self.old.seen (Some x.history)) }
+            (λ x. (self.new ≡ record self.old {
+              seen = Some x.history;
+              taken = self.old.taken ++ x.item ∷ [];
+            })
+            × (x.conn ≡ self.old.conn) × (x.place ≡ length self.old.taken)
+            × Grows H.begins self.old.seen (Some x.history)) }
     {
-        match self.queue.pop_as::<Takes, R>(rt, &mut self.place) {
-            Some(item) => {
-                item.shows();
-                Some(item)
-            }
-            None => {
-                self.empty_finds.tick();
-                None
-            }
-        }
+        let item = self.place.pop_counted::<InStep, Takes, R>(rt, &self.queue)?;
+        item.shows();
+        Some(item)
     }
 }
 
@@ -182,8 +231,23 @@ pub fn new_ends<T: Drop, H: Owed<T>>(
     cap: usize,
 ) -> Result<(Producer<T, H>, Consumer<T, H>), AllocError>
     requires { 0 < cap }
-    ensures adding { IfOk result (λ p. p.0 ≡ record { queue = p.1.queue; capacity = cap; conn = conn; history = None; added = []; full_finds = 0 }) }
-    ensures taking { IfOk result (λ p. p.1 ≡ record { queue = p.1.queue; capacity = cap; conn = conn; seen = None; taken = []; empty_finds = 0 }) }
+    ensures adding { IfOk result (λ p. p.0 ≡ record {
+      queue = p.1.queue;
+      capacity = cap;
+      conn = conn;
+      history = None;
+      added = [];
+      full_finds = 0;
+      added_at_find = 0;
+    }) }
+    ensures taking { IfOk result (λ p. p.1 ≡ record {
+      queue = p.1.queue;
+      capacity = cap;
+      conn = conn;
+      seen = None;
+      taken = [];
+      empty_finds = 0;
+    }) }
 {
     let (queue, mut place) = Queue::ruled(alloc, cap)?;
     let theirs = cut::<T, H, Brand>(&queue, &mut place, conn);
@@ -191,16 +255,15 @@ pub fn new_ends<T: Drop, H: Owed<T>>(
     let again = Arc::try_clone(&queue)?;
     let adding = Producer {
         queue,
-        place,
+        place: CountedPass::new(place),
         conn,
         added: GhostCount::new(),
-        full_finds: GhostCount::new(),
+        added_at_find: Snapshot::of(&GhostCount::new()),
     };
     let taking = Consumer {
         queue: again,
-        place: theirs,
+        place: CountedPass::new(theirs),
         conn,
-        empty_finds: GhostCount::new(),
     };
     Ok((adding, taking))
 }
@@ -217,7 +280,8 @@ fn join_places<T: Drop, H: Owed<T>, R: Wait>(
     requires takes { (shown theirs).takes ≡ true }
     ensures queue { IsPassOf queue.now place.new }
     ensures both { shown place.new ≡ both (shown place.old) (shown theirs) }
-    ensures room { length (shown place.old).added ≤ length (shown theirs).taken + ruled_capacity queue.now }
+    ensures room { length (shown place.old).added ≤ length (shown theirs).taken
+        + ruled_capacity queue.now }
     ensures history { Grows H.begins (shown theirs).seen (shown place.old).history }
 {
     queue.absorb::<Whole>(place, theirs);
@@ -257,21 +321,22 @@ pub fn settle_ends<T: Drop, H: Owed<T>, R: Wait>(
     requires empty { into.items ≡ [] }
     requires room { adding.capacity ≤ vec_capacity into }
     ensures rest { taking.taken ++ result.items ≡ adding.added }
+    ensures waiting { length result.items ≤ adding.capacity }
     ensures history { Grows H.begins taking.seen adding.history }
 {
     let Producer {
         queue,
-        mut place,
+        place,
         conn: _,
         added: _,
-        full_finds: _,
+        added_at_find: _,
     } = adding;
     let Consumer {
         queue: _,
         place: theirs,
         conn: _,
-        empty_finds: _,
     } = taking;
-    join_places(rt, &queue, &mut place, theirs);
+    let mut place = place.into_pass();
+    join_places(rt, &queue, &mut place, theirs.into_pass());
     take_all(rt, &queue, place, into)
 }

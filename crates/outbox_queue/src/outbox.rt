@@ -30,12 +30,30 @@ impl<T, H: Owed<T>> Model for Outbox<T, H> {
 
     ghost Value = { Sending T H };
 
-    ghost view = { λ o. record { queue = o.end.queue; capacity = o.end.capacity; conn = o.end.conn; history = o.end.history; added = o.end.added; full_finds = o.end.full_finds; is_closed = o.is_closed } };
+    ghost view = { λ o. record {
+      queue = o.end.queue;
+      capacity = o.end.capacity;
+      conn = o.end.conn;
+      history = o.end.history;
+      added = o.end.added;
+      full_finds = o.end.full_finds;
+      added_at_find = o.end.added_at_find;
+      is_closed = o.is_closed;
+    } };
 }
 
 impl<T: Drop, H: Owed<T>> Outbox<T, H> {
     pub(crate) fn new(end: Producer<T, H>, shut: Arc<AtomicBool>, waker: Unparker) -> Outbox<T, H>
-        ensures { result ≡ record { queue = end.queue; capacity = end.capacity; conn = end.conn; history = end.history; added = end.added; full_finds = end.full_finds; is_closed = false } }
+        ensures { result ≡ record {
+          queue = end.queue;
+          capacity = end.capacity;
+          conn = end.conn;
+          history = end.history;
+          added = end.added;
+          full_finds = end.full_finds;
+          added_at_find = end.added_at_find;
+          is_closed = false;
+        } }
     {
         Outbox {
             end,
@@ -90,8 +108,16 @@ impl<T: Drop, H: Owed<T>> Outbox<T, H> {
         requires place { item.place ≡ length self.old.added }
         requires history { Grows H.begins self.old.history (Some item.history) }
         ensures { MatchResult result
-            (λ _. self.new ≡ record self.old { history = Some item.history; added = self.old.added ++ item.item ∷ [] })
-            (λ full. (full.0 ≡ item) × (self.new ≡ record self.old { full_finds = self.old.full_finds + 1 }) × (self.old.capacity ≤ length self.old.added)) }
+            (λ _. self.new ≡ record self.old {
+              history = Some item.history;
+              added = self.old.added ++ item.item ∷ [];
+            })
+            (λ full. (full.0 ≡ item)
+            × (self.new ≡ record self.old {
+              full_finds = self.old.full_finds + 1;
+              added_at_find = length self.old.added;
+            })
+            × (self.old.capacity ≤ length self.old.added)) }
     {
         match self.end.push(rt, item) {
             Ok(()) => Ok(()),
@@ -107,8 +133,14 @@ impl<T: Drop, H: Owed<T>> Outbox<T, H> {
 
     /// Stamps the next item that a history owes the connection: the one at the place after the last that was added.
     pub fn stamp(&self, item: T, history: &H) -> Stamped<T, H>
-        requires { slice_get (H.owed history.now self.now.conn) (length self.now.added) ≡ Some item }
-        ensures { result ≡ record { item = item; conn = self.now.conn; place = length self.now.added; history = history.now } }
+        requires { slice_get (H.owed history.now self.now.conn) (length self.now.added)
+            ≡ Some item }
+        ensures { result ≡ record {
+          item = item;
+          conn = self.now.conn;
+          place = length self.now.added;
+          history = history.now;
+        } }
     {
         self.end.stamp(item, history)
     }
@@ -124,7 +156,16 @@ impl<T: Drop, H: Owed<T>> Outbox<T, H> {
     }
 
     pub(crate) fn into_end(self) -> Producer<T, H>
-        ensures { self ≡ record { queue = result.queue; capacity = result.capacity; conn = result.conn; history = result.history; added = result.added; full_finds = result.full_finds; is_closed = self.is_closed } }
+        ensures { self ≡ record {
+          queue = result.queue;
+          capacity = result.capacity;
+          conn = result.conn;
+          history = result.history;
+          added = result.added;
+          full_finds = result.full_finds;
+          added_at_find = result.added_at_find;
+          is_closed = self.is_closed;
+        } }
     {
         let Self {
             end,

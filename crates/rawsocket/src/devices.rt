@@ -3,6 +3,7 @@
 pub(crate) mod device;
 pub(crate) mod ghost_octets;
 pub(crate) mod memory;
+pub(crate) mod no_octets;
 pub(crate) mod over_io;
 pub mod testing;
 pub(crate) mod turns;
@@ -10,5 +11,6 @@ pub(crate) mod turns;
 pub use device::{Sink, Source};
 pub use ghost_octets::GhostOctets;
 pub use memory::{MemorySink, MemorySource};
+pub use no_octets::NoOctets;
 pub use over_io::{ReadSource, WriteSink};
-pub use turns::{PIECE, Turns, read_turn, send, write_all};
+pub use turns::{PIECE, Turns, read_piece, read_turn, send, write_all};

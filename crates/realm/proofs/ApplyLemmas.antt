@@ -11,7 +11,7 @@ use Rattle.wamp_ids.specs.Pattern.{PatternText, matches}
 use Rattle.subscription_index.specs.Index.{Held, IsIndex, holds_number as is_held, subscribed as answered}
 use Rattle.subscription_index.specs.Members.{has_row, rows_of}
 use Rattle.retained.specs.Store.{retained_of, has_room, may_be_retained, set_topic}
-use Rattle.retained.proofs.StoreLemmas.{retained-more, has_room-retained}
+use Rattle.retained.proofs.Lemmas.{retained-more, has_room-retained}
 use Rattle.eligibility.specs.declared.who.Who.{Who}
 use Rattle.session.specs.Arguments.{Arguments}
 use Rattle.session.specs.declared.messages.said.Said.TheVariants.{Hello, Publish, Subscribe, Unsubscribe}

@@ -7,8 +7,7 @@ use Rattle.std.proofs.lemmas.Bool.Decides.{nat_tests}
 use Rattle.wamp_ids.specs.Pattern.{PatternText, matches}
 use Rattle.subscription_index.specs.Index.{Row, IsStrictlyAscending, IsBeforeAll, keys, pattern_of, matching}
 use Rattle.subscription_index.specs.Members.{has_row, same_row, rows_of}
-use Rattle.subscription_index.proofs.Members.{pattern_of-has_row, same_row_self}
-use Rattle.subscription_index.proofs.Keys.{ascending-filter}
+use Rattle.subscription_index.proofs.Lemmas.{pattern_of-has_row, same_row_self, ascending-filter}
 use Rattle.eligibility.specs.declared.who.Who.{Who}
 use Rattle.session.specs.declared.messages.item.Publication.{Publication}
 use Rattle.session.specs.declared.messages.item.Item.{Item}

@@ -6,7 +6,7 @@ use Rattle.std.specs.List.{list_any, filter}
 use Rattle.std.proofs.lemmas.Bool.{eqb-true, eq-eqb, or_right, or_left, not-true, and_parts, or_cases}
 use Rattle.std.proofs.lemmas.List.Folds.{list_any-append}
 use Rattle.std.proofs.Math.Bool.{and-false}
-use Rattle.wamp_ids.proofs.Equality.{same_pattern-true}
+use Rattle.wamp_ids.proofs.Lemmas.{same_pattern-true}
 use Rattle.wamp_ids.specs.Pattern.{PatternText, matches, same_pattern}
 use Rattle.realm.specs.declared.entry.Entry.{Entry}
 use Rattle.realm.specs.declared.entry.Entry.TheVariants.{Join, Said, Ping, Spoilt, Gone, Cut, Closed}

@@ -4,11 +4,11 @@ use Rattle.std.specs.List.{filter}
 use Rattle.std.proofs.lemmas.Bool.{eqb-true, eq-eqb, and_parts, or_left}
 use Rattle.std.proofs.lemmas.List.Folds.{list_any-append}
 use Rattle.std.proofs.Math.Bool.{and-false, or-true}
-use Rattle.wamp_ids.proofs.Equality.{same_pattern-refl, same_pattern-true}
+use Rattle.wamp_ids.proofs.Lemmas.{same_pattern-refl, same_pattern-true}
 use Rattle.wamp_ids.specs.Pattern.{PatternText, same_pattern}
 use Rattle.subscription_index.specs.Index.{Row, IsStrictlyAscending, keys}
 use Rattle.subscription_index.specs.Members.{has_row, rows_of, has_named, same_named, IsBelowAll, AscendsByNumber}
-use Rattle.subscription_index.proofs.Holders.{has_named-rows_of, ascends-rows_of, named_decide}
+use Rattle.subscription_index.proofs.Lemmas.{has_named-rows_of, ascends-rows_of, named_decide}
 use Rattle.realm.specs.Subscriptions.{held_among, number_among, numbered}
 
 -- numbers ascend

@@ -6,7 +6,7 @@ use Rattle.std.specs.List.{filter}
 use Rattle.message_tree.specs.Data.{Entries}
 use Rattle.wamp_ids.specs.Pattern.{PatternText, matches}
 use Rattle.retained.specs.Store.{last_of_each, by_topic, put_by_topic, is_before}
-use Rattle.retained.proofs.StoreLemmas.{last_alone}
+use Rattle.retained.proofs.Lemmas.{last_alone}
 use Rattle.session.specs.Arguments.{Arguments}
 use Rattle.session.specs.declared.messages.said.Said.TheVariants.{Publish}
 use Rattle.session.specs.declared.messages.item.Publication.{Publication}

@@ -3,7 +3,7 @@ use Rattle.std.proofs.Common.{◌≡◌, ℕ, suc, ◌+◌, ◌≤◌, Bool, tru
 use Rattle.std.specs.declared.result.Result.{Result}
 use Rattle.std.specs.List.{list_any}
 use Rattle.std.proofs.lemmas.Bool.{and_parts, or_cases}
-use Rattle.wamp_ids.proofs.Equality.{same_pattern-refl, same_pattern-true}
+use Rattle.wamp_ids.proofs.Lemmas.{same_pattern-refl, same_pattern-true}
 use Rattle.wamp_ids.specs.Pattern.{PatternText, same_pattern}
 use Rattle.realm.specs.declared.entry.Entry.TheVariants.{Said}
 use Rattle.session.specs.declared.messages.said.Said.TheVariants.{Subscribe, Unsubscribe}

@@ -13,7 +13,7 @@ use Rattle.realm.specs.Grants.{Grants}
 use Rattle.realm.specs.History.{History, begun, ◌▷◌}
 use Rattle.realm.specs.Sessions.{conn_of, who, live, ends, may_come}
 use Rattle.realm.specs.Laws.{BeginsList}
-use Rattle.realm.specs.PostedOrder.{is_join, is_cut_or_closed, posts_of, said_by, AreSome, none, left_out, taken_in, joins_first_alone}
+use Rattle.realm.specs.PostedOrder.{is_join, is_cut_or_closed, posts_of, said_by, AreSome, none, left_out, taken_in, joins_first_alone, Ordered}
 use Rattle.realm.proofs.Conditionals.{some-before, taken-away}
 use Rattle.realm.proofs.LiveSessions.{live-elsewhere}
 
@@ -23,13 +23,6 @@ own c e = cond (eqb (conn_of e) c) (e ∷ []) []
 
 abbrev own_said : ℕ → Entry → List Entry
 own_said c e = cond (eqb (conn_of e) c && not (is_cut_or_closed e)) (e ∷ []) []
-
--- what was taken from the inbox, and what of it entered
-pub record Ordered (h : History) (handled : List Entry) : Type 0 where
-  pub some : (c : ℕ) → AreSome (said_by c h) (posts_of c handled)
-  pub begins : (c : ℕ) → joins_first_alone (posts_of c handled) ≡ true → BeginsList (said_by c h) (posts_of c handled)
-  -- of a live session, all
-  pub all : (c : ℕ) → joins_first_alone (posts_of c handled) ≡ true → live h c ≡ true → said_by c h ≡ posts_of c handled
 
 posts_of-last : (c : ℕ) (es : List Entry) (e : Entry) → posts_of c (es ++ e ∷ []) ≡ posts_of c es ++ own c e
 posts_of-last c es e = filter-append (λ x. eqb (conn_of x) c) es (e ∷ [])

@@ -7,8 +7,7 @@ use Rattle.std.specs.Result.{result_ok}
 use Rattle.std.proofs.lemmas.Bool.{eqb-true}
 use Rattle.std.proofs.Math.Bool.{and-true, and-false}
 use Rattle.wamp_ids.specs.Numbers.{seat_of, id_of_word}
-use Rattle.subscription_index.proofs.Members.{has_row-left}
-use Rattle.subscription_index.proofs.IndexLemmas.{left_over}
+use Rattle.subscription_index.proofs.Lemmas.{has_row-left, left_over}
 use Rattle.retained.specs.Store.{retained_of}
 use Rattle.eligibility.specs.declared.who.Who.{Who}
 use Rattle.session.specs.declared.messages.item.Reason.{Reason}

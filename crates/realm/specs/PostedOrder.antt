@@ -1,10 +1,11 @@
 -- What was posted, and what of it entered the history, in which order.
-use Rattle.std.specs.Prelude.{ℕ, Bool, true, false, cond, not, ◌==◌, ◌&&◌, List, [], ◌∷◌, ◌++◌}
+use Rattle.std.specs.Prelude.{◌≡◌, ℕ, Bool, true, false, cond, not, ◌==◌, ◌&&◌, List, [], ◌∷◌, ◌++◌}
 use Rattle.std.specs.List.{list_any, filter}
 use Rattle.realm.specs.declared.entry.Entry.{Entry}
 use Rattle.realm.specs.declared.entry.Entry.TheVariants.{Join, Closed, Cut}
 use Rattle.realm.specs.History.{History, begun, ◌▷◌}
-use Rattle.realm.specs.Sessions.{conn_of}
+use Rattle.realm.specs.Sessions.{conn_of, live}
+use Rattle.realm.specs.Laws.{BeginsList}
 
 abbrev pub is_join : Entry → Bool
 is_join (Join c word authid) = true
@@ -35,3 +36,10 @@ pub data AreSome : List Entry → List Entry → Type 0 where
 abbrev pub joins_first_alone : List Entry → Bool
 joins_first_alone [] = true
 joins_first_alone (e ∷ es) = is_join e && not (list_any is_join es)
+
+-- what was taken from the inbox, and what of it entered
+pub record Ordered (h : History) (handled : List Entry) : Type 0 where
+  pub some : (c : ℕ) → AreSome (said_by c h) (posts_of c handled)
+  pub begins : (c : ℕ) → joins_first_alone (posts_of c handled) ≡ true → BeginsList (said_by c h) (posts_of c handled)
+  -- of a live session, all
+  pub all : (c : ℕ) → joins_first_alone (posts_of c handled) ≡ true → live h c ≡ true → said_by c h ≡ posts_of c handled

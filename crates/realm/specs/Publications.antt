@@ -1,7 +1,6 @@
 -- Which PUBLISHes are accepted, whom a publication admits, and what is retained.
 -- (WAMP, "Publishing and Events", "Subscriber Black- and Whitelisting", "Publisher Exclusion", "Event Retention".)
-use Rattle.std.specs.Prelude.{ℕ, Bool, cond, not, ◌&&◌, ◌||◌, List, [], ◌∷◌, ◌++◌}
-use Rattle.std.specs.Prelude.{None, Some, Ok, Err}
+use Rattle.std.specs.Prelude.{ℕ, Bool, cond, not, ◌&&◌, ◌||◌, List, [], ◌∷◌, ◌++◌, None, Some, Ok, Err}
 use Rattle.std.specs.declared.option.Option.{Option}
 use Rattle.std.specs.declared.result.Result.{Result}
 use Rattle.message_tree.specs.Data.{Entries}

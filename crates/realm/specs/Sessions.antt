@@ -1,6 +1,5 @@
 -- Who is live, and which Joins are accepted. (WAMP, "Session Establishment", "Session Closing", "Aborting a Session".)
-use Rattle.std.specs.Prelude.{ℕ, Bool, true, false, cond, ◌==◌, ◌&&◌, ◌||◌, not, nat_lt, ◌≡◌, ⊤, List, [], ◌∷◌, codes, is_some}
-use Rattle.std.specs.Prelude.{None, Some, Ok, Err}
+use Rattle.std.specs.Prelude.{ℕ, Bool, true, false, cond, ◌==◌, ◌&&◌, ◌||◌, not, nat_lt, ◌≡◌, ⊤, List, [], ◌∷◌, codes, is_some, None, Some, Ok, Err}
 use Rattle.std.specs.declared.option.Option.{Option}
 use Rattle.std.specs.declared.result.Result.{Result}
 use Rattle.std.specs.Result.{result_ok}

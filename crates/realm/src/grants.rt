@@ -29,7 +29,8 @@ impl Model for Grants {
 
     ghost view = { λ g. pairs_of g.given.value.items };
 
-    ghost invariant = { λ g. (name : List ℕ) → get_by_text g.roles name ≡ role_in (pairs_of g.given.value.items) name };
+    ghost invariant = { λ g. (name : List ℕ)
+        → get_by_text g.roles name ≡ role_in (pairs_of g.given.value.items) name };
 }
 
 impl Grants {

@@ -1,6 +1,8 @@
 //! What holds of every history, by the definitions alone. These functions do nothing: each is there
 //! for its contract.
+ghost use Rattle.realm.specs.DueEvents.{DueEventsAreGiven, EventsAreDue};
 ghost use Rattle.realm.specs.Laws.{AnnouncementsAreTrue, ArrivalsAreTold, DeparturesAreTold, EachSubscriptionOnce, EmptyEligibleReachesNobody, EventsAreAdmitted, EventsFollowSubscribed, EventsWhileSubscribed, ExcludedIsNotReached, GivenOnce, LastIsRetained, LeaverIsNotTold, NothingAfterAnEnding, NumbersNameOnePattern, OwedOnlyGrows, PublishedUnderItsWord, RetainedWasSent};
+ghost use Rattle.realm.specs.PublisherOrder.{PublishersAreOwn, PublishersKeepOrder};
 
 /// A history that begins another owes each connection a list that begins what the other owes it.
 pub fn owed_only_grows()
@@ -76,4 +78,24 @@ pub fn events_are_admitted()
 pub fn last_is_retained()
     ensures last { LastIsRetained }
     ensures sent { RetainedWasSent }
+{}
+
+/// Each EVENT that an entry gives a session is of what that entry publishes, or of what is retained
+/// where it is a SUBSCRIBE that asks for it; the session holds a matching pattern by the EVENT's
+/// number, and is admitted.
+pub fn events_are_due()
+    ensures { EventsAreDue }
+{}
+
+/// Of what an entry publishes a session gets the EVENT of each matching pattern that it holds, once,
+/// if it is admitted; and so of what is retained, where it asks for that.
+pub fn due_events_are_given()
+    ensures { DueEventsAreGiven }
+{}
+
+/// What a session publishes, and that it has come or gone, reaches each other session in the order
+/// in which it was published, over all topics.
+pub fn publishers_keep_order()
+    ensures own { PublishersAreOwn }
+    ensures order { PublishersKeepOrder }
 {}

@@ -11,7 +11,7 @@ use crate::fault::Fault;
 use crate::state::State;
 use message_tree::{Content, Dict, Shared, Text, Tree};
 use session::{Args, CarriedArgs, Lists, Publication, Who};
-use std::alloc::Global;
+use std::alloc::{AllocError, Global};
 use wamp_ids::{Id, Topic};
 
 /// The topic of this text, which is one.
@@ -55,14 +55,11 @@ fn listed(items: Vec<Tree>) -> CarriedArgs
 }
 
 /// Sets one key.
-fn set(alloc: Global, dict: &mut Dict, key: &str, value: Tree) -> Result<(), Fault>
+fn set(alloc: Global, dict: &mut Dict, key: &str, value: Tree) -> Result<(), AllocError>
     ensures { OnOk result (dict_view dict.new ≡ put key.now (view value) (dict_view dict.old)) }
 {
     let key = String::from_str(alloc, key)?;
-    match dict.set(alloc, key, value) {
-        Ok(()) => Ok(()),
-        Err(_) => Err(Fault::NoMemory),
-    }
+    dict.set(alloc, key, value)
 }
 
 /// The arguments of what is published where a session joins.

@@ -220,7 +220,8 @@ pub fn publish(alloc: Global, state: &mut State, asked: PublishRequest) -> Resul
     requires { is_some (session_of state.old.sessions asked.conn) ≡ true }
     ensures ok { IfOk result (λ given. (w : Who) → session_of state.old.sessions asked.conn ≡ Some w
         → IsPublished state.old asked.conn asked.request (acknowledge_of asked.options)
-        (published_by (has_room state.old.store asked.topic) asked.word w asked.topic asked.args (publish_options_of asked.options)) state.new given.items) }
+        (published_by (has_room state.old.store asked.topic) asked.word w asked.topic asked.args
+        (publish_options_of asked.options)) state.new given.items) }
     ensures unchanged { OnErr result (state.new ≡ state.old) }
 {
     let PublishRequest {

@@ -56,7 +56,8 @@ impl Model for Realm {
 
     ghost use Rattle.std.specs.Prelude.{◌+◌, ◌≤◌, length, vec_capacity};
 
-    ghost invariant = { λ r. Agrees (history_after (begun r.state.grants) (map (λ s. s.value) r.past.items)) r.state
+    ghost invariant = { λ r.
+        Agrees (history_after (begun r.state.grants) (map (λ s. s.value) r.past.items)) r.state
         × (length r.past.items + length r.state.sessions ≤ vec_capacity r.past) };
 }
 

@@ -154,8 +154,11 @@ pub fn subscribe(
     asked: &SubscribeRequest<'_>,
 ) -> Result<Given, Fault>
     requires { is_some (session_of state.old.sessions asked.now.conn) ≡ true }
-    ensures ok { IfOk result (λ given. (w : Who) → session_of state.old.sessions asked.now.conn ≡ Some w
-        → IsSubscribed state.old asked.now.conn asked.now.request (get_retained_of asked.now.options.now) w (pattern_of asked.now.options.now asked.now.topic.now) state.new given.items) }
+    ensures ok { IfOk result (λ given. (w : Who)
+        → session_of state.old.sessions asked.now.conn ≡ Some w
+        → IsSubscribed state.old asked.now.conn asked.now.request
+        (get_retained_of asked.now.options.now) w (pattern_of asked.now.options.now
+        asked.now.topic.now) state.new given.items) }
     ensures unchanged { OnErr result (state.new ≡ state.old) }
 {
     let pattern = match pattern_of(alloc, asked.options, asked.topic)? {

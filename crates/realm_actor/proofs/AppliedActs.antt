@@ -1,5 +1,5 @@
 -- An act was applied, or lost.
-use Rattle.std.proofs.Common.{◌≤◌, length, ◌≡◌, ℕ, true, false, cond, not, List, [], ◌∷◌, ◌++◌, refl, sym, ap, ◌∙◌, subst, append_assoc}
+use Rattle.std.proofs.Common.{length, ◌≡◌, ℕ, Bool, true, false, cond, not, List, [], ◌∷◌, ◌++◌, refl, sym, ap, ◌∙◌, subst, append_assoc}
 use Rattle.realm.specs.declared.entry.Entry.{Entry}
 use Rattle.realm.specs.declared.entry.Entry.TheVariants as entry
 use Rattle.std.specs.Prelude.{Some}
@@ -7,7 +7,7 @@ use Rattle.std.proofs.lemmas.Bool.{true≢false, false_from_ne_true}
 use Rattle.std.specs.List.{insert}
 use Rattle.realm.specs.History.{History, ◌▷◌}
 use Rattle.realm.specs.Sessions.{conn_of, live, may_come, may_join}
-use Rattle.realm.proofs.LiveSessions.{live-joined}
+use Rattle.realm.proofs.Lemmas.{live-joined}
 use Rattle.realm_actor.proofs.EntryLemmas.{not_joined}
 use Rattle.realm_inbox.specs.declared.joining.Joining.{Joining}
 use Rattle.realm_actor.specs.Rows.{box_in}
@@ -89,8 +89,26 @@ module _ {S : Type 0} (c : ℕ) (act : Act S) (h l : History) (rows news : List 
     words = a.2 ∙ ap (λ s. s ++ a.0) begun ∙ append_assoc before (w ∷ []) a.0 ∙ ap (λ b. before ++ cond b (w ∷ a.0) a.0) (sym told);
   }
 
-module _ {S : Type 0} (c : ℕ) (h l : History) (rows news : List (Row S)) (before after : List ℕ) where
-  pub loses_by : (lost : List ℕ) (start : List ℕ) → start ≡ before ++ lost → length lost ≤ 1 → (word : ℕ) × (drawn : List ℕ) × (e : Entry) × (marked : List (Row S)) × IsCutOf c word e × EachMarked c rows marked × Accepted h marked e drawn l news × (after ≡ start ++ word ∷ drawn) → Loses c h rows before l news after
+-- no word is lost with an act that draws none, and one with an act that does
+quiet_lost : (b : Bool) (n : ℕ) → n ≡ 0 → b ≡ false → n ≡ cond b 1 0
+quiet_lost true n none is = absurd (true≢false is)
+quiet_lost false n none is = none
+
+told_lost : (b : Bool) (n : ℕ) → n ≡ 1 → b ≡ true → n ≡ cond b 1 0
+told_lost true n one is = one
+told_lost false n one is = absurd (true≢false (sym is))
+
+module _ {S : Type 0} (act : Act S) where
+  pub none_lost : (lost : List ℕ) → lost ≡ [] → draws act ≡ false → length lost ≡ cond (draws act) 1 0
+  none_lost lost none quiet = quiet_lost (draws act) (length lost) (ap length none) quiet
+
+  pub one_lost : (word : ℕ) → draws act ≡ true → length (word ∷ []) ≡ cond (draws act) 1 0
+  one_lost word told = told_lost (draws act) 1 refl told
+
+module _ {S : Type 0} (c : ℕ) (act : Act S) (h l : History) (rows news : List (Row S)) (before after : List ℕ) where
+  pub loses_by : (lost : List ℕ) (start : List ℕ) → start ≡ before ++ lost → length lost ≡ cond (draws act) 1 0
+      → (word : ℕ) × (drawn : List ℕ) × (e : Entry) × (marked : List (Row S)) × IsCutOf c word e × EachMarked c rows marked × Accepted h marked e drawn l news × (after ≡ start ++ word ∷ drawn)
+      → Loses act c h rows before l news after
   loses_by lost start is few b = cut lost b.0 b.1 b.2 b.3 few b.4 b.5 b.6 (b.7 ∙ ap (λ s. s ++ b.0 ∷ b.1) is)
 
 -- a Join
@@ -99,19 +117,19 @@ pub not_live_yet : (h : History) (c : ℕ) → may_join h c ≡ true → live h 
 not_live_yet h c may = false_from_ne_true (live h c) (λ is. not_joined h c may (live-joined h c is))
 
 module _ {S : Type 0} (c : ℕ) (h : History) where
-  pub loses_early : (l : History) (olds news : List (Row S)) (before after : List ℕ) → may_join h c ≡ true → l ≡ h → news ≡ olds → after ≡ before
-      → Loses c h olds before l news after
-  loses_early l olds news before after may history same words =
-      let first : Loses c h olds before h olds before = nothing_drawn (not_live_yet h c may) in
-      subst (λ k. Loses c h olds before k news after) (sym history)
-      (subst (λ x. Loses c h olds before h x after) (sym same) (subst (λ x. Loses c h olds before h olds x) (sym words) first))
+  pub loses_early : (joining : Joining S) (l : History) (olds news : List (Row S)) (before after : List ℕ) → may_join h c ≡ true → l ≡ h → news ≡ olds → after ≡ before
+      → Loses (Join joining) c h olds before l news after
+  loses_early joining l olds news before after may history same words =
+      let first : Loses (Join joining) c h olds before h olds before = nothing_drawn (not_live_yet h c may) in
+      subst (λ k. Loses (Join joining) c h olds before k news after) (sym history)
+      (subst (λ x. Loses (Join joining) c h olds before h x after) (sym same) (subst (λ x. Loses (Join joining) c h olds before h olds x) (sym words) first))
 
-  pub loses_join : (l : History) (olds news : List (Row S)) (before after : List ℕ) (word : ℕ) → may_join h c ≡ true → l ≡ h → news ≡ olds → after ≡ before ++ word ∷ []
-      → Loses c h olds before l news after
-  loses_join l olds news before after word may history same words =
-      let first : Loses c h olds before h olds (before ++ word ∷ []) = not_live (word ∷ []) (not_live_yet h c may) refl in
-      subst (λ k. Loses c h olds before k news after) (sym history)
-      (subst (λ x. Loses c h olds before h x after) (sym same) (subst (λ x. Loses c h olds before h olds x) (sym words) first))
+  pub loses_join : (joining : Joining S) (l : History) (olds news : List (Row S)) (before after : List ℕ) (word : ℕ) → may_join h c ≡ true → l ≡ h → news ≡ olds → after ≡ before ++ word ∷ []
+      → Loses (Join joining) c h olds before l news after
+  loses_join joining l olds news before after word may history same words =
+      let first : Loses (Join joining) c h olds before h olds (before ++ word ∷ []) = not_live (word ∷ []) (not_live_yet h c may) refl refl in
+      subst (λ k. Loses (Join joining) c h olds before k news after) (sym history)
+      (subst (λ x. Loses (Join joining) c h olds before h x after) (sym same) (subst (λ x. Loses (Join joining) c h olds before h olds x) (sym words) first))
 
   pub applies_join : (joining : Joining S) (k l : History) (olds held mid news : List (Row S)) (row : Row S) (place : ℕ) (before start after drawn : List ℕ) (word : ℕ)
       → held ≡ olds → EachWent (insert held place row) mid → k ≡ h ▷ entry.Join c word joining.authid → Sound k mid → Cuts k mid drawn l news → NoneFull news

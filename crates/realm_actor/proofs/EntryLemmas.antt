@@ -11,9 +11,7 @@ use Rattle.realm.specs.History.{History, ◌▷◌, Begins, longer}
 use Rattle.realm.specs.Sessions.{who, live, joined, conn_of, may_join, may_come}
 use Rattle.realm.specs.Yield.{yield}
 use Rattle.realm.specs.Given.{items_for, GivesExactly}
-use Rattle.realm.proofs.NothingAfterAnEnding.{no_events, no_more}
-use Rattle.realm.proofs.LiveSessions.{live-joined, live-elsewhere}
-use Rattle.realm.proofs.Conditionals.{clash, not-some}
+use Rattle.realm.proofs.Lemmas.{no_events, no_more, live-joined, live-elsewhere, clash, not-some}
 use Rattle.realm_actor.specs.declared.row.Held.{Held}
 use Rattle.realm_actor.specs.declared.row.Row.{Row}
 use Rattle.realm_actor.specs.OutboxHistory.{Box, Follows}
@@ -68,6 +66,7 @@ Follows-entry h e xs o c own is f is_open =
     record {
       begins = (f.begins.0 ++ yield h e o.conn, sym (append_assoc o.added f.begins.0 (yield h e o.conn)) ∙ ap (λ l. l ++ yield h e o.conn) f.begins.1);
       whole = λ never. ap (λ l. o.added ++ l) y ∙ ap (λ l. l ++ yield h e o.conn) (sym (append-nil o.added) ∙ f.whole never);
+      stood = f.stood;
       seen = seen_longer h e o.history f.seen;
       closed = λ shut. is ∙ quiet h e c (not-true (live h c || eqb (conn_of e) c) (sym is_open ∙ shut));
     }
@@ -130,7 +129,7 @@ open_ends lb la shut (Some o) (Some m) (Some p) is is_open g e =
 follows_ends : (h : History) (shut : Bool) (m p : Option Box) → BoxEnds shut m p → MatchOption m ⊤ (λ o. Follows h [] o) → MatchOption p ⊤ (λ o. Follows h [] o)
 follows_ends h shut m None e f = tt
 follows_ends h shut None (Some p) e f = absurd e
-follows_ends h shut (Some m) (Some p) e f = subst (λ q. Follows h [] q) (sym e) (record { begins = f.begins; whole = f.whole; seen = f.seen; closed = λ _. refl })
+follows_ends h shut (Some m) (Some p) e f = subst (λ q. Follows h [] q) (sym e) (record { begins = f.begins; whole = f.whole; stood = f.stood; seen = f.seen; closed = λ _. refl })
 
 module _ {S : Type 0} where
   to_box : (h : History) (r : Row S) → RowDue h [] r → MatchOption (box_in r) ⊤ (λ o. Follows h [] o)

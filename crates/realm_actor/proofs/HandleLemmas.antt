@@ -41,8 +41,8 @@ module _ {S : Type 0} where
     pub of : (d : ℕ) → is_in d lost ≡ true → c ≡ d
     pub cut : live h c ≡ true → is_in c lost ≡ true
 
-  pub loses_moved : {c : ℕ} {h l : History} {olds news : List (Row S)} {before after : List ℕ} → Loses c h olds before l news after → Lost c h olds news
-  loses_moved (not_live {c} {h} {rows} lost dead few) = record { lost = []; moved = moved_went rows rows (EachWent-same rows); of = λ d e. absurd (cc e); cut = λ is. absurd (cc) }
+  pub loses_moved : {act : Act S} {c : ℕ} {h l : History} {olds news : List (Row S)} {before after : List ℕ} → Loses act c h olds before l news after → Lost c h olds news
+  loses_moved (not_live {c} {h} {rows} lost dead told few) = record { lost = []; moved = moved_went rows rows (EachWent-same rows); of = λ d e. absurd (cc e); cut = λ is. absurd (cc) }
   loses_moved (nothing_drawn {c} {h} {rows} dead) = record { lost = []; moved = moved_went rows rows (EachWent-same rows); of = λ d e. absurd (cc e); cut = λ is. absurd (cc) }
   loses_moved (cut {c} {h} {l} {rows} {news} lost word drawn e marked few is marks accepted words) = record {
     lost = c ∷ [];
@@ -51,8 +51,8 @@ module _ {S : Type 0} where
     cut = λ _. or_left (eqb c c) false (eq-eqb c c refl);
   }
 
-  loses_none : {c : ℕ} {h l : History} {olds news : List (Row S)} {before after : List ℕ} → Loses c h olds before l news after → NoneFull olds → NoneFull news
-  loses_none (not_live lost dead few) n = n
+  loses_none : {act : Act S} {c : ℕ} {h l : History} {olds news : List (Row S)} {before after : List ℕ} → Loses act c h olds before l news after → NoneFull olds → NoneFull news
+  loses_none (not_live lost dead told few) n = n
   loses_none (nothing_drawn dead) n = n
   loses_none (cut lost word drawn e marked few is marks accepted words) n = accepted.none_full
 
@@ -253,7 +253,7 @@ module _ {S : Type 0} where
 
   pub as_many : (result : Outcome) (same dropped : Type 0) (c : ℕ) (act : Act S) (h l : History) (olds ends : List (Row S)) (before after : List ℕ) → (same → ends ≡ olds)
       → ((joining : Joining S) → act ≡ Join joining → ⊥)
-      → MatchOutcome result (Applies c act h olds before l ends after) (same × dropped) (Loses c h olds before l ends after) → length ends ≡ length olds
+      → MatchOutcome result (Applies c act h olds before l ends after) (same × dropped) (Loses act c h olds before l ends after) → length ends ≡ length olds
   as_many Applied same dropped c act h l olds ends before after to other a = (accepted_went h l (entry_of c act a.word) a.rows ends a.drawn a.accepted).0 ∙ ap length (kept_rows c act olds a.rows other a.brought)
   as_many Dropped same dropped c act h l olds ends before after to other a = ap length (to a.0)
   as_many NoMemory same dropped c act h l olds ends before after to other a = (loses_moved a).moved.0

@@ -8,9 +8,8 @@ use Rattle.realm.specs.declared.entry.Entry.TheVariants as entry
 use Rattle.realm.specs.Grants.{Grants}
 use Rattle.realm.specs.History.{History, begun, ◌▷◌}
 use Rattle.realm.specs.Sessions.{conn_of, who, live, may_come, may_join}
-use Rattle.realm.specs.PostedOrder.{posts_of, said_by, AreSome}
-use Rattle.realm.proofs.PostedOrder.{Ordered, order-begun, order-accepted, order-dropped, order-lost, order-lost-cut, order-cut, some-more, joins-before, said-kept}
-use Rattle.realm.proofs.Conditionals.{some-before}
+use Rattle.realm.specs.PostedOrder.{posts_of, said_by, AreSome, Ordered}
+use Rattle.realm.proofs.Lemmas.{order-begun, order-accepted, order-dropped, order-lost, order-lost-cut, order-cut, some-more, joins-before, said-kept, some-before}
 use Rattle.realm_inbox.specs.declared.act.Act as the
 use Rattle.realm_inbox.specs.declared.act.Act.TheVariants.{Join, Said, Ping, Spoilt, Gone}
 use Rattle.realm_inbox.specs.declared.letter.Letter.{Letter}
@@ -22,7 +21,7 @@ use Rattle.realm_actor.specs.HistoryGrowth.{AfterCuts, AfterClosing, Makes, appl
 use Rattle.realm_actor.specs.HistoryGrowth as making
 use Rattle.realm_actor.specs.PostedOrder.{acts_of, acts_for, AreEntries, KeepsOrder, HandledKeepsOrder, HistoryKeepsOrder}
 use Rattle.realm_actor.specs.PostedOrder as of
-use Rattle.realm_inbox.proofs.StepEffects.{begins_posted}
+use Rattle.realm_inbox.proofs.Lemmas.{begins_posted}
 
 flip : (a b : Bool) → not a ≡ b → a ≡ not b
 flip true true e = absurd (true≢false (sym e))

@@ -18,3 +18,5 @@ pub mod RunHistory
 pub mod LiveThroughRun
 pub mod HistoryKeepsOrder
 pub mod RunKeepsOrder
+pub mod MadeHistory
+pub mod Lemmas

@@ -5,7 +5,7 @@ use Rattle.std.proofs.lemmas.Bool.{eqb-true}
 use Rattle.eligibility.specs.declared.who.Who.{Who}
 use Rattle.realm.specs.History.{History, ◌▷◌}
 use Rattle.realm.specs.Sessions.{who, live, ends}
-use Rattle.realm.proofs.Conditionals.{clash, some-before, none-since}
+use Rattle.realm.proofs.Lemmas.{clash, some-before, none-since}
 use Rattle.realm_inbox.specs.declared.joining.Joining.{Joining}
 use Rattle.realm_inbox.specs.declared.act.Act as the
 use Rattle.realm_inbox.specs.declared.act.Act.TheVariants.{Join, Said, Ping, Spoilt, Gone}
@@ -64,8 +64,8 @@ module _ {S : Type 0} where
   entry_live h d Spoilt word c dead is = clash (live h c) (some-before (ends (entry_of {S = S} d Spoilt word) c) (who h c) is) dead
   entry_live h d Gone word c dead is = clash (live h c) (some-before (ends (entry_of {S = S} d Gone word) c) (who h c) is) dead
 
-  loses_dead : {d : ℕ} {h l : History} {rows news : List (Row S)} {before after : List ℕ} (c : ℕ) → Loses d h rows before l news after → live h c ≡ false → live l c ≡ false
-  loses_dead c (handling.Loses.not_live lost gone few) dead = dead
+  loses_dead : {act : the.Act S} {d : ℕ} {h l : History} {rows news : List (Row S)} {before after : List ℕ} (c : ℕ) → Loses act d h rows before l news after → live h c ≡ false → live l c ≡ false
+  loses_dead c (handling.Loses.not_live lost gone told few) dead = dead
   loses_dead c (handling.Loses.nothing_drawn gone) dead = dead
   loses_dead {d = d} {h = h} c (handling.Loses.cut lost word drawn e marked few is marks accepted words) dead = cuts_dead c accepted.cuts (still_dead h word d e is c dead)
 

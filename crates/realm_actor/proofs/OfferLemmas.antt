@@ -1,7 +1,6 @@
 -- One item is offered to an outbox.
 use Rattle.std.proofs.Common.{◌≡◌, ◌+◌, ◌<◌, List, [], ◌∷◌, ◌++◌, length, refl, sym, ap, subst, ◌∙◌, append_assoc, arith}
-use Rattle.std.specs.Prelude.{slice_get, Some, Result, Ok, Err, MatchResult, false}
-use Rattle.std.specs.Result.{is_err}
+use Rattle.std.specs.Prelude.{slice_get, Some}
 use Rattle.outbox_queue.specs.declared.owed.Note.{Note}
 use Rattle.session.specs.declared.messages.item.Item.{Item}
 use Rattle.realm.specs.History.{History}
@@ -22,14 +21,14 @@ pub Follows-added : (h : History) (x : Item) (due : List Item) (o : Box) → Fol
     → Follows h due (record o { history = Some h; added = o.added ++ x ∷ [] })
 Follows-added h x due o f never =
     let all : (o.added ++ x ∷ []) ++ due ≡ owed h o.conn = append_assoc o.added (x ∷ []) due ∙ f.whole never in
-    record { begins = (due, all); whole = λ _. all; seen = begins_same h; closed = λ shut. absurd (cc (f.closed shut)) }
+    record { begins = (due, all); whole = λ _. all; stood = λ full. absurd (omega (arith, full, never)); seen = begins_same h; closed = λ shut. absurd (cc (f.closed shut)) }
 
 -- the outbox was found full, now or before
 pub Follows-full : (h : History) (x : Item) (due : List Item) (o : Box) → Follows h (x ∷ due) o → 0 < o.full_finds → Follows h due o
-Follows-full h x due o f full = record { begins = f.begins; whole = λ never. absurd (omega (arith, full, never)); seen = f.seen; closed = λ shut. absurd (cc (f.closed shut)) }
+Follows-full h x due o f full = record { begins = f.begins; whole = λ never. absurd (omega (arith, full, never)); stood = f.stood; seen = f.seen; closed = λ shut. absurd (cc (f.closed shut)) }
 
-pub Follows-refused : (h : History) (x : Item) (due : List Item) (o : Box) → Follows h (x ∷ due) o → Follows h due (record o { full_finds = o.full_finds + 1 })
-Follows-refused h x due o f = record { begins = f.begins; whole = λ never. absurd (omega (arith, never)); seen = f.seen; closed = λ shut. absurd (cc (f.closed shut)) }
+pub Follows-refused : (h : History) (x : Item) (due : List Item) (o : Box) → Follows h (x ∷ due) o → Follows h due (record o { full_finds = o.full_finds + 1; added_at_find = length o.added })
+Follows-refused h x due o f = record { begins = f.begins; whole = λ never. absurd (omega (arith, never)); stood = λ _. refl; seen = f.seen; closed = λ shut. absurd (cc (f.closed shut)) }
 
 -- the same of a stamped item, as the outbox tells it
 pub Follows-stamped : (h : History) (x : Item) (due : List Item) (o p : Box) (s : Note Item History)
@@ -39,7 +38,3 @@ pub Follows-stamped : (h : History) (x : Item) (due : List Item) (o p : Box) (s 
 Follows-stamped h x due o p s stamp is never f =
     let told : p ≡ record o { history = Some h; added = o.added ++ x ∷ [] } = is ∙ ap (λ (t : Note Item History). let q : Box = record o { history = Some t.history; added = o.added ++ t.item ∷ [] } in q) stamp in
     subst (λ q. Follows h due q) (sym told) (Follows-added h x due o f never)
-
-pub ok_part : {T E : Type 0} (r : Result T E) (P : T → Type 0) (Q : E → Type 0) → is_err r ≡ false → MatchResult r P Q → (x : T) × P x
-ok_part (Ok x) P Q is m = (x, m)
-ok_part (Err e) P Q is m = absurd (cc)

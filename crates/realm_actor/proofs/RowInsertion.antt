@@ -9,7 +9,7 @@ use Rattle.outbox_queue.specs.Rule.{Grows}
 use Rattle.realm.specs.History.{History, begun, ◌▷◌, Begins}
 use Rattle.realm.specs.Sessions.{live, conn_of, may_join, IsHistory}
 use Rattle.realm.specs.Yield.{owed, yield}
-use Rattle.realm.proofs.LiveSessions.{live-joined}
+use Rattle.realm.proofs.Lemmas.{live-joined}
 use Rattle.realm_actor.specs.declared.row.Row.{Row}
 use Rattle.realm_actor.specs.OutboxHistory.{Box, Follows}
 use Rattle.realm_actor.specs.Rows.{box_in, RowDue, Each, Ascending, PartsAt}
@@ -61,12 +61,13 @@ never_owed (h ▷ e) c legal n =
     (false_from_ne_true (eqb (conn_of e) c) (λ y. apart (or_right (has_joined h c) (eqb (conn_of e) c) y))) in
     ap (λ l. l ++ yield h e c) (never_owed h c legal.0 (λ y. apart (or_left (has_joined h c) (eqb (conn_of e) c) y))) ∙ quiet h e c dead
 
-new_follows : (h : History) (o : Box) → owed h o.conn ≡ [] → o.added ≡ [] → o.history ≡ None → Follows h [] o
-new_follows h o none empty unseen =
+new_follows : (h : History) (o : Box) → owed h o.conn ≡ [] → o.added ≡ [] → o.history ≡ None → o.full_finds ≡ 0 → Follows h [] o
+new_follows h o none empty unseen never =
     let all : o.added ++ [] ≡ owed h o.conn = ap (λ l. l ++ []) empty ∙ sym none in
     record {
       begins = ([], all);
       whole = λ _. all;
+      stood = λ full. absurd (omega (arith, full, never));
       seen = subst (λ k. Grows Begins k (Some h)) (sym unseen) tt;
       closed = λ _. refl;
     }
@@ -80,7 +81,7 @@ module _ {S : Type 0} where
 
   -- the rows are ready for the Join of a connection that may join, with its new row
   module _ (h : History) (e : Entry) (c : ℕ) (rows : List (Row S)) (i : ℕ) (a : Row S) (o : Box) (own : conn_of e ≡ c) (may : may_join h c ≡ true) (sound : Sound h rows)
-      (parts : PartsAt rows c i) (conn : a.conn ≡ c) (box : box_in a ≡ Some o) (of : o.conn ≡ c) (empty : o.added ≡ []) (unseen : o.history ≡ None) (fresh : o.is_closed ≡ false) where
+      (parts : PartsAt rows c i) (conn : a.conn ≡ c) (box : box_in a ≡ Some o) (of : o.conn ≡ c) (empty : o.added ≡ []) (unseen : o.history ≡ None) (fresh : o.is_closed ≡ false) (never : o.full_finds ≡ 0) where
     longer_rows : List (Row S)
     longer_rows = insert rows i a
 
@@ -123,7 +124,7 @@ module _ {S : Type 0} where
     ready_join = record {
       ascending = ascending_new;
       in_step = each_new (λ r. RowDue h [] r)
-          (of_box h a (subst (λ x. MatchOption x ⊤ (λ y. Follows h [] y)) (sym box) (new_follows h o (ap (owed h) of ∙ never_owed h c sound.legal (not_joined h c may)) empty unseen)))
+          (of_box h a (subst (λ x. MatchOption x ⊤ (λ y. Follows h [] y)) (sym box) (new_follows h o (ap (owed h) of ∙ never_owed h c sound.legal (not_joined h c may)) empty unseen never)))
           sound.in_step;
       is_open = each_new (λ r. IsOpen (live h r.conn || eqb (conn_of e) r.conn) (box_in r)) open_new
           (λ k r get. subst (λ b. IsOpen b (box_in r)) (sym (ap (λ b. live h r.conn || b) (away_test r (other k r get)) ∙ or-false (live h r.conn))) (sound.is_open k r get));

@@ -206,6 +206,7 @@ module _ {S : Type 0} where
         added = m.joins.whole;
         begins = subst (λ d. IsPrefix (drain.taken ++ rest) (owed old.history d)) conn (subst (λ l. IsPrefix l (owed old.history m.outbox.conn)) (sym m.joins.whole) f.begins);
         whole = λ never. m.joins.whole ∙ sym (append-nil m.outbox.added) ∙ f.whole never ∙ ap (owed old.history) conn;
+        stood = λ full. ap length m.joins.whole ∙ f.stood full;
         seen = grows_on drain.seen m.outbox.history (Some old.history) m.joins.seen f.seen;
         gone = ap (λ l. outbox_of l c) e.after ∙ ap (outbox_of (set old.rows e.place e.new)) (sym e.own) ∙ gone_there old.rows e.place e.old e.new e.stands m.conn m.held m.is_cut m.is_lost s.sound.ascending;
         others = λ d n. ap (λ l. outbox_of l d) e.after ∙ others_there old.rows e.place e.old e.new e.stands m.conn m.held m.is_cut m.is_lost d (λ h. n (h ∙ e.own));

@@ -54,8 +54,8 @@ module _ {S : Type 0} where
       (λ (two : _ ≡ entry.Cut c None). subst (λ l. AfterCuts h l) (sym (is ∙ ap (λ e. k ▷ e) two)) (of.AfterCuts.one_more c None (cuts_after so_far)))
       cut
 
-  loses_makes : {c : ℕ} {h l : History} {rows news : List (Row S)} {before after : List ℕ} (letter : Letter S) → letter.conn ≡ c → Loses c h rows before l news after → Makes h (Act letter) l
-  loses_makes {h = h} letter own (handling.Loses.not_live lost dead few) = of.Makes.lost letter (ap (live h) own ∙ dead)
+  loses_makes : {act : the.Act S} {c : ℕ} {h l : History} {rows news : List (Row S)} {before after : List ℕ} (letter : Letter S) → letter.conn ≡ c → Loses act c h rows before l news after → Makes h (Act letter) l
+  loses_makes {h = h} letter own (handling.Loses.not_live lost dead told few) = of.Makes.lost letter (ap (live h) own ∙ dead)
   loses_makes {h = h} letter own (handling.Loses.nothing_drawn dead) = of.Makes.lost letter (ap (live h) own ∙ dead)
   loses_makes {c = c} {h = h} {l = l} letter own (handling.Loses.cut lost word drawn e marked few is marks accepted words) = ⊎_elim
       (λ (one : e ≡ entry.Cut c (Some word)). of.Makes.cut letter (Some word) (subst (λ d. AfterCuts (h ▷ entry.Cut d (Some word)) l) (sym own) (subst (λ f. AfterCuts (h ▷ f) l) one (cuts_after accepted.cuts))))

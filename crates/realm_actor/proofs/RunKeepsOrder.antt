@@ -6,8 +6,8 @@ use Rattle.realm.specs.declared.entry.Entry.TheVariants as entry
 use Rattle.realm.specs.Grants.{Grants}
 use Rattle.realm.specs.History.{History, begun}
 use Rattle.realm.specs.Sessions.{live}
-use Rattle.realm.specs.PostedOrder.{posts_of, said_by, joins_first_alone}
-use Rattle.realm.proofs.PostedOrder.{Ordered, said-kept}
+use Rattle.realm.specs.PostedOrder.{posts_of, said_by, joins_first_alone, Ordered}
+use Rattle.realm.proofs.Lemmas.{said-kept}
 use Rattle.realm_inbox.specs.declared.letter.Post.{Post}
 use Rattle.realm_inbox.specs.declared.letter.Post.TheVariants.{Stop}
 use Rattle.realm_actor.specs.ActorView.{Acting}
@@ -43,7 +43,7 @@ module _ {S : Type 0} where
         either;
   }
 
-  ran_keeps : (grants : Grants) (before : List (Post S)) {a z : Acting S} {came : List (Post S)} → MakesAll (begun grants) before a.history → Ran a came z → (c : ℕ)
+  pub ran_keeps : (grants : Grants) (before : List (Post S)) {a z : Acting S} {came : List (Post S)} → MakesAll (begun grants) before a.history → Ran a came z → (c : ℕ)
       → KeepsOrderSince a.history c (acts_of c (before ++ came)) z.history
   ran_keeps grants before {a = a} all (running.Ran.left {came} {b} {c = z} runs swept) c =
       let kept = kept-begun grants (before ++ came) z.history (makes_on all (ran_makes (running.Ran.left runs swept))) in

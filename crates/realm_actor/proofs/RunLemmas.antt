@@ -7,17 +7,18 @@ use Rattle.realm_inbox.specs.declared.act.Act as the
 use Rattle.realm_inbox.specs.declared.letter.Post.{Post}
 use Rattle.realm_inbox.specs.declared.letter.Post.TheVariants.{Act, Stop}
 use Rattle.realm_inbox.specs.Seats.{seat_of_letter, said, adds_at, at_seat, IsNext, InOrder}
-use Rattle.realm_inbox.proofs.RuleSteps.{at_seat_snoc}
+use Rattle.realm_inbox.proofs.Lemmas.{at_seat_snoc}
 use Rattle.realm_actor.specs.declared.outcome.Outcome.{Outcome}
 use Rattle.realm_actor.specs.ActorView.{Acting}
 use Rattle.realm_actor.specs.Settle.{Sweeps}
 use Rattle.realm_actor.specs.ReceivedAhead.{NoneBehindStop, TakesNext}
 use Rattle.realm_actor.proofs.ReceivedAhead.{in_order_append}
-use Rattle.realm_actor.specs.Run.{Handles, Runs, none, one_more, Ran, left, stopped, is_stop, said_of, stands_at, IsNextOf, SameAtSeats}
+use Rattle.realm_actor.specs.Run.{Handles, Runs, none, one_more, Ran, left, stopped, is_stop, stands_at, IsNextOf, SameAtSeats}
+use Rattle.realm_actor.specs.HistoryGrowth.{said_of}
 
 module _ {S : Type 0} where
   -- the act of a post stands where the post does
-  stands_said : (k : ℕ) (p : Post S) → stands_at k (said_of p) ≡ adds_at k p
+  pub stands_said : (k : ℕ) (p : Post S) → stands_at k (said_of p) ≡ adds_at k p
   stands_said k (Act l) = refl
   stands_said k Stop = refl
 

@@ -7,7 +7,7 @@ use Rattle.realm.specs.declared.entry.Entry.{Entry}
 use Rattle.realm.specs.declared.entry.Entry.TheVariants.{Cut, Closed}
 use Rattle.realm.specs.History.{History, ◌▷◌}
 use Rattle.realm.specs.Sessions.{who, live}
-use Rattle.realm.proofs.Conditionals.{clash, none-since, taken-away}
+use Rattle.realm.proofs.Lemmas.{clash, none-since, taken-away}
 use Rattle.realm_actor.specs.declared.row.Row.{Row}
 use Rattle.realm_actor.specs.declared.outcome.Outcome.{Outcome}
 use Rattle.realm_actor.specs.declared.outcome.Outcome.TheVariants.{Applied, NoMemory}

@@ -7,8 +7,7 @@ use Rattle.std.proofs.Math.Bool.{or-false}
 use Rattle.realm.specs.declared.entry.Entry.{Entry}
 use Rattle.realm.specs.History.{History, ◌▷◌}
 use Rattle.realm.specs.Sessions.{live, conn_of}
-use Rattle.realm.proofs.Conditionals.{clash}
-use Rattle.realm.proofs.LiveSessions.{live-elsewhere}
+use Rattle.realm.proofs.Lemmas.{clash, live-elsewhere}
 use Rattle.realm_actor.specs.declared.row.Row.{Row}
 use Rattle.realm_actor.specs.declared.table.Table.{Table}
 use Rattle.realm_actor.specs.OutboxHistory.{Box}

@@ -1,5 +1,5 @@
 -- What a post does: which entry it is, whether it is dropped, and whose row comes.
-use Rattle.std.specs.Prelude.{◌≤◌, ◌≡◌, ℕ, Bool, true, false, not, cond, List, ◌∷◌, ◌++◌, Some, slice_get, length}
+use Rattle.std.specs.Prelude.{◌≡◌, ℕ, Bool, true, false, not, cond, List, ◌∷◌, ◌++◌, Some, slice_get, length}
 use Rattle.std.specs.List.{insert}
 use Rattle.realm.specs.declared.entry.Entry.{Entry}
 use Rattle.realm.specs.declared.entry.Entry.TheVariants as entry
@@ -76,14 +76,15 @@ module _ {S : Type 0} where
     pub accepted : Accepted h rows (entry_of c act word) drawn l news
     pub words : after ≡ before ++ cond (draws act) (word ∷ drawn) drawn
 
-  -- for want of memory the session of c is cut instead, if it is live, and then who is found full; the words before, perhaps
-  -- one that is lost, and those of the Cuts
-  pub data Loses : ℕ → History → List (Row S) → List ℕ → History → List (Row S) → List ℕ → Type 0 where
+  -- for want of memory the session of c is cut instead of the act, if it is live, and then who is found full; the words before,
+  -- the act's own, which is lost, and those of the Cuts. A word is lost only where the act draws one, and always where c is live
+  pub data Loses (act : Act S) : ℕ → History → List (Row S) → List ℕ → History → List (Row S) → List ℕ → Type 0 where
     not_live : {c : ℕ} {h : History} {rows : List (Row S)} {before : List ℕ} (lost : List ℕ)
-        → live h c ≡ false → length lost ≡ 1 → Loses c h rows before h rows (before ++ lost)
-    nothing_drawn : {c : ℕ} {h : History} {rows : List (Row S)} {before : List ℕ} → live h c ≡ false → Loses c h rows before h rows before
-    cut : {c : ℕ} {h l : History} {rows news : List (Row S)} {before after : List ℕ} (lost : List ℕ) (word : ℕ) (drawn : List ℕ) (e : Entry) (marked : List (Row S)) → length lost ≤ 1
-        → IsCutOf c word e → EachMarked c rows marked → Accepted h marked e drawn l news → after ≡ (before ++ lost) ++ word ∷ drawn → Loses c h rows before l news after
+        → live h c ≡ false → draws act ≡ true → length lost ≡ 1 → Loses act c h rows before h rows (before ++ lost)
+    nothing_drawn : {c : ℕ} {h : History} {rows : List (Row S)} {before : List ℕ} → live h c ≡ false → Loses act c h rows before h rows before
+    cut : {c : ℕ} {h l : History} {rows news : List (Row S)} {before after : List ℕ} (lost : List ℕ) (word : ℕ) (drawn : List ℕ) (e : Entry) (marked : List (Row S))
+        → length lost ≡ cond (draws act) 1 0 → IsCutOf c word e → EachMarked c rows marked → Accepted h marked e drawn l news
+        → after ≡ (before ++ lost) ++ word ∷ drawn → Loses act c h rows before l news after
 
   -- p is o without its marks
   pub record Unmarked (o p : Row S) : Type 0 where
@@ -100,7 +101,7 @@ module _ {S : Type 0} where
   -- what an act of c does, by its outcome
   abbrev pub Acts : Outcome → Type 0 → ℕ → Act S → History → List (Row S) → List ℕ → History → List (Row S) → List ℕ → Type 0
   Acts result same c act h rows before l news after =
-      MatchOutcome result (Applies c act h rows before l news after) (same × (is_dropped h c act ≡ true)) (Loses c h rows before l news after)
+      MatchOutcome result (Applies c act h rows before l news after) (same × (is_dropped h c act ≡ true)) (Loses act c h rows before l news after)
 
 module _ {S : Type 0} where
   -- what the handling of an act of c does, by its outcome, and whom it names: `ends` are the rows with the marks that it made

@@ -1,11 +1,14 @@
 -- What posts make of a history.
 use Rattle.std.specs.Prelude.{◌≡◌, ◌==◌, ◌||◌, ℕ, Bool, true, false, List, [], ◌∷◌, ◌++◌, Option}
 use Rattle.realm.specs.declared.entry.Entry.TheVariants as entry
+use Rattle.realm.specs.Grants.{Grants}
 use Rattle.realm.specs.History.{History, begun, ◌▷◌}
 use Rattle.realm.specs.Sessions.{live}
+use Rattle.realm_inbox.specs.declared.act.Act.{Act}
 use Rattle.realm_inbox.specs.declared.letter.Letter.{Letter}
 use Rattle.realm_inbox.specs.declared.letter.Post.{Post}
 use Rattle.realm_inbox.specs.declared.letter.Post.TheVariants as post
+use Rattle.realm_inbox.specs.Seats.{said}
 use Rattle.realm_actor.specs.Handle.{entry_of, is_dropped}
 
 -- k is h, and then Cuts
@@ -42,3 +45,20 @@ module _ {S : Type 0} where
   pub data MakesAll : History → List (Post S) → History → Type 0 where
     none : {h : History} → MakesAll h [] h
     one_more : {h k l : History} {ps : List (Post S)} (p : Post S) → MakesAll h ps k → Makes k p l → MakesAll h (ps ++ p ∷ []) l
+
+  -- the act of a post, with its connection. A stop is of none
+  abbrev pub said_of : Post S → List (ℕ × Act S)
+  said_of (post.Act l) = said l ∷ []
+  said_of post.Stop = []
+
+  -- the acts of these posts, each with its connection
+  abbrev pub acts_in : List (Post S) → List (ℕ × Act S)
+  acts_in [] = []
+  acts_in (p ∷ ps) = said_of p ++ acts_in ps
+
+  -- the history is what these acts, and stops between them, made of it from the beginning on
+  pub record IsMade (h : History) (acts : List (ℕ × Act S)) : Type 0 where
+    pub grants : Grants
+    pub posts : List (Post S)
+    pub acts_are : acts ≡ acts_in posts
+    pub made : MakesAll (begun grants) posts h

@@ -1,5 +1,6 @@
 -- What an actor keeps between two posts.
-use Rattle.std.specs.Prelude.{◌≡◌, true, false, ◌≤◌, List, length, vec_capacity}
+use Rattle.std.specs.Prelude.{◌≡◌, true, false, ◌≤◌, List, map, length, vec_capacity}
+use Rattle.ghost_state.specs.GhostList.{items_of}
 use Rattle.realm.specs.History.{History}
 use Rattle.realm_actor.specs.declared.row.Row.{Row}
 use Rattle.realm_actor.specs.declared.state.State.{State}
@@ -8,6 +9,8 @@ use Rattle.realm_actor.specs.Rows.{Each}
 use Rattle.realm.specs.Sessions.{live}
 use Rattle.realm_actor.specs.Tables.{Sound}
 use Rattle.realm_actor.specs.Cuts.{NoneFull}
+use Rattle.realm_actor.specs.HistoryGrowth.{IsMade}
+use Rattle.realm_inbox.specs.Seats.{said}
 use Rattle.realm_actor.specs.LastCut.{NoMarks}
 
 -- the rows are in step with the history, nobody who was found full is live, and no row is marked
@@ -19,6 +22,10 @@ pub record Stands {S : Type 0} (h : History) (rows : List (Row S)) : Type 0 wher
 -- there is room to name the connection of each row
 abbrev pub IsRoomy : {S W : Type 0} → State S W → Type 0
 IsRoomy s = length s.table.rows.items ≤ vec_capacity s.last_cut
+
+-- the history is what the acts that were handled made of it, and stops between them
+abbrev pub WasMade : {S W : Type 0} → State S W → Type 0
+WasMade s = IsMade s.table.realm (map said (items_of s.handled))
 
 -- the table's flags are right: where it knows of no mark there is none, and where it knows of no ended session each row's is live
 pub record Knows {S : Type 0} (t : Table S) : Type 0 where

@@ -12,10 +12,12 @@ abbrev pub Box : Type 0
 Box = Sending Item History
 
 -- o follows h, but for the items `due`, which are still to be added: what was added begins what h owes its connection,
--- and with `due` it is all of that, where no step found o full; nothing is due to a closed one
+-- and with `due` it is all of that, where no step found o full; where one did, nothing was added since; nothing is due to a
+-- closed one
 pub record Follows (h : History) (due : List Item) (o : Box) : Type 0 where
   pub begins : IsPrefix o.added (owed h o.conn)
   pub whole : o.full_finds ≡ 0 → o.added ++ due ≡ owed h o.conn
+  pub stood : 0 < o.full_finds → length o.added ≡ o.added_at_find
   pub seen : Grows Begins o.history (Some h)
   pub closed : o.is_closed ≡ true → due ≡ []
 

@@ -7,7 +7,7 @@ use Rattle.realm_inbox.specs.declared.letter.Post.{Post}
 use Rattle.realm_inbox.specs.declared.letter.Post.TheVariants as post
 use Rattle.wamp_ids.specs.Numbers.{seat_of}
 use Rattle.realm_inbox.specs.declared.act.Act.{Act}
-use Rattle.realm_inbox.specs.Seats.{said, seat_of_letter, before, at_seat}
+use Rattle.realm_inbox.specs.Seats.{seat_of_letter, before, at_seat}
 use Rattle.realm_actor.specs.declared.outcome.Outcome.{Outcome}
 use Rattle.realm_actor.specs.declared.outcome.Outcome.TheVariants.{Dropped}
 use Rattle.realm_actor.specs.ActorView.{Acting}
@@ -15,7 +15,7 @@ use Rattle.realm_actor.specs.Handle.{is_dropped, Does}
 use Rattle.realm_actor.specs.Stop.{Stops}
 use Rattle.realm_actor.specs.Settle.{Sweeps}
 use Rattle.realm_actor.specs.LastCut.{outbox_of}
-use Rattle.realm_actor.specs.HistoryGrowth.{was_closed}
+use Rattle.realm_actor.specs.HistoryGrowth.{was_closed, said_of}
 
 module _ {S : Type 0} where
   -- a post is dropped where its act is; a stop never is
@@ -26,11 +26,6 @@ module _ {S : Type 0} where
   abbrev pub DoesPost : Outcome → Post S → Acting S → Acting S → Type 0
   DoesPost result (post.Act l) old new = Does result l.conn l.act old.history old.rows old.words new.history new.rows new.words new.last_cut
   DoesPost result post.Stop old new = Stops result old.history old.rows old.words new.history new.rows new.words new.last_cut
-
-  -- the act of a post, with its connection. A stop is of none
-  abbrev pub said_of : Post S → List (ℕ × Act S)
-  said_of (post.Act l) = said l ∷ []
-  said_of post.Stop = []
 
   -- the acts at the seat k
   abbrev pub stands_at : ℕ → List (ℕ × Act S) → List (ℕ × Act S)

@@ -1,5 +1,5 @@
 -- The end of a session's outbox.
-use Rattle.std.specs.Prelude.{◌≡◌, ◌≢◌, ℕ, true, false, List, ◌++◌, Option, Some, None, slice_get, set}
+use Rattle.std.specs.Prelude.{◌≡◌, ◌≢◌, ◌<◌, ℕ, true, false, List, ◌++◌, length, Option, Some, None, slice_get, set}
 use mathlib.Core.List.{IsPrefix}
 use Rattle.outbox_queue.specs.Ends.{Taking}
 use Rattle.outbox_queue.specs.Rule.{Grows}
@@ -45,14 +45,15 @@ module _ {S : Type 0} where
     pub after : news ≡ set olds place new
 
   -- the outbox of c was put together with its drain: what was taken, followed by the rest, is what was added; it begins what the
-  -- realm's history owes c, and is all of that unless a step found the outbox full; what the drain saw begins the realm's history.
-  -- The outbox is held no longer, and nothing else changed
+  -- realm's history owes c, and is all of that unless a step found the outbox full, since when nothing was added; what the drain
+  -- saw begins the realm's history. The outbox is held no longer, and nothing else changed
   pub record Settles (c : ℕ) (drain : Taking Item History) (rest : List Item) (old new : Acting S) : Type 0 where
     pub outbox : Box
     pub was : outbox_of old.rows c ≡ Some outbox
     pub added : drain.taken ++ rest ≡ outbox.added
     pub begins : IsPrefix (drain.taken ++ rest) (owed old.history c)
     pub whole : outbox.full_finds ≡ 0 → drain.taken ++ rest ≡ owed old.history c
+    pub stood : 0 < outbox.full_finds → length (drain.taken ++ rest) ≡ outbox.added_at_find
     pub seen : Grows Begins drain.seen (Some old.history)
     pub gone : outbox_of new.rows c ≡ None
     pub others : (d : ℕ) → d ≢ c → outbox_of new.rows d ≡ outbox_of old.rows d

@@ -6,6 +6,7 @@ ghost use Rattle.realm.specs.Sessions.{live};
 ghost use Rattle.realm_actor.specs.LastCut.{outbox_of};
 ghost use Rattle.realm_actor.specs.Run.{Handles, IsNextOf};
 ghost use Rattle.realm_actor.specs.Settle.{IsOther, Settles, Sweeps};
+ghost use Rattle.realm_actor.specs.HistoryGrowth.{IsMade};
 ghost use Rattle.realm_actor.specs.Invariant.{Stands};
 
 use crate::outcome::Outcome;
@@ -39,11 +40,12 @@ impl<S: Shut, W: IdSource> Model for Actor<S, W> {
 
     ghost coded = { Prim.hlevel (codes, history_code, data_code, entries_code) };
 
-    ghost use Rattle.realm_actor.specs.Invariant.{IsRoomy, Knows, Stands};
+    ghost use Rattle.realm_actor.specs.Invariant.{IsRoomy, Knows, Stands, WasMade};
 
     ghost view = { λ a. acting (W.given a.state.words) a.state };
 
-    ghost invariant = { λ a. Stands a.state.table.realm a.state.table.rows.items × IsRoomy a.state × Knows a.state.table };
+    ghost invariant = { λ a. Stands a.state.table.realm a.state.table.rows.items
+        × IsRoomy a.state × Knows a.state.table × WasMade a.state };
 }
 
 impl<S: Shut, W: IdSource> Actor<S, W> {
@@ -66,10 +68,12 @@ impl<S: Shut, W: IdSource> Actor<S, W> {
     }
 
     /// Shows what holds of an actor between two posts: what was added to each held outbox begins what the history owes its
-    /// connection, and is all of that where no step found it full; the outbox is open exactly where its session is live; and
-    /// nobody who was found full is live.
+    /// connection, and is all of that where no step found it full; where one did, nothing was added since; the outbox is open
+    /// exactly where its session is live; and nobody who was found full is live. The history is what the acts that were handled
+    /// made of it from the beginning on, and stops between them.
     pub fn shows(&self)
-        ensures { Stands self.now.history self.now.rows }
+        ensures stands { Stands self.now.history self.now.rows }
+        ensures made { IsMade self.now.history self.now.handled }
     {
         let _ = &self.state;
     }

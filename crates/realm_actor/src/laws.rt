@@ -2,7 +2,9 @@
 ghost use Rattle.realm_actor.specs.PostedOrder.{HandledKeepsOrder, HistoryKeepsOrder, RunKeepsOrder};
 
 use realm_inbox::Shut;
-pub use realm_inbox::laws::{received_begins_posted, stops_received_were_posted};
+pub use realm_inbox::laws::{
+    received_begins_posted, stops_received_were_posted, waiting_posts_are_in_order,
+};
 use std::marker::PhantomData;
 
 /// Where a realm's history is what posts made of it from the beginning on, the entries of each connection, Cut and Closed left

@@ -4,7 +4,7 @@ ghost use Rattle.std.specs.Option.{ForSome};
 ghost use Rattle.session.specs.declared.messages.item.Item.{Item as AnItem};
 ghost use Rattle.realm_actor.specs.OutboxHistory.{Follows, Goes};
 
-use outbox_queue::Outbox;
+use outbox_queue::{Full, Outbox};
 use realm_inbox::{RealmHistory, Shut};
 use session::Item;
 use std::cell::Cell;
@@ -39,7 +39,7 @@ impl<S: Shut> Held<S> {
             return false;
         }
         let stamped = self.outbox.stamp(item, history);
-        if self.outbox.add(rt, stamped).is_err() {
+        if let Err(Full(_)) = self.outbox.add(rt, stamped) {
             self.is_full = true;
             return true;
         }

@@ -1,10 +1,11 @@
 //! How an actor runs.
-ghost use Rattle.std.specs.Prelude.{◌≡◌, ◌++◌, [], ◌∷◌, true, false, List, MatchOption};
+ghost use Rattle.std.specs.Prelude.{◌≡◌, ℕ, ◌++◌, [], ◌∷◌, true, false, List, MatchOption};
 ghost use Rattle.realm.specs.History.{Begins};
 ghost use Rattle.realm_inbox.specs.declared.letter.Post.{Post as APost};
 ghost use Rattle.realm_inbox.specs.Seats.{InOrder};
 ghost use Rattle.realm_inbox.specs.EndViews.{received};
 ghost use Rattle.realm_actor.specs.ReceivedAhead.{NoneBehindStop, TakesNext};
+ghost use Rattle.realm_actor.specs.PostedOrder.{KeepsOrderSince, acts_for};
 ghost use Rattle.realm_actor.specs.Run.{KeepsHeld, Ran, SameAtSeats, is_stop};
 
 use crate::actor::Actor;
@@ -31,7 +32,12 @@ fn is_stop<S: Shut>(post: &Post<S>) -> bool
 
 impl<S: Shut, W: IdSource> Actor<S, W> {
     /// Handles what the inbox gives, until a stop was handled or each sender is gone. Before each post it forgets the sessions
-    /// that aren't live ([`Actor::sweep`]). What the actor has handled is, seat by seat, what the inbox has given so far.
+    /// that aren't live ([`Actor::sweep`]). What the actor has handled is, seat by seat, what the inbox has given so far, also
+    /// when it returns.
+    ///
+    /// The history keeps the order of each connection's acts, of those too that were handled before: its entries, Cut and Closed
+    /// left aside, are some of its acts, in their order, each once. Where the first is its Join and no later one is a Join, they
+    /// are a beginning of its acts, and all of them if its session is live at the end, or was closed in this run.
     ///
     /// It receives up to 256 posts ahead, and none behind a stop: all that it received is handled when it returns. Where memory
     /// for them is refused, it receives one by one. Writers are woken after at most 64 posts, and always before it waits.
@@ -40,8 +46,12 @@ impl<S: Shut, W: IdSource> Actor<S, W> {
         ensures ran { (came : List (APost S)) × (received inbox.new ≡ received inbox.old ++ came)
             × InOrder (received inbox.old) came × Ran self came result }
         ensures begins { Begins self.history result.history }
+        ensures in_turn { SameAtSeats result.handled (received inbox.new) }
+        ensures order { (c : ℕ) → KeepsOrderSince self.history c (acts_for c result.handled)
+            result.history }
         ensures held { KeepsHeld self result }
     {
+        self.shows();
         let mut ahead = VecDeque::new(alloc);
         let mut unwoken = 0;
         for _ in rt.forever() {

@@ -87,9 +87,15 @@ impl<S: Shut, W: IdSource> State<S, W> {
         requires comes { may_come self.old.table.realm entry ≡ true }
         requires live { live self.old.table.realm conn ≡ true }
         ensures outcome { MatchOutcome result
-            ((drawn : List ℕ) × Accepted self.old.table.realm self.old.table.rows.items entry drawn self.new.table.realm self.new.table.rows.items × (W.given self.new.words ≡ W.given self.old.words ++ drawn))
+            ((drawn : List ℕ) × Accepted self.old.table.realm self.old.table.rows.items entry drawn
+            self.new.table.realm self.new.table.rows.items
+            × (W.given self.new.words ≡ W.given self.old.words ++ drawn))
             ⊥
-            ((word : ℕ) × (drawn : List ℕ) × (e : AnEntry) × (marked : List (ARow _)) × IsCutOf conn word e × EachMarked conn self.old.table.rows.items marked × Accepted self.old.table.realm marked e drawn self.new.table.realm self.new.table.rows.items × (W.given self.new.words ≡ W.given self.old.words ++ word ∷ drawn)) }
+            ((word : ℕ) × (drawn : List ℕ) × (e : AnEntry) × (marked : List (ARow _))
+            × IsCutOf conn word e × EachMarked conn self.old.table.rows.items marked
+            × Accepted self.old.table.realm marked e drawn self.new.table.realm
+            self.new.table.rows.items
+            × (W.given self.new.words ≡ W.given self.old.words ++ word ∷ drawn)) }
         ensures last_cut { self.new.last_cut ≡ self.old.last_cut }
         ensures handled { self.new.handled ≡ self.old.handled }
         ensures sound { Sound self.new.table.realm self.new.table.rows.items }

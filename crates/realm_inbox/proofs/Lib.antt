@@ -3,3 +3,4 @@ pub mod StepEffects
 pub mod SeatCuts
 pub mod PosterLemmas
 pub mod SendLemmas
+pub mod Lemmas

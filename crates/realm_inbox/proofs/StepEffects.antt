@@ -10,10 +10,10 @@ use Rattle.realm_inbox.specs.declared.letter.Post.{Post}
 use Rattle.realm_inbox.specs.declared.letter.Post.TheVariants.{Act, Stop}
 use Rattle.realm_inbox.specs.declared.rule.View.{View}
 use Rattle.realm_inbox.specs.declared.rule.View.TheVariants.{Reader, Seat, Door}
-use Rattle.realm_inbox.specs.Seats.{before, said, at_seat, stops_of, IsNext}
+use Rattle.realm_inbox.specs.Seats.{before, said, at_seat, stops_of, IsNext, InOrder}
 use Rattle.realm_inbox.specs.InTurn.{new_door, next_seat, after_cut, after_post, after_stop, Receipt, Keeps}
 use Rattle.realm_inbox.specs.Ends.{posted_in, received_in, stops_in, is_seat, is_reader, is_door}
-use Rattle.realm_inbox.specs.Laws.{ReceivedBeginsPosted, StopsReceivedWerePosted}
+use Rattle.realm_inbox.specs.Laws.{ReceivedBeginsPosted, StopsReceivedWerePosted, WaitingPostsAreInOrder}
 use Rattle.realm_inbox.proofs.RuleSteps.{at_seat_append, stops_append, adds_here, posts_seat, stops_door, receives_reader, cuts_seat, cuts_new_door}
 
 is_not : {B : Type 0} → false ≡ true → B
@@ -97,3 +97,6 @@ begins_posted S items views reader seat n k got posted h at_reader at_seat' =
 pub stops_posted : (S : Type 0) → StopsReceivedWerePosted S
 stops_posted S items views reader door n stops got h at_reader at_door =
     (h.each_view door (Door stops) at_door).2 ∙ stops_append h.got items ∙ ap (λ t. stops_of t + stops_of items) (sym (h.each_view reader (Reader n got) at_reader).2)
+
+pub posts_in_order : (S : Type 0) → WaitingPostsAreInOrder S
+posts_in_order S items views reader n got h at_reader = subst (λ g. InOrder g items) (sym (h.each_view reader (Reader n got) at_reader).2) h.in_order

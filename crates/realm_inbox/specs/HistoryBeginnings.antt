@@ -4,7 +4,7 @@ use Rattle.std.proofs.Common.{sym}
 use mathlib.Core.List.{IsPrefix}
 use Rattle.realm.specs.History.{History, ◌▷◌, Begins, same, longer}
 use Rattle.realm.specs.Yield.{owed}
-use Rattle.realm.proofs.OwedOnlyGrows.{owed-Begins}
+use Rattle.realm.proofs.Lemmas.{owed-Begins}
 
 pub begins_same : (h : History) → Begins h h
 begins_same h = same

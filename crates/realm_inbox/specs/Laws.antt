@@ -6,7 +6,7 @@ use Rattle.realm_inbox.specs.declared.act.Act.{Act}
 use Rattle.realm_inbox.specs.declared.letter.Post.{Post}
 use Rattle.realm_inbox.specs.declared.rule.View.{View}
 use Rattle.realm_inbox.specs.declared.rule.View.TheVariants.{Reader, Seat, Door}
-use Rattle.realm_inbox.specs.Seats.{at_seat, stops_of}
+use Rattle.realm_inbox.specs.Seats.{at_seat, stops_of, InOrder}
 use Rattle.realm_inbox.specs.InTurn.{Keeps}
 
 -- what was posted at a seat is what was received of it, and then what the channel holds of it
@@ -18,3 +18,9 @@ ReceivedBeginsPosted S = (items : List (Post S)) (views : List (View S)) (reader
 abbrev pub StopsReceivedWerePosted : Type 0 → Type 0
 StopsReceivedWerePosted S = (items : List (Post S)) (views : List (View S)) (reader door n stops : ℕ) (got : List (Post S)) → Keeps items views
     → get_elem? views reader ≡ some (Reader n got) → get_elem? views door ≡ some (Door stops) → stops ≡ stops_of got + stops_of items
+
+-- each post that the channel holds tells what had been posted at its seat before it: what was received of the seat, and then
+-- what the channel holds of it in front of the post
+abbrev pub WaitingPostsAreInOrder : Type 0 → Type 0
+WaitingPostsAreInOrder S = (items : List (Post S)) (views : List (View S)) (reader n : ℕ) (got : List (Post S)) → Keeps items views
+    → get_elem? views reader ≡ some (Reader n got) → InOrder got items

@@ -47,7 +47,7 @@ pub struct Seat<S: Shut> {
     pub(crate) sender: Sending<S>,
     pub(crate) bells: Bells,
     pub(crate) pass: Ticket<S>,
-    ghost in_range: { number ≤ 256 },
+    ghost in_range: { (1 ≤ number) × (number ≤ 256) },
     ghost at: { IsSeatAt (sends_on sender) pass },
     ghost sits: { is_seat number (view pass) ≡ true },
     ghost told: { items_of past ≡ posted_in (view pass) },
@@ -159,6 +159,7 @@ impl<S: Shut> Seat<S> {
     /// Its number, from 1 to 256. The connections of this seat take turns there.
     pub fn number(&self) -> u64
         ensures number { result ≡ seat_number self.now }
+        ensures least { 1 ≤ result }
         ensures most { result ≤ 256 }
     {
         self.number

@@ -11,7 +11,8 @@
 //!
 //! Nothing is promised of time: neither that a call returns while the inbox is full or empty, nor which seat comes first.
 //!
-//! It stands on `realm` (what is posted) and `outbox_queue` (what a Join brings).
+//! It stands on `session` (what is posted), `message_tree` and `wamp_ids` (what that is made of), `outbox_queue` and `realm` (what a
+//! Join brings: an outbox of what a realm's history owes), and `ghost_state`.
 #![tactic(auto)]
 
 mod act;

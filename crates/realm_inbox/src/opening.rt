@@ -39,7 +39,7 @@ fn cut_seat<S: Shut>(
     pass: &mut Ticket<S>,
     number: u64,
 ) -> Result<Seat<S>, AllocError>
-    requires count { number ≤ 256 }
+    requires count { (1 ≤ number) × (number ≤ 256) }
     requires pass { IsSeatAt (sends_on sender.now) pass.old
         × (is_reader number (view pass.old) ≡ true) }
     ensures pass { IfOk result (λ _. IsSeatAt (sends_on sender.now) pass.new

@@ -19,7 +19,8 @@ pub trait Posting<S: Shut> {
     /// The act, where nobody receives it any more. Nothing was posted then.
     fn post<R: Wait>(&mut self, rt: &R, act: Act<S>) -> Result<(), Act<S>>
         requires { is_join act ≡ false }
-        ensures { MatchResult result (λ _. posted self.new ≡ posted self.old ++ act ∷ []) (λ back. (back ≡ act) × (posted self.new ≡ posted self.old)) };
+        ensures { MatchResult result (λ _. posted self.new ≡ posted self.old ++ act ∷ [])
+            (λ back. (back ≡ act) × (posted self.new ≡ posted self.old)) };
 }
 
 impl<S: Shut> Posting<S> for Poster<S> {

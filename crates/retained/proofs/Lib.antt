@@ -1,2 +1,3 @@
 pub mod StoreLemmas
 mod Insertion
+pub mod Lemmas

@@ -13,7 +13,7 @@ use Rattle.schedules.specs.Worlds.{unless_any, marked, may_enter, may_leave, IsL
 use Rattle.realm.specs.declared.entry.Entry.{Entry}
 use Rattle.schedules.specs.declared.exchange.Exchange.TheInside.{Inside}
 use Rattle.schedules.specs.body.Outboxes.{Outboxes, outbox_of}
-use Rattle.realm.proofs.EventLists.{items_for-append}
+use Rattle.realm.proofs.Lemmas.{items_for-append}
 use Rattle.schedules.proofs.WorldInvariant.{unless-front, unless-in, in-filter}
 use Rattle.schedules.proofs.ItemLists.{if_for}
 use Rattle.schedules.proofs.QueueLemmas.{between, between-is}

@@ -4,7 +4,7 @@ use Rattle.std.proofs.lemmas.Bool.{eq-eqb, ne_eqb, or_parts, or_left, or_right}
 use Rattle.std.proofs.lemmas.List.Folds.{list_any-append}
 use Rattle.session.specs.declared.messages.item.Item.{Item}
 use Rattle.realm.specs.Given.{items_for}
-use Rattle.realm.proofs.EventLists.{items_for-append}
+use Rattle.realm.proofs.Lemmas.{items_for-append}
 use Rattle.schedules.specs.Worlds.{is_in}
 
 -- the item, if it is for this connection

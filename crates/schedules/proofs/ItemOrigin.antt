@@ -7,9 +7,11 @@ use Rattle.session.specs.declared.messages.item.Publication.{Publication}
 use Rattle.realm.specs.History.{History, begun, ◌▷◌, Begins, same, longer}
 use Rattle.realm.specs.Sessions.{who, IsHistory}
 use Rattle.realm.specs.Yield.{owed, yield, admits_who}
-use Rattle.realm.specs.Laws.{EachEvent, EventsAreAdmitted, EventsWhileSubscribed}
+use Rattle.realm.specs.Laws.{EachEvent, BeginsList, IsAmong, OwedOnlyGrows, EventsAreAdmitted, EventsWhileSubscribed}
+use Rattle.realm.specs.DueEvents.{EventsAreDue, DueEventsAreGiven}
+use Rattle.realm.specs.Given.{items_for}
 use Rattle.schedules.specs.Worlds.{Course}
-use Rattle.schedules.specs.Delivery.{CameOf, TakesWhatIsDue, TakenBeginsOwed}
+use Rattle.schedules.specs.Delivery.{CameOf, AreDue, TakesWhatIsDue, TakenBeginsOwed, AddedBeginsOwed, AllWasAdded, DeliversExactly}
 
 nothing-there : (before after : List Item) (x : Item) → [] ≡ before ++ x ∷ after → ⊥
 nothing-there [] after x e = cc
@@ -55,3 +57,33 @@ takes-what-is-due admitted subscribed w is_history begins c n p with_topic retai
           (subst (EachEvent (λ q. admits_who q (who came.earlier c) ≡ true)) came.yields (admitted came.earlier came.entry c));
       subscribed = subscribed came.earlier came.entry c n p with_topic retained came.same_entry came.later was.0 came.yields;
     }
+
+-- the EVENTs of what is owed, and of each beginning of it, are due
+among-middle : (x : Item) (xs ys : List Item) → IsAmong x (xs ++ x ∷ ys)
+among-middle x [] ys = inl refl
+among-middle x (y ∷ xs) ys = inr (among-middle x xs ys)
+
+are-due : EventsAreDue → (h : History) (c : ℕ) (items : List Item) → BeginsList items (owed h c) → AreDue h c items
+are-due law h c items b n p with_topic marked before after is =
+    let x = Event n p with_topic marked in
+    let came = came-of h c before (after ++ b.0) x (b.1 ∙ ap (λ l. l ++ b.0) is ∙ append_assoc before (x ∷ after) b.0) in
+    record {
+      came = came;
+      due =
+          law came.earlier came.entry c n p with_topic marked
+          (subst (λ l. IsAmong x l) (sym came.yields) (among-middle x came.same_entry came.later));
+    }
+
+pub delivers-exactly : EventsAreDue → DueEventsAreGiven → OwedOnlyGrows → (w : Course) → TakenBeginsOwed w → AddedBeginsOwed w
+    → AllWasAdded w → DeliversExactly w
+delivers-exactly law given grows w taken added all = record {
+  taken = λ c. are-due law w.history c (items_for c w.taken) (taken c);
+  added = λ c. are-due law w.history c (items_for c w.added) (added c);
+  all = λ h e c x begins free owes.
+      let more = grows (h ▷ e) w.history c begins in
+      record {
+        later = more.0;
+        is = all c free ∙ more.1 ∙ append_assoc (owed h c) (yield h e c) more.0;
+        once = given h e c x owes;
+      };
+}

@@ -11,3 +11,4 @@ pub mod RunLemmas
 pub mod OneOutcome
 pub mod ItemOrigin
 pub mod RestLemmas
+pub mod RealmLaws

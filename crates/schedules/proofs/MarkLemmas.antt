@@ -15,9 +15,7 @@ use Rattle.realm.specs.History.{History, ◌▷◌}
 use Rattle.realm.specs.Sessions.{who, live, ends, joined, conn_of, admission, may_join, may_come}
 use Rattle.realm.specs.Yield.{yield}
 use Rattle.realm.specs.Given.{items_for, GivesExactly}
-use Rattle.realm.proofs.Conditionals.{clash, not-some, some-before}
-use Rattle.realm.proofs.LiveSessions.{live-joined}
-use Rattle.realm.proofs.NothingAfterAnEnding.{no_more, no_events}
+use Rattle.realm.proofs.Lemmas.{clash, not-some, some-before, live-joined, no_more, no_events}
 use Rattle.schedules.specs.Worlds.{is_in}
 use Rattle.schedules.specs.body.Marks.{conns_of, MarksAgree, NoneJoinsAgain}
 

@@ -11,8 +11,7 @@ use Rattle.schedules.specs.declared.step.Stepped.{Stepped}
 use Rattle.schedules.specs.declared.step.Stepped.TheVariants.{Posted, Accepted, Dropped, Lost, Pushed, FoundFull, Took, Left, Idle}
 use Rattle.realm.specs.History.{◌▷◌}
 use Rattle.realm.specs.Sessions.{conn_of, live, may_come}
-use Rattle.realm.proofs.GivenOnce.{alike}
-use Rattle.realm.proofs.Conditionals.{clash}
+use Rattle.realm.proofs.Lemmas.{alike, clash}
 use Rattle.schedules.specs.Worlds.{Course, waiting, was_full, is_in, may_leave, Enters, EntersIfLive, Posts, Accepts, Loses, Pushes, Takes, Leaves, Moves}
 
 pub not-nil : {X : Type 0} (x : X) (xs : List X) → x ∷ xs ≡ [] → ⊥

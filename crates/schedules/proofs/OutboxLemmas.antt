@@ -1,8 +1,7 @@
 -- The queues after one of them was changed.
 use Rattle.std.proofs.Common.{◌≡◌, ℕ, Bool, true, false, cond, eqb, List, [], ◌∷◌, ◌++◌, Option, Some, None, refl, sym, ap, subst, ◌∙◌, arith}
-use Rattle.std.specs.Prelude.{IfNone}
+use Rattle.std.specs.Prelude.{IfNone, ◌≢◌}
 use Rattle.std.specs.Option.{option_to_list}
-use Rattle.std.specs.Prelude.{◌≢◌}
 use Rattle.std.specs.Map.{lookup}
 use Rattle.std.proofs.lemmas.Bool.{eqb-true, eq-eqb}
 use Rattle.std.proofs.lemmas.Bool.Decides.{nat_tests}

@@ -11,11 +11,11 @@ use Rattle.schedules.specs.declared.step.Stepped.TheVariants.{Posted, Accepted, 
 use Rattle.realm.specs.History.{History}
 use Rattle.realm.specs.Sessions.{live, may_come}
 use Rattle.realm.specs.Given.{items_for, GivesExactly}
-use Rattle.schedules.specs.Worlds.{Course, new_world, waiting, was_full, is_in, marked, unless_any, may_enter, Enters, Posts, Accepts, Pushes, Takes}
+use Rattle.schedules.specs.Worlds.{Course, new_world, waiting, was_full, is_in, marked, unless_any, may_enter, Enters, Posts, Accepts, Pushes, Takes, StaysOut, EntersAtMost}
 use Rattle.schedules.specs.body.Runs.{taken_with, Advances}
 use Rattle.schedules.specs.body.Rest.{IsAtRest, IsGiving, IsFirstOf, GivesLast}
 use Rattle.realm.specs.Grants.{Grants}
-use Rattle.realm.proofs.Conditionals.{clash}
+use Rattle.realm.proofs.Lemmas.{clash}
 use Rattle.schedules.proofs.ItemLists.{if_for, items_for-last}
 use Rattle.schedules.proofs.QueueLemmas.{between-is}
 use Rattle.schedules.proofs.OneOutcome.{not-nil, heads, rests, pushed-once}
@@ -161,3 +161,22 @@ given-rests h e w given giving empty = record {
   full = giving.full;
   all_taken = giving.all_taken;
 }
+
+-- where nothing happened, the entry stays out
+pub unmoved : (w : Course) (e : Entry) (v : Course) → v ≡ w → StaysOut w e v
+unmoved w e v same = inl same
+
+-- what was posted and not accepted stays out
+pub posted-waits : (w : Course) (e : Entry) (s : Stepped) (u v : Course) → Posts w e s u → v ≡ u → StaysOut w e v
+posted-waits w e Posted u v posts same = inr (subst (λ x. Posts w e Posted x) (sym same) posts)
+posted-waits w e Idle u v posts same = inl (same ∙ posts.1)
+posted-waits w e s u v posts same = absurd posts
+
+-- the entry stayed out
+pub stayed-out : (w : Course) (e : Entry) (v : Course) → StaysOut w e v → EntersAtMost w e v
+stayed-out w e v out = inl out
+
+-- the entry entered, and then items alone were taken
+pub entered-alone : (w : Course) (e : Entry) (u v : Course) (given : List (ℕ × Item)) → IsGiving w.history e u given
+    → v.history ≡ u.history → EntersAtMost w e v
+entered-alone w e u v given giving same = inr (same ∙ giving.history)

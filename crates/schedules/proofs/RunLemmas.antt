@@ -2,7 +2,7 @@
 use Rattle.std.proofs.Common.{◌≡◌, ℕ, ◌+◌, List, [], ◌∷◌, ◌++◌, length, take, refl, sym, ap, subst, ◌∙◌, append-nil, append_assoc, arith, length-append, Some}
 use Rattle.std.specs.declared.option.Option.{Option}
 use Rattle.std.specs.declared.result.Result.{Result}
-use Rattle.std.specs.Prelude.{Ok, Err, IfOk, OnErr}
+use Rattle.std.specs.Prelude.{Ok, Err, IfOk, OnErr, Bool, true, false}
 use Rattle.realm.specs.declared.fault.Fault.{Fault}
 use Rattle.session.specs.declared.messages.item.Item.{Item}
 use Rattle.realm.specs.declared.entry.Entry.{Entry}
@@ -13,7 +13,6 @@ use Rattle.schedules.specs.declared.step.Stepped.TheVariants.{Posted, Accepted, 
 use Rattle.realm.specs.Sessions.{conn_of, live}
 use Rattle.realm.specs.declared.entry.Entry.TheVariants.{Cut}
 use Rattle.std.proofs.Common.{inl, inr}
-use Rattle.std.specs.Prelude.{Bool, true, false}
 use Rattle.schedules.specs.Worlds.{Course, Enters, EntersIfLive, Posts, Accepts, Loses, Pushes, Takes, Leaves, Moves, Reaches, IsReached}
 use Rattle.schedules.specs.body.Runs.{taker_of, taken_with, Advances}
 

@@ -15,16 +15,18 @@ use Rattle.realm.specs.Grants.{Grants}
 use Rattle.realm.specs.Sessions.{conn_of, live, IsHistory}
 use Rattle.realm.specs.Yield.{owed}
 use Rattle.realm.specs.Given.{items_for}
-use Rattle.realm.specs.Laws.{BeginsList, EventsFollowSubscribed, EventsAreAdmitted, EventsWhileSubscribed}
+use Rattle.realm.specs.Laws.{BeginsList, OwedOnlyGrows, EventsFollowSubscribed, EventsAreAdmitted, EventsWhileSubscribed}
+use Rattle.realm.specs.DueEvents.{EventsAreDue, DueEventsAreGiven}
+use Rattle.realm.specs.PublisherOrder.{PublishersKeepOrder}
 use Rattle.schedules.specs.Worlds.{Course, new_world, is_in, marked, unless_any, EntersIfLive, Posts, Accepts, Loses, Pushes, Takes, Leaves, Moves, Reaches, IsReached}
-use Rattle.realm.specs.PostedOrder.{said_by, posts_of, joins_first_alone, AreSome}
+use Rattle.realm.specs.PostedOrder.{said_by, posts_of, joins_first_alone, AreSome, Ordered}
 use Rattle.schedules.specs.PostedOrder.{KeepsPostedOrder}
-use Rattle.schedules.specs.Delivery.{CutsHaveCauses, TakenBeginsOwed, TakesSubscribedFirst, AllIsThere, Delivers}
+use Rattle.schedules.specs.Delivery.{CutsHaveCauses, TakenBeginsOwed, TakesSubscribedFirst, DeliversExactly, TakesInPublishersOrder, AllIsThere, Delivers}
 use Rattle.schedules.specs.body.Marks.{NoneJoinsAgain}
 use Rattle.schedules.proofs.AddedBeginsOwed.{Owing, owing-enters, owing-pushed, owing-found, owing-marked}
 use Rattle.schedules.proofs.QueueLemmas.{Queued, queued-begun, queued-pushed, queued-taken}
-use Rattle.realm.proofs.PostedOrder.{Ordered, some-more, joins-before, order-begun, order-accepted, order-dropped, order-lost, order-cut, order-lost-cut}
-use Rattle.schedules.proofs.ItemOrigin.{takes-what-is-due}
+use Rattle.realm.proofs.Lemmas.{some-more, joins-before, order-begun, order-accepted, order-dropped, order-lost, order-cut, order-lost-cut}
+use Rattle.schedules.proofs.ItemOrigin.{takes-what-is-due, delivers-exactly}
 use Rattle.schedules.proofs.MarkLemmas.{HaveJoined, joined-enters, joined-rest, joined-more}
 use Rattle.schedules.proofs.CutsHaveCauses.{HaveCauses, causes-accepted, causes-handled, causes-lost, causes-lost-cut, causes-left, causes-marked, causes-posted}
 
@@ -278,14 +280,32 @@ pub all-is-there : (w : Course) → Sound w → AllIsThere w
 all-is-there w s c free nothing =
     sym (append-nil (items_for c w.added)) ∙ ap (λ l. items_for c w.added ++ items_for c l) (sym nothing) ∙ s.owing.all c free
 
-pub delivers : EventsFollowSubscribed → EventsAreAdmitted → EventsWhileSubscribed → (w : Course) → Sound w → Delivers w
-delivers follow admitted subscribed w s = record {
+-- the laws of histories on which the rest stands
+pub record HistoryLaws : Type 0 where
+  pub follow : EventsFollowSubscribed
+  pub admitted : EventsAreAdmitted
+  pub subscribed : EventsWhileSubscribed
+  pub due : EventsAreDue
+  pub given : DueEventsAreGiven
+  pub grows : OwedOnlyGrows
+  pub publishers : PublishersKeepOrder
+
+pub exactly : HistoryLaws → (w : Course) → Sound w → DeliversExactly w
+exactly laws w s = delivers-exactly laws.due laws.given laws.grows w (taken-begins-owed w s) s.owing.begins s.owing.all
+
+pub in-publishers-order : HistoryLaws → (w : Course) → Sound w → TakesInPublishersOrder w
+in-publishers-order laws w s c d = laws.publishers w.history c d (items_for d w.taken) (taken-begins-owed w s d)
+
+pub delivers : HistoryLaws → (w : Course) → Sound w → Delivers w
+delivers laws w s = record {
   is_history = s.is_history;
   taken = taken-begins-owed w s;
   taken_of_added = s.queued.begins;
   added_of_owed = s.owing.begins;
-  due = takes-what-is-due admitted subscribed w s.is_history (taken-begins-owed w s);
-  subscribed_first = subscribed-first follow w s;
+  due = takes-what-is-due laws.admitted laws.subscribed w s.is_history (taken-begins-owed w s);
+  exactly = exactly laws w s;
+  publishers = in-publishers-order laws w s;
+  subscribed_first = subscribed-first laws.follow w s;
   all_added = s.owing.all;
   all_there = all-is-there w s;
   cuts = cuts-have-causes w s;

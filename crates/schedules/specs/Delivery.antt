@@ -14,6 +14,8 @@ use Rattle.realm.specs.Sessions.{conn_of, who, IsHistory}
 use Rattle.realm.specs.Yield.{owed, yield, admits_who}
 use Rattle.realm.specs.Given.{items_for}
 use Rattle.realm.specs.Laws.{BeginsList, is_subscribed, IsSubscribed}
+use Rattle.realm.specs.DueEvents.{IsOwedEvent, StandsOnce}
+use Rattle.realm.specs.PublisherOrder.{events_by, publications_of, IsInOrderOf}
 use Rattle.schedules.specs.Worlds.{Course, new_world, waiting, was_full, Moves, Reaches, IsReached}
 use Rattle.schedules.specs.PostedOrder.{KeepsPostedOrder}
 
@@ -90,14 +92,45 @@ TakesWhatIsDue w =
     (c n : ℕ) (p : Publication) (with_topic retained : Bool) (before after : List Item)
     → taken_by w c ≡ before ++ Event n p with_topic retained ∷ after → WasDue w.history c n p before (Event n p with_topic retained)
 
--- What each session's writer took is a beginning of what the realm's history owes that session; all that is owed was added or waits to be pushed,
--- unless the session was found full.
+-- an entry of h owed c the EVENT x, and gave it behind what c was owed before
+pub record CameAsDue (h : History) (c : ℕ) (before : List Item) (x : Item) : Type 0 where
+  pub came : CameOf h c before x
+  pub due : IsOwedEvent came.earlier came.entry c x
+
+-- each EVENT of these items, the first that c is owed, came of an entry that owed it
+abbrev pub AreDue : History → ℕ → List Item → Type 0
+AreDue h c items =
+    (n : ℕ) (p : Publication) (with_topic marked : Bool) (before after : List Item)
+    → items ≡ before ++ Event n p with_topic marked ∷ after → CameAsDue h c before (Event n p with_topic marked)
+
+-- of these items x stands, once, among those that the entry e gave c, behind what h owes c
+pub record HasInPlace (items : List Item) (h : History) (e : Entry) (c : ℕ) (x : Item) : Type 0 where
+  pub later : List Item
+  pub is : items ≡ owed h c ++ (yield h e c ++ later)
+  pub once : StandsOnce x (yield h e c)
+
+-- The EVENTs of each session are exactly those that are due: it is given no other, and, unless it was found full, each that an entry of the
+-- history owes it was added, or waits to be pushed, once for that entry.
+pub record DeliversExactly (w : Course) : Type 0 where
+  pub taken : (c : ℕ) → AreDue w.history c (taken_by w c)
+  pub added : (c : ℕ) → AreDue w.history c (added_for w c)
+  pub all : (h : History) (e : Entry) (c : ℕ) (x : Item) → Begins (h ▷ e) w.history → was_full w c ≡ false → IsOwedEvent h e c x
+      → HasInPlace (added_for w c ++ items_for c w.pushing) h e c x
+
+-- the EVENTs that each session's writer took of what c published stand in the order in which c published, over all topics
+abbrev pub TakesInPublishersOrder : Course → Type 0
+TakesInPublishersOrder w = (c d : ℕ) → IsInOrderOf (events_by c (taken_by w d)) (publications_of c w.history)
+
+-- What each session's writer took is a beginning of what the realm's history owes that session, and its EVENTs are exactly those that are
+-- due, each publisher's in its order; all that is owed was added or waits to be pushed, unless the session was found full.
 pub record Delivers (w : Course) : Type 0 where
   pub is_history : IsHistory w.history
   pub taken : TakenBeginsOwed w
   pub taken_of_added : TakenBeginsAdded w
   pub added_of_owed : AddedBeginsOwed w
   pub due : TakesWhatIsDue w
+  pub exactly : DeliversExactly w
+  pub publishers : TakesInPublishersOrder w
   pub subscribed_first : TakesSubscribedFirst w
   pub all_added : AllWasAdded w
   pub all_there : AllIsThere w

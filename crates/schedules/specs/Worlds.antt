@@ -157,3 +157,11 @@ pub record IsReached (w : Course) : Type 0 where
   pub outbox_cap : ℕ
   pub steps : List Step
   pub reaches : Reaches (new_world grants inbox_cap outbox_cap) steps w
+
+-- e did not enter: all is as it was, or e waits in the inbox
+abbrev pub StaysOut : Course → Entry → Course → Type 0
+StaysOut w e v = (v ≡ w) ⊎ Posts w e Posted v
+
+-- nothing but e entered: e did not either, or it did, and nothing else
+abbrev pub EntersAtMost : Course → Entry → Course → Type 0
+EntersAtMost w e v = StaysOut w e v ⊎ (v.history ≡ w.history ▷ e)

@@ -2,12 +2,12 @@
 ghost use Rattle.std.specs.Prelude.{◌≡◌, IfOk};
 
 use message_tree::Text;
-use realm::{Entry, Fault};
+use realm::Entry;
 use session::Said;
-use std::alloc::Global;
+use std::alloc::{AllocError, Global};
 
 /// A copy of an optional text.
-fn copy_of_text(alloc: Global, text: &Option<Text>) -> Result<Option<Text>, Fault>
+fn copy_of_text(alloc: Global, text: &Option<Text>) -> Result<Option<Text>, AllocError>
     ensures { IfOk result (λ copy. copy ≡ text.now) }
 {
     match text {
@@ -17,7 +17,7 @@ fn copy_of_text(alloc: Global, text: &Option<Text>) -> Result<Option<Text>, Faul
 }
 
 /// A copy of what a client said.
-fn copy_of_said(alloc: Global, said: &Said) -> Result<Said, Fault>
+fn copy_of_said(alloc: Global, said: &Said) -> Result<Said, AllocError>
     ensures { IfOk result (λ copy. copy ≡ said.now) }
 {
     match said {
@@ -32,34 +32,21 @@ fn copy_of_said(alloc: Global, said: &Said) -> Result<Said, Fault>
             options,
             topic,
             args,
-        } => {
-            let Ok(options) = options.try_copy(alloc) else {
-                return Err(Fault::NoMemory);
-            };
-            let Ok(args) = args.try_copy(alloc) else {
-                return Err(Fault::NoMemory);
-            };
-            Ok(Said::Publish {
-                request: *request,
-                options,
-                topic: topic.try_copy(alloc)?,
-                args,
-            })
-        }
+        } => Ok(Said::Publish {
+            request: *request,
+            options: options.try_copy(alloc)?,
+            topic: topic.try_copy(alloc)?,
+            args: args.try_copy(alloc)?,
+        }),
         Said::Subscribe {
             request,
             options,
             topic,
-        } => {
-            let Ok(options) = options.try_copy(alloc) else {
-                return Err(Fault::NoMemory);
-            };
-            Ok(Said::Subscribe {
-                request: *request,
-                options,
-                topic: topic.try_copy(alloc)?,
-            })
-        }
+        } => Ok(Said::Subscribe {
+            request: *request,
+            options: options.try_copy(alloc)?,
+            topic: topic.try_copy(alloc)?,
+        }),
         Said::Unsubscribe {
             request,
             subscription,
@@ -71,7 +58,7 @@ fn copy_of_said(alloc: Global, said: &Said) -> Result<Said, Fault>
 }
 
 /// A copy of an entry.
-pub fn copy_of(alloc: Global, entry: &Entry) -> Result<Entry, Fault>
+pub fn copy_of(alloc: Global, entry: &Entry) -> Result<Entry, AllocError>
     ensures { IfOk result (λ copy. copy ≡ entry.now) }
 {
     match entry {

@@ -1,17 +1,18 @@
 //! What holds of every history and of every world, by the definitions alone. These functions do
 //! nothing: each is there for its contract. Those of histories stand in `realm`.
-ghost use Rattle.schedules.specs.Delivery.{AddedBeginsOwed, AllIsThere, AllWasAdded, Always, CutsHaveCauses, DeliversOverEverySchedule, OneOutcome, QueuesKeepCapacity, TakenBeginsAdded, TakenBeginsOwed, TakesSubscribedFirst, TakesWhatIsDue};
+ghost use Rattle.schedules.specs.Delivery.{AddedBeginsOwed, AllIsThere, AllWasAdded, Always, CutsHaveCauses, DeliversExactly, DeliversOverEverySchedule, OneOutcome, QueuesKeepCapacity, TakenBeginsAdded, TakenBeginsOwed, TakesInPublishersOrder, TakesSubscribedFirst, TakesWhatIsDue};
 ghost use Rattle.schedules.specs.PostedOrder.{KeepsPostedOrder};
 
 pub use realm::laws::{
-    announcements_are_true, each_subscription_once, events_are_admitted, events_follow_subscribed,
-    events_while_subscribed, given_once, last_is_retained, leaver_is_not_told,
-    nothing_after_an_ending, numbers_name_one_pattern, owed_only_grows, published_under_its_word,
-    sessions_are_announced,
+    announcements_are_true, due_events_are_given, each_subscription_once, events_are_admitted,
+    events_are_due, events_follow_subscribed, events_while_subscribed, given_once,
+    last_is_retained, leaver_is_not_told, nothing_after_an_ending, numbers_name_one_pattern,
+    owed_only_grows, published_under_its_word, publishers_keep_order, sessions_are_announced,
 };
 
 /// The headline: over every schedule, what each session's writer took is a beginning of what the
-/// realm's history owes that session; all that is owed was added or waits to be pushed, unless the session was found full;
+/// realm's history owes that session, and its EVENTs are exactly those that are due, each publisher's
+/// in its order; all that is owed was added or waits to be pushed, unless the session was found full;
 /// a Cut stands only for such a session, a lost post or a posted Cut; and what entered the history of
 /// what was posted for a session is in its order.
 pub fn delivers_over_every_schedule()
@@ -38,6 +39,19 @@ pub fn added_begins_owed()
     ensures taken { Always TakenBeginsOwed }
     ensures due { Always TakesWhatIsDue }
     ensures subscribed_first { Always TakesSubscribedFirst }
+{}
+
+/// The EVENTs that were added for a session, and those that were taken, are due to it; and each that
+/// an entry owes it was added, or waits to be pushed, once for that entry, unless the session was
+/// found full.
+pub fn exactly_what_is_due()
+    ensures { Always DeliversExactly }
+{}
+
+/// The EVENTs that were taken of what one session published stand in the order in which it published
+/// them, over all topics.
+pub fn publishers_order_is_kept()
+    ensures { Always TakesInPublishersOrder }
 {}
 
 /// What was added for a session that was not found full, and then what waits to be pushed for it, is

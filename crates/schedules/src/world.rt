@@ -6,7 +6,7 @@ ghost use Rattle.realm.specs.History.{◌▷◌};
 ghost use Rattle.realm.specs.Sessions.{live, may_come};
 ghost use Rattle.realm.specs.Given.{GivesExactly};
 ghost use Rattle.schedules.specs.body.Rest.{GivesLast, HasEntered, IsAtRest, IsFirstOf, IsGiving};
-ghost use Rattle.schedules.specs.Worlds.{new_world, Moves, Reaches};
+ghost use Rattle.schedules.specs.Worlds.{new_world, EntersAtMost, Moves, Reaches, StaysOut};
 ghost use Rattle.schedules.specs.Delivery.{Delivers};
 ghost use Rattle.schedules.specs.body.Runs.{taker_of, taken_with, Advances};
 
@@ -91,7 +91,8 @@ impl World {
     }
 
     /// What holds of every world: what each session's writer took is a beginning of what the realm's
-    /// history owes that session, and all that is owed was added or waits to be pushed, unless the session was found full.
+    /// history owes that session, its EVENTs are exactly those that are due, and all that is owed was
+    /// added or waits to be pushed, unless the session was found full.
     pub fn shows(&self)
         ensures { Delivers self.now }
     {
@@ -140,13 +141,15 @@ impl World {
     /// session, ascending by connection. Nothing waits when it is called, and it may come.
     ///
     /// # Errors
-    /// `NoMemory` where a growth was refused; some of the items may be taken then.
+    /// `NoMemory` where a growth was refused. No other entry entered then; this one may have, and some
+    /// of its items may be taken.
     pub fn deliver(&mut self, alloc: Global, entry: Entry) -> Result<Vec<(Conn, Item)>, Fault>
         requires rest { IsAtRest self.old }
         requires may_come { may_come self.old.history entry ≡ true }
         ensures rest { OnOk result (IsAtRest self.new) }
         ensures history { OnOk result (self.new.history ≡ self.old.history ▷ entry) }
         ensures given { IfOk result (λ given. GivesExactly self.old.history entry given.items) }
+        ensures alone { OnErr result (EntersAtMost self.old entry self.new) }
     {
         self.enter(alloc, entry)?;
         self.take_all(alloc)
@@ -163,12 +166,14 @@ impl World {
     /// Posts the entry and accepts it. Nothing waits when it is called, and it may come.
     ///
     /// # Errors
-    /// `NoMemory` where a growth was refused; the entry didn't enter the history then.
+    /// `NoMemory` where a growth was refused. The entry didn't enter the history then; it may wait in
+    /// the inbox.
     pub fn enter(&mut self, alloc: Global, entry: Entry) -> Result<(), Fault>
         requires rest { IsAtRest self.old }
         requires may_come { may_come self.old.history entry ≡ true }
         ensures entered { OnOk result (IsGiving self.old.history entry self.new []) }
         ensures unchanged { OnErr result (self.new.history ≡ self.old.history) }
+        ensures stays_out { OnErr result (StaysOut self.old entry self.new) }
     {
         self.step(alloc, Step::Post(entry))?;
         self.step(alloc, Step::Accept)?;

@@ -5,7 +5,7 @@ use Rattle.rawsocket.specs.declared.fault.Fault as stream
 use Rattle.rawsocket.specs.declared.frame.Kind.{Kind}
 use Rattle.rawsocket.specs.declared.frame.Kind.TheVariants.{Message, Ping, Pong}
 use Rattle.rawsocket.specs.declared.handshake.Serializer.{Serializer}
-use Rattle.rawsocket.proofs.DeframerLemmas.{pieces_join}
+use Rattle.rawsocket.proofs.Lemmas.{pieces_join}
 use Rattle.session.specs.Opened.{IsAnswer, IsEnd, Leads, LeadsBy, Session, Verdict, Undecided, pong}
 use Rattle.session.specs.FrameWalk.{ConversesSince, GoesOn}
 use Rattle.session.specs.declared.fault.Fault.{Fault}

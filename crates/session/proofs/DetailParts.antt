@@ -2,7 +2,8 @@
 use Rattle.std.proofs.Common.{◌≡◌, ℕ, List, [], ◌∷◌, ◌++◌, Bool, true, false, ◌&&◌, ◌||◌, cond, refl, sym, ap, ◌∙◌, append_assoc, append-nil}
 use Rattle.std.specs.Prelude.{codes}
 use Rattle.message_tree.specs.Data.{flag, text, dict, Entries, no_entries, entry, entry_count}
-use Rattle.json_codec.proofs.Parts.{entries_text, dict_text}
+use Rattle.json_codec.specs.Encoder.{entries_text}
+use Rattle.json_codec.proofs.Lemmas.{dict_text}
 use Rattle.msgpack_codec.specs.Short.{entries_short, has_short}
 use Rattle.rawsocket.specs.declared.handshake.Serializer.{Serializer}
 use Rattle.rawsocket.specs.declared.handshake.Serializer.TheVariants.{Json, MsgPack}

@@ -7,7 +7,8 @@ use Rattle.rawsocket.specs.declared.frame.Kind.{Kind}
 use Rattle.rawsocket.specs.declared.frame.Kind.TheVariants.{Message, Ping, Pong}
 use Rattle.rawsocket.specs.declared.handshake.Serializer.{Serializer}
 use Rattle.rawsocket.specs.declared.handshake.Serializer.TheVariants.{Json, MsgPack}
-use Rattle.session.specs.Faults.{stream_fault}
+use Rattle.rawsocket.specs.Steps.{Fine}
+use Rattle.session.specs.Faults.{stream_fault, read_told, write_told}
 use Rattle.session.specs.Opened.{HasCause, IsRefused, Leads, LeadsBy, Verdict, Undecided, Opens, Refuses}
 use Rattle.session.specs.declared.fault.Fault.{Fault}
 use Rattle.session.specs.declared.fault.Fault.TheVariants.{NoMemory, TooDeep, Malformed, NotRawSocket, SerializerUnsupported, ReservedBits, FrameTooLong, FrameType, Shape, ReadFault, WriteFault, TooLongForClient, Ended, NoSuchRealm, TooManyTurns}
@@ -29,6 +30,42 @@ weaker TooLongForClient ended later r r2 w w2 u u2 fe fr fw fu h = tt
 weaker Ended ended later r r2 w w2 u u2 fe fr fw fu h = fe h
 weaker NoSuchRealm ended later r r2 w w2 u u2 fe fr fw fu h = tt
 weaker TooManyTurns ended later r r2 w w2 u u2 fe fr fw fu h = fu h
+
+-- where no read can have failed, none is told
+pub no_read_fault : (f : Fault) (ended : Bool) (w u : Type 0) → HasCause ended ⊥ w u f → read_told f ≡ Fine
+no_read_fault NoMemory ended w u h = refl
+no_read_fault TooDeep ended w u h = refl
+no_read_fault Malformed ended w u h = refl
+no_read_fault NotRawSocket ended w u h = refl
+no_read_fault SerializerUnsupported ended w u h = refl
+no_read_fault ReservedBits ended w u h = refl
+no_read_fault FrameTooLong ended w u h = refl
+no_read_fault FrameType ended w u h = refl
+no_read_fault Shape ended w u h = refl
+no_read_fault ReadFault ended w u h = absurd h
+no_read_fault WriteFault ended w u h = refl
+no_read_fault TooLongForClient ended w u h = refl
+no_read_fault Ended ended w u h = refl
+no_read_fault NoSuchRealm ended w u h = refl
+no_read_fault TooManyTurns ended w u h = refl
+
+-- where no write can have failed, none is told
+pub no_write_fault : (f : Fault) (ended : Bool) (r u : Type 0) → HasCause ended r ⊥ u f → write_told f ≡ Fine
+no_write_fault NoMemory ended r u h = refl
+no_write_fault TooDeep ended r u h = refl
+no_write_fault Malformed ended r u h = refl
+no_write_fault NotRawSocket ended r u h = refl
+no_write_fault SerializerUnsupported ended r u h = refl
+no_write_fault ReservedBits ended r u h = refl
+no_write_fault FrameTooLong ended r u h = refl
+no_write_fault FrameType ended r u h = refl
+no_write_fault Shape ended r u h = refl
+no_write_fault ReadFault ended r u h = refl
+no_write_fault WriteFault ended r u h = absurd h
+no_write_fault TooLongForClient ended r u h = refl
+no_write_fault Ended ended r u h = refl
+no_write_fault NoSuchRealm ended r u h = refl
+no_write_fault TooManyTurns ended r u h = refl
 
 -- frames refuse for no fault of a device
 abbrev pub NeedsNoCause : Verdict → Type 1

@@ -1,7 +1,8 @@
 -- Lists as the octets of their parts.
 use Rattle.std.proofs.Common.{◌≡◌, suc, [], ◌∷◌, ◌++◌, refl, sym, ap, ◌∙◌, append-nil}
 use Rattle.message_tree.specs.Data.{Data, list, Items, no_items, item}
-use Rattle.json_codec.proofs.Parts.{further_text, list_text}
+use Rattle.json_codec.specs.Encoder.{further_text}
+use Rattle.json_codec.proofs.Lemmas.{list_text}
 use Rattle.msgpack_codec.specs.Short.{item_count, items_short}
 use Rattle.rawsocket.specs.declared.handshake.Serializer.{Serializer}
 use Rattle.rawsocket.specs.declared.handshake.Serializer.TheVariants.{Json, MsgPack}

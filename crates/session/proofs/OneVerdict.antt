@@ -1,9 +1,8 @@
 -- What a client's octets decide is one thing.
 use Rattle.std.proofs.Common.{◌≡◌, ◌⊎◌, ℕ, List, [], ◌∷◌, ◌++◌, Bool, true, false, Option, None, Some, Result, Ok, Err, inl, inr, refl, sym, ap, ◌∙◌, subst, drop, arith}
 use Rattle.message_tree.specs.Data.{Data}
-use Rattle.json_codec.proofs.OneTreeAText.{deep-no-other, one-tree, readable}
-use Rattle.msgpack_codec.proofs.SpelledIsRead.{one_spelling}
-use Rattle.msgpack_codec.proofs.SpelledIsNotDeep.{spelled-not-deep}
+use Rattle.json_codec.proofs.Lemmas.{deep-no-other, one-tree, readable}
+use Rattle.msgpack_codec.proofs.Lemmas.{one_spelling, spelled-not-deep}
 use Rattle.rawsocket.specs.Frames.{Content, fault_of, Reads, kept, spelled}
 use Rattle.rawsocket.specs.Handshakes.{accepting, answered}
 use Rattle.rawsocket.specs.declared.fault.Fault as stream
@@ -13,7 +12,7 @@ use Rattle.rawsocket.specs.declared.handshake.Serializer.{Serializer}
 use Rattle.rawsocket.specs.declared.handshake.Serializer.TheVariants.{Json, MsgPack}
 use Rattle.rawsocket.specs.declared.handshake.Handshake.{Handshake}
 use Rattle.rawsocket.specs.declared.handshake.Handshake.TheVariants.{Accept, Refuse, Dropped}
-use Rattle.rawsocket.proofs.DeframerLemmas.{one_split}
+use Rattle.rawsocket.proofs.Lemmas.{one_split}
 use Rattle.session.specs.Laws.{AreAlike, OneOpening, OneVerdict}
 use Rattle.session.specs.Opened.{Asks, Converses, Follows, IsAnswer, IsNoHello, IsRefused, Leads, LeadsBy, Session, Verdict, Undecided, Opens, Refuses, pong, refusal}
 use Rattle.session.specs.FirstMessage.{first_of, is_hello}

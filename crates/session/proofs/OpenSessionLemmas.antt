@@ -1,12 +1,15 @@
 -- From a handshake to the opening of a session.
-use Rattle.std.proofs.Common.{◌≡◌, ◌≤◌, ◌++◌, ◌^◌, ◌+◌, ◌%◌, ◌/◌, ℕ, Bool, true, false, cond, min, get_or, List, [], ◌∷◌, length, drop, Result, inr, refl, sym, ap, ◌∙◌, subst, arith, append_assoc, length-append}
+use Rattle.std.proofs.Common.{◌≡◌, ◌≤◌, ◌⊎◌, ◌++◌, ◌^◌, ◌+◌, ◌%◌, ◌/◌, ℕ, Bool, true, false, cond, min, get_or, List, [], ◌∷◌, length, drop, Result, inl, inr, refl, sym, ap, ◌∙◌, subst, arith, append_assoc, length-append}
 use Rattle.std.specs.Prelude.{◌==◌, ◌&&◌}
 use Rattle.std.proofs.lemmas.List.{drop_at}
 use Rattle.rawsocket.specs.Handshakes.{accepting, answered, limit, reply_of}
+use Rattle.rawsocket.specs.declared.fault.Fault as stream
 use Rattle.rawsocket.specs.declared.fault.Fault.TheVariants as faults
 use Rattle.rawsocket.specs.declared.handshake.Serializer.{Serializer}
 use Rattle.rawsocket.specs.declared.handshake.Serializer.TheVariants.{Json, MsgPack}
 use Rattle.rawsocket.specs.declared.handshake.Handshake.TheVariants.{Accept, Refuse, Dropped}
+use Rattle.rawsocket.specs.Steps.{Fine}
+use Rattle.session.specs.Faults.{stream_fault, read_told, write_told}
 use Rattle.session.specs.Opened.{Converses, Follows, IsOpening, OpensSince, Proceeds, Session, or_nothing}
 use Rattle.session.specs.FrameWalk.{ConversesSince}
 use Rattle.session.specs.declared.fault.Fault.{Fault}
@@ -35,6 +38,22 @@ answered_by false b c d most m s e le = absurd (cc)
 -- a client that is accepted takes no more than a frame's length can say
 pub accepted_limit : (h : List ℕ) (s : Serializer) (m : ℕ) → answered h ≡ Accept s m → m ≤ 16777215
 accepted_limit h s m e = answered_by (get_or h 0 0 == 127) (get_or h 2 0 == 0 && get_or h 3 0 == 0) (get_or h 1 0 % 16 == 1) (get_or h 1 0 % 16 == 2) (limit (get_or h 1 0 / 16)) m s e (bounded (2 ^ (9 + get_or h 1 0 / 16)))
+
+refused_by : (a b c d : Bool) (most : ℕ) (f : stream.Fault)
+    → cond a (cond b (cond c (Accept Json most) (cond d (Accept MsgPack most) (Refuse faults.SerializerUnsupported))) (Refuse faults.ReservedBits)) Dropped ≡ Refuse f → (f ≡ faults.SerializerUnsupported) ⊎ (f ≡ faults.ReservedBits)
+refused_by true true true d most f e = absurd (cc)
+refused_by true true false true most f e = absurd (cc)
+refused_by true true false false most f e = inl (cc)
+refused_by true false c d most f e = inr (cc)
+refused_by false b c d most f e = absurd (cc)
+
+two_rules : (f : stream.Fault) → (f ≡ faults.SerializerUnsupported) ⊎ (f ≡ faults.ReservedBits) → (read_told (stream_fault f) ≡ Fine) × (write_told (stream_fault f) ≡ Fine)
+two_rules f (inl e) = subst (λ x. (read_told (stream_fault x) ≡ Fine) × (write_told (stream_fault x) ≡ Fine)) (sym e) (refl, refl)
+two_rules f (inr e) = subst (λ x. (read_told (stream_fault x) ≡ Fine) × (write_told (stream_fault x) ≡ Fine)) (sym e) (refl, refl)
+
+-- a handshake is refused for no fault of a device
+pub refused_told : (h : List ℕ) (f : stream.Fault) → answered h ≡ Refuse f → (read_told (stream_fault f) ≡ Fine) × (write_told (stream_fault f) ≡ Fine)
+refused_told h f e = two_rules f (refused_by (get_or h 0 0 == 127) (get_or h 2 0 == 0 && get_or h 3 0 == 0) (get_or h 1 0 % 16 == 1) (get_or h 1 0 % 16 == 2) (limit (get_or h 1 0 / 16)) f e)
 
 -- an accepted handshake and the octets after it
 pub accepted_opening : (realms : List (List ℕ)) (h octets written : List ℕ) (s : Serializer) (most : ℕ) (answer : Result Session Fault) → length h ≡ 4 → answered h ≡ Accept s most

@@ -7,8 +7,7 @@ use Rattle.rawsocket.specs.Handshakes.{accepting, answered, reply_of}
 use Rattle.rawsocket.specs.declared.handshake.Serializer.{Serializer}
 use Rattle.rawsocket.specs.declared.handshake.Handshake.{Handshake}
 use Rattle.rawsocket.specs.declared.handshake.Handshake.TheVariants.{Accept, Refuse, Dropped}
-use Rattle.rawsocket.proofs.DeviceLemmas.{nothing_grown, whole_grown, grown_further}
-use Rattle.rawsocket.proofs.DeframerLemmas.{nothing_read, pieces_join}
+use Rattle.rawsocket.proofs.Lemmas.{nothing_grown, whole_grown, grown_further, nothing_read, pieces_join}
 use Rattle.session.specs.Faults.{stream_fault}
 use Rattle.session.specs.Opened.{BeginsOpening, Follows, IsAnswer, Session, Verdict, Undecided, Opens, Refuses, or_nothing}
 use Rattle.session.specs.FrameWalk.{BeginsConversing, Extends, GoesOnPartly}

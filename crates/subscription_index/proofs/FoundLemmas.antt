@@ -5,7 +5,7 @@ use Rattle.std.specs.Str.{bytes_eq}
 use Rattle.std.proofs.lemmas.Bool.{or_cases, or_left, or_right, eqb-true, eq-eqb}
 use Rattle.std.proofs.lemmas.List.Folds.{list_any-append}
 use Rattle.std.proofs.lemmas.Option.{same_Some, none-some}
-use Rattle.wamp_ids.proofs.Equality.{bytes_eq-true, bytes_eq-refl}
+use Rattle.wamp_ids.proofs.Lemmas.{bytes_eq-true, bytes_eq-refl}
 use Rattle.subscription_index.specs.body.Found.{has, Adds}
 
 pub has-append : (xs ys : List ℕ) (n : ℕ) → has (xs ++ ys) n ≡ has xs n || has ys n

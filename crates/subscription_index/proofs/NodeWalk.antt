@@ -4,7 +4,7 @@ use Rattle.std.specs.Str.{bytes_eq}
 use Rattle.std.proofs.Math.Bool.{or_self, and-or_distrib_right}
 use Rattle.std.proofs.lemmas.Bool.{false≢true, and_parts}
 use Rattle.std.proofs.lemmas.Option.{same_Some, none-some}
-use Rattle.wamp_ids.proofs.Equality.{bytes_eq-true, bytes_eq-refl}
+use Rattle.wamp_ids.proofs.Lemmas.{bytes_eq-true, bytes_eq-refl}
 use Rattle.wamp_ids.specs.Uri.{is_empty}
 use Rattle.wamp_ids.specs.Pattern.{fits}
 use Rattle.subscription_index.specs.declared.node.Node.{Node, out-Node}

@@ -4,7 +4,7 @@ use Rattle.std.specs.List.{filter}
 use Rattle.std.proofs.lemmas.Bool.Decides.{nat_tests}
 use Rattle.std.proofs.lemmas.Bool.{eq-eqb}
 use Rattle.std.proofs.lemmas.Option.{same_Some}
-use Rattle.wamp_ids.proofs.Equality.{same_pattern-true}
+use Rattle.wamp_ids.proofs.Lemmas.{same_pattern-true}
 use Rattle.wamp_ids.specs.Pattern.{PatternText, same_pattern}
 use Rattle.subscription_index.specs.Index.{Row, is_before, keys, NamesInAll, IsNamed, IsNumberedTo, number_held, number_of, insert_row, same_key, has_key}
 use Rattle.subscription_index.proofs.Arithmetic.{eqb_comm}

@@ -8,7 +8,7 @@ use Rattle.std.specs.Ordering.{nat_cmp, is_eq}
 use Rattle.std.specs.Str.{bytes_eq}
 use Rattle.std.proofs.lemmas.Bool.Decides.{nat_tests}
 use Rattle.std.proofs.lemmas.Option.{none-some}
-use Rattle.wamp_ids.proofs.Equality.{bytes_eq-true}
+use Rattle.wamp_ids.proofs.Lemmas.{bytes_eq-true}
 use Rattle.subscription_index.specs.body.Found.{has, Adds}
 use Rattle.subscription_index.specs.body.Tables.{Endings, number_by_ending, number_under}
 use Rattle.subscription_index.proofs.Texts.{bytes_either, length_is, order_itself}

@@ -10,7 +10,7 @@ use Rattle.std.proofs.Math.Bool.{and-false}
 use Rattle.std.proofs.Math.Nat.{add_left_cancel}
 use Rattle.std.proofs.lemmas.Bool.{and_parts, or_parts, true≢false, eq-eqb}
 use Rattle.std.proofs.lemmas.Option.{same_Some}
-use Rattle.wamp_ids.proofs.Equality.{same_pattern-true}
+use Rattle.wamp_ids.proofs.Lemmas.{same_pattern-true}
 use Rattle.wamp_ids.specs.Pattern.{PatternText, same_pattern}
 use Rattle.subscription_index.specs.Index.{Row, IsStrictlyAscending, IsNamed, IsNumberedTo, is_before, keys, has_key, same_key, NamesInAll, count_of, number_held, number_of, holds_number, pattern_of, insert_row, is_meant, without, without_all}
 use Rattle.subscription_index.specs.Members.{has_row}

@@ -10,7 +10,7 @@ use Rattle.std.proofs.lemmas.Map.Text.{is_eq-slice_cmp}
 use Rattle.std.proofs.lemmas.Bool.{or_cases, or_right, eqb-true}
 use Rattle.std.proofs.lemmas.List.{append_assoc}
 use Rattle.std.proofs.lemmas.Option.{same_Some}
-use Rattle.wamp_ids.proofs.Equality.{bytes_eq-true, bytes_eq-refl}
+use Rattle.wamp_ids.proofs.Lemmas.{bytes_eq-true, bytes_eq-refl}
 use Rattle.wamp_ids.specs.Uri.{components}
 use Rattle.wamp_ids.specs.Pattern.{fits}
 use Rattle.subscription_index.specs.declared.node.Node.{Node}

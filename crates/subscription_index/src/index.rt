@@ -34,7 +34,8 @@ impl Model for Index {
 
     ghost view = { λ s. record { rows = s.rows.entries; opened = s.opened } };
 
-    ghost invariant = { λ s. IsIndex (record { rows = s.rows.entries; opened = s.opened }) × NamesAll s.rows.entries s.names × IsShared s.rows.entries s.holders s.counts };
+    ghost invariant = { λ s. IsIndex (record { rows = s.rows.entries; opened = s.opened })
+        × NamesAll s.rows.entries s.names × IsShared s.rows.entries s.holders s.counts };
 }
 
 impl Index {

@@ -3,7 +3,7 @@ ghost use Rattle.std.specs.Prelude.{◌≡◌, length};
 ghost use Rattle.realm_inbox.specs.EndViews.{received};
 
 use crate::id_words::IdWords;
-use crate::seat_table::{SEATS, SeatTable};
+use crate::seat_table::SeatTable;
 use crate::work::Work;
 use crossbeam_channel::Sender;
 use realm::RealmConfig;
@@ -11,6 +11,7 @@ use realm_actor::Actor;
 use realm_inbox::{Act, Inbox, Post, Shut};
 use std::alloc::Global;
 use std::sync::{Arc, Wait};
+use wamp_ids::SEATS;
 
 /// What the thread of a realm's actor has.
 #[derive(Drop)]
@@ -73,7 +74,7 @@ fn turn_away<S: Shut>(post: &Post<S>) {
 
 // Marks the connections whose sessions the actor holds.
 fn mark_held<S: Shut>(actor: &Actor<S, IdWords>, marks: &SeatTable) {
-    for place in 0..SEATS {
+    for place in 0..SEATS as usize {
         if let Some(conn) = marks.conn_at(place) {
             if actor.holds(conn) {
                 marks.hold(conn);

@@ -4,7 +4,7 @@ use crate::handover::{Handover, Posters, Slot};
 use crate::plan::Plan;
 use crate::reader_thread::Reader;
 use crate::realm_handle::RealmHandle;
-use crate::seat_table::{SEATS, SeatTable};
+use crate::seat_table::SeatTable;
 use connection::Seats;
 use rawsocket::devices::{Sink, Source, Turns, send};
 use rawsocket::no_seat_reply;
@@ -13,7 +13,7 @@ use std::alloc::{AllocError, Global};
 use std::sync::atomic::{AtomicBool, Ordering};
 use std::sync::{Arc, Mutex, Wait};
 use std::thread::{self, JoinHandle, Threads};
-use wamp_ids::{Conn, seat};
+use wamp_ids::{Conn, SEATS, seat};
 
 /// A connection that is served: its reader's thread, which waits for its writer's.
 #[derive(Drop)]
@@ -39,7 +39,7 @@ pub struct ConnectionTable<S: Shut> {
 impl<S: Shut> ConnectionTable<S> {
     /// Nobody is served, and there are no realms yet.
     pub fn new(alloc: Global, plan: Plan) -> Result<ConnectionTable<S>, AllocError> {
-        let mut entries = Vec::with_capacity(alloc, SEATS)?;
+        let mut entries = Vec::with_capacity(alloc, SEATS as usize)?;
         for _ in 0..SEATS {
             entries.push(None)?;
         }

@@ -1,10 +1,7 @@
 //! Which connection is at each seat, and whose session an actor held when it ended.
 use std::alloc::{AllocError, Global};
 use std::sync::atomic::{AtomicBool, AtomicU64, Ordering};
-use wamp_ids::{Conn, seat};
-
-/// How many seats there are.
-pub const SEATS: usize = 256;
+use wamp_ids::{Conn, SEATS, seat};
 
 /// What is known of one seat.
 #[derive(Drop)]
@@ -24,7 +21,7 @@ pub struct SeatTable {
 impl SeatTable {
     /// Nobody is at any seat.
     pub fn new(alloc: Global) -> Result<SeatTable, AllocError> {
-        let mut marks = Vec::with_capacity(alloc, SEATS)?;
+        let mut marks = Vec::with_capacity(alloc, SEATS as usize)?;
         for _ in 0..SEATS {
             marks.push(SeatRow {
                 conn: AtomicU64::new(0),

@@ -3,7 +3,7 @@ ghost use Rattle.std.specs.Prelude.{◌≡◌, []};
 ghost use Rattle.broker_server.specs.declared.fault.Fault.TheVariants.{ListenFault};
 
 use broker_server::{Fault, explain, help, shown_line};
-use std::alloc::Global;
+use std::alloc::{AllocError, Global};
 use std::io;
 
 /// A fault, and what is told behind its line.
@@ -71,7 +71,7 @@ impl Failure {
 }
 
 /// What is told of words that are refused.
-fn told_of(alloc: Global, words: &[String]) -> Result<Vec<u8>, Fault> {
+fn told_of(alloc: Global, words: &[String]) -> Result<Vec<u8>, AllocError> {
     if words.is_empty() {
         return Ok(help(alloc)?.into_bytes());
     }

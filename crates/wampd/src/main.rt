@@ -6,7 +6,9 @@
 
 ghost use Rattle.std.specs.Prelude.{◌≡◌, ◌≢◌, ◌<◌, ◌≤◌, ◌+◌, ◌++◌, Err, IfErr, OnOk};
 ghost use Rattle.rawsocket.specs.Devices.{GrowsByBeginning};
+ghost use Rattle.rawsocket.specs.Steps.{WholeSteps, meter, told_by};
 ghost use Rattle.broker_server.specs.Commands.{IsServable, IsWritten, fault_line, status_of};
+ghost use Rattle.broker_server.specs.Outcome.{write_told};
 
 mod failure;
 
@@ -131,12 +133,9 @@ fn announce<S: Sink>(alloc: Global, output: &mut S, host: &str, port: u16) -> Re
 fn print<S: Sink>(output: &mut S, text: &[u8]) -> Result<(), Fault>
     ensures written { OnOk result (S.taken output.new ≡ S.taken output.old ++ text.now) }
     ensures begun { GrowsByBeginning (S.taken output.old) (S.taken output.new) text.now }
-    ensures fine { OnOk result (S.failures output.new ≡ S.failures output.old) }
-    ensures told { IfErr result (λ fault. fault ≢ Fault.WriteFault
-        → S.failures output.new ≡ S.failures output.old) }
-    ensures cause { result ≡ Err Fault.WriteFault → S.failures output.old < S.failures output.new }
     ensures which { IfErr result (λ fault. fault ≢ Fault.WriteFault → fault ≡ Fault.TooManyTurns) }
-    ensures writes { S.calls output.new ≤ S.calls output.old + 4294967296 }
+    ensures writes { WholeSteps (meter (S.calls output.old) (S.failures output.old))
+        (meter (S.calls output.new) (S.failures output.new)) (told_by write_told result) }
 {
     let mut turns = Turns::new();
     match send(output, text, &mut turns) {

@@ -10,7 +10,7 @@ use crate::command_line::version::{asks_for_version, version};
 use crate::fault::Fault;
 use clap::ArgMatches;
 use clap::error::ErrorKind;
-use std::alloc::Global;
+use std::alloc::{AllocError, Global};
 use threaded_server::{Config, Ids};
 use wamp_ids::Topic;
 
@@ -71,22 +71,19 @@ pub fn read_command(alloc: Global, words: &[String]) -> Result<Command, Fault>
 /// `shown_line` makes a line of it that can be printed.
 ///
 /// # Errors
-/// `NoMemory` where a growth was refused.
-pub fn explain(alloc: Global, words: &[String]) -> Result<String, Fault>
+/// [`AllocError`] where a growth was refused.
+pub fn explain(alloc: Global, words: &[String]) -> Result<String, AllocError>
     ensures hint { IfOk result (λ text. EndsIn (hint (command_of words.now)) (string_bytes text)) }
-    ensures fault { IfErr result (λ fault. fault ≡ Fault.NoMemory) }
 {
     let reason = reason_of(alloc, words)?;
-    Ok(with_hint(alloc, reason.as_str(), command_of(words))?)
+    with_hint(alloc, reason.as_str(), command_of(words))
 }
 
 /// What is wrong with words.
-fn reason_of(alloc: Global, words: &[String]) -> Result<String, Fault>
-    ensures { IfErr result (λ fault. fault ≡ Fault.NoMemory) }
-{
+fn reason_of(alloc: Global, words: &[String]) -> Result<String, AllocError> {
     match read_words(alloc, words) {
-        Ok(_) => Ok(String::from_str(alloc, "nothing is wrong")?),
-        Err(Refusal::NoMemory) => Err(Fault::NoMemory),
+        Ok(_) => String::from_str(alloc, "nothing is wrong"),
+        Err(Refusal::NoMemory) => Err(AllocError),
         Err(Refusal::Usage(reason)) => Ok(reason),
     }
 }
@@ -94,14 +91,12 @@ fn reason_of(alloc: Global, words: &[String]) -> Result<String, Fault>
 /// The help that `--help` asks for.
 ///
 /// # Errors
-/// `NoMemory` where a growth was refused.
-pub fn help(alloc: Global) -> Result<String, Fault>
-    ensures fault { IfErr result (λ fault. fault ≡ Fault.NoMemory) }
-{
+/// [`AllocError`] where a growth was refused.
+pub fn help(alloc: Global) -> Result<String, AllocError> {
     let words = vec![in alloc; String::from_str(alloc, "--help")?]?;
     match read_words(alloc, &words) {
         Ok(Command::Help(text)) => Ok(text),
-        _ => Err(Fault::NoMemory),
+        _ => Err(AllocError),
     }
 }
 

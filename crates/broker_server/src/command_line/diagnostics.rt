@@ -1,7 +1,8 @@
 //! What standard error is told of a fault, and the exit status that it gives.
 ghost use Rattle.std.specs.Prelude.{◌≡◌, ◌⊎◌, ◌+◌, ◌++◌, ◌<◌, ◌≢◌, ◌≤◌, Err, IfErr, OnOk, string_bytes};
 ghost use Rattle.rawsocket.specs.Devices.{GrowsByBeginning};
-ghost use Rattle.rawsocket.specs.declared.fault.Fault.TheVariants.{WriteFault as WriteFailed};
+ghost use Rattle.rawsocket.specs.Steps.{Steps, device_told, meter, told_by};
+ghost use Rattle.rawsocket.specs.declared.fault.Fault.TheVariants.{WriteFault as WriteFailed, TooManyTurns as NoTurnLeft};
 ghost use Rattle.session.specs.Opened.{AreUsedUp, AreWithinTurns};
 ghost use Rattle.broker_server.specs.Commands.{IsWritten, fault_line, line_number, name_of, status_of};
 
@@ -31,12 +32,10 @@ fn write_number<S: Sink>(
     turns: &mut Turns,
 ) -> Result<(), rawsocket::Fault>
     ensures written { OnOk result (S.taken sink.new ≡ S.taken sink.old ++ line_number fault.now) }
-    ensures fine { OnOk result (S.failures sink.new ≡ S.failures sink.old) }
     ensures begun { GrowsByBeginning (S.taken sink.old) (S.taken sink.new) (line_number fault.now) }
-    ensures calls { S.calls sink.new + turns.new ≡ S.calls sink.old + turns.old }
-    ensures failures { S.failures sink.old ≤ S.failures sink.new }
-    ensures device { result ≡ Err WriteFailed → S.failures sink.old < S.failures sink.new }
-    ensures turns { IfErr result (λ of. of ≢ WriteFailed → turns.new ≡ 0) }
+    ensures steps { Steps (meter (S.calls sink.old) (S.failures sink.old) turns.old)
+        (meter (S.calls sink.new) (S.failures sink.new) turns.new) (told_by device_told result) }
+    ensures which { IfErr result (λ of. of ≢ WriteFailed → of ≡ NoTurnLeft) }
 {
     match fault {
         Fault::BadLine(line) => {
@@ -55,10 +54,9 @@ fn write_fault<S: Sink>(
 ) -> Result<(), rawsocket::Fault>
     ensures written { OnOk result (S.taken sink.new ≡ S.taken sink.old ++ fault_line fault.now) }
     ensures begun { GrowsByBeginning (S.taken sink.old) (S.taken sink.new) (fault_line fault.now) }
-    ensures calls { S.calls sink.new + turns.new ≡ S.calls sink.old + turns.old }
-    ensures failures { S.failures sink.old ≤ S.failures sink.new }
-    ensures device { result ≡ Err WriteFailed → S.failures sink.old < S.failures sink.new }
-    ensures turns { IfErr result (λ of. of ≢ WriteFailed → turns.new ≡ 0) }
+    ensures steps { Steps (meter (S.calls sink.old) (S.failures sink.old) turns.old)
+        (meter (S.calls sink.new) (S.failures sink.new) turns.new) (told_by device_told result) }
+    ensures which { IfErr result (λ of. of ≢ WriteFailed → of ≡ NoTurnLeft) }
 {
     write_all(sink, b"wampd: ", turns)?;
     write_all(sink, name(fault).as_bytes(), turns)?;
@@ -108,10 +106,9 @@ fn write_failure<S: Sink>(
         ≡ S.taken sink.old ++ (fault_line fault.now ++ more.now)) }
     ensures begun { GrowsByBeginning (S.taken sink.old) (S.taken sink.new)
         (fault_line fault.now ++ more.now) }
-    ensures calls { S.calls sink.new + turns.new ≡ S.calls sink.old + turns.old }
-    ensures failures { S.failures sink.old ≤ S.failures sink.new }
-    ensures device { result ≡ Err WriteFailed → S.failures sink.old < S.failures sink.new }
-    ensures turns { IfErr result (λ of. of ≢ WriteFailed → turns.new ≡ 0) }
+    ensures steps { Steps (meter (S.calls sink.old) (S.failures sink.old) turns.old)
+        (meter (S.calls sink.new) (S.failures sink.new) turns.new) (told_by device_told result) }
+    ensures which { IfErr result (λ of. of ≢ WriteFailed → of ≡ NoTurnLeft) }
 {
     write_fault(fault, sink, turns)?;
     send(sink, more, turns)

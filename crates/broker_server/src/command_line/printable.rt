@@ -1,9 +1,8 @@
 //! Text of unknown origin, as a line that a terminal can be given.
-ghost use Rattle.std.specs.Prelude.{◌≡◌, ◌++◌, ◌<◌, ◌≤◌, IfErr, IfOk, OnOk, length, take};
+ghost use Rattle.std.specs.Prelude.{◌≡◌, ◌++◌, ◌<◌, ◌≤◌, IfOk, OnOk, length, take};
 ghost use Rattle.broker_server.specs.Reasons.{dots, hex_digit, shown, shown_line, shown_octet};
 
-use crate::fault::Fault;
-use std::alloc::Global;
+use std::alloc::{AllocError, Global};
 
 /// How many octets of a text are shown.
 const MOST: usize = 1000;
@@ -21,17 +20,15 @@ fn hex_digit(number: u8) -> u8
 }
 
 /// Adds an octet as it is shown.
-fn push_shown(line: &mut Vec<u8>, octet: u8) -> Result<(), Fault>
+fn push_shown(line: &mut Vec<u8>, octet: u8) -> Result<(), AllocError>
     ensures added { OnOk result (line.new.items ≡ line.old.items ++ shown_octet octet) }
-    ensures fault { IfErr result (λ fault. fault ≡ Fault.NoMemory) }
 {
     if 32 <= octet && octet <= 126 {
         line.push(octet)?;
         return Ok(());
     }
     let spelt = [b'\\', b'x', hex_digit(octet / 16), hex_digit(octet % 16)];
-    line.extend_from_slice(&spelt)?;
-    Ok(())
+    line.extend_from_slice(&spelt)
 }
 
 /// The first octets, so many at most.
@@ -55,20 +52,18 @@ fn dots(octets: &[u8]) -> &'static str
 /// 1,000 are shown, and then `..`.
 ///
 /// # Errors
-/// `NoMemory` where a growth was refused.
-pub fn shown_line(alloc: Global, text: &str) -> Result<Vec<u8>, Fault>
+/// [`AllocError`] where a growth was refused.
+pub fn shown_line(alloc: Global, text: &str) -> Result<Vec<u8>, AllocError>
     ensures line { IfOk result (λ line. line.items ≡ shown_line text.now) }
     ensures bounded { IfOk result (λ line. length line.items ≤ 4003) }
-    ensures fault { IfErr result (λ fault. fault ≡ Fault.NoMemory) }
 {
     line_of(alloc, text.as_bytes())
 }
 
 /// These octets as one line.
 #[tactic(auto, unfolding(crate::specs::Reasons::first))]
-fn line_of(alloc: Global, octets: &[u8]) -> Result<Vec<u8>, Fault>
+fn line_of(alloc: Global, octets: &[u8]) -> Result<Vec<u8>, AllocError>
     ensures line { IfOk result (λ line. line.items ≡ shown_line octets.now) }
-    ensures fault { IfErr result (λ fault. fault ≡ Fault.NoMemory) }
 {
     let mut line = Vec::new(alloc);
     push_all(&mut line, first(octets, MOST))?;
@@ -78,9 +73,8 @@ fn line_of(alloc: Global, octets: &[u8]) -> Result<Vec<u8>, Fault>
 }
 
 /// Adds octets as they are shown.
-fn push_all(line: &mut Vec<u8>, octets: &[u8]) -> Result<(), Fault>
+fn push_all(line: &mut Vec<u8>, octets: &[u8]) -> Result<(), AllocError>
     ensures added { OnOk result (line.new.items ≡ line.old.items ++ shown octets.now) }
-    ensures fault { IfErr result (λ fault. fault ≡ Fault.NoMemory) }
 {
     for octet in octets {
         push_shown(line, *octet)?;

@@ -1,5 +1,5 @@
 //! A replay as it stands between two lines: the realm, and which numbers were named so far.
-ghost use Rattle.std.specs.Prelude.{◌≡◌, ◌++◌, ℕ, true, cond, IfErr, IfOk, OnOk};
+ghost use Rattle.std.specs.Prelude.{◌≡◌, ◌++◌, ℕ, true, cond, IfOk, OnOk};
 ghost use Rattle.realm.specs.History.{◌▷◌};
 ghost use Rattle.realm.specs.Sessions.{conn_of, live, may_come, may_join};
 ghost use Rattle.realm.specs.Words.{draws_word};
@@ -15,7 +15,7 @@ use message_tree::Text;
 use realm::{Entry, RealmConfig};
 use schedules::World;
 use session::{First, Item, Said, abort_reason, first};
-use std::alloc::Global;
+use std::alloc::{AllocError, Global};
 use std::marker::Model;
 use std::slice;
 use threaded_server::copy_grants;
@@ -44,7 +44,9 @@ impl Model for LineReplay {
 
     ghost view = { λ s. record { realm = s.name; named = s.named.items; history = s.world.history } };
 
-    ghost invariant = { λ s. IsLineReplay (record { realm = s.name; named = s.named.items; history = s.world.history }) s.words };
+    ghost invariant = { λ s.
+        IsLineReplay (record { realm = s.name; named = s.named.items; history = s.world.history })
+        s.words };
 }
 
 /// How many words an entry draws.
@@ -60,7 +62,7 @@ impl LineReplay {
         alloc: Global,
         name: &Topic,
         grants: &[(String, String)],
-    ) -> Result<LineReplay, Fault>
+    ) -> Result<LineReplay, AllocError>
         ensures { IfOk result (λ script. script ≡ starting (bytes_of grants.now) name.now) }
     {
         let config = RealmConfig {
@@ -68,7 +70,7 @@ impl LineReplay {
             grants: copy_grants(alloc, grants)?,
         };
         let Ok(world) = World::new(alloc, config, 1, 1) else {
-            return Err(Fault::NoMemory);
+            return Err(AllocError);
         };
         Ok(LineReplay {
             world,
@@ -90,7 +92,7 @@ impl LineReplay {
         false
     }
 
-    /// Adds the entry to the history, and prints what it gives. `NoMemory` also where an earlier
+    /// Adds the entry to the history, and prints what it gives. `AllocError` also where an earlier
     /// refusal left items that nobody took.
     fn apply(
         &mut self,
@@ -98,7 +100,7 @@ impl LineReplay {
         number: Conn,
         entry: Entry,
         out: &mut Vec<u8>,
-    ) -> Result<(), Fault>
+    ) -> Result<(), AllocError>
         requires conn { conn_of entry ≡ number }
         requires may_come { may_come self.old.history entry ≡ true }
         requires number { is_number number ≡ true }
@@ -107,18 +109,17 @@ impl LineReplay {
             { history = self.old.history ▷ entry }) }
         ensures printed { OnOk result (PrintsEntry self.old.history entry number out.old.items
             out.new.items) }
-        ensures fault { IfErr result (λ fault. fault ≡ Fault.NoMemory) }
     {
         if !self.world.is_at_rest() {
-            return Err(Fault::NoMemory);
+            return Err(AllocError);
         }
         let drawn = draws(&entry);
         let Ok(()) = self.world.enter(alloc, entry) else {
-            return Err(Fault::NoMemory);
+            return Err(AllocError);
         };
         self.words = self.words.wrapping_add(drawn);
         let Ok(given) = self.world.take_all(alloc) else {
-            return Err(Fault::NoMemory);
+            return Err(AllocError);
         };
         print_all(alloc, out, &given)?;
         if !self.world.is_live(number) {
@@ -156,9 +157,8 @@ impl LineReplay {
         number: Conn,
         fault: session::Fault,
         out: &mut Vec<u8>,
-    ) -> Result<(), Fault>
+    ) -> Result<(), AllocError>
         ensures printed { OnOk result (out.new.items ≡ out.old.items ++ refused number fault) }
-        ensures fault { IfErr result (λ of. of ≡ Fault.NoMemory) }
     {
         if let Some(reason) = abort_reason(fault) {
             print_item(alloc, out, number, &Item::Abort(reason))?;
@@ -173,7 +173,7 @@ impl LineReplay {
         number: Conn,
         speech: Speech,
         out: &mut Vec<u8>,
-    ) -> Result<(), Fault>
+    ) -> Result<(), AllocError>
         requires number { is_number number ≡ true }
         requires named { is_named self.old number ≡ true }
         requires may_join { may_join self.old.history number ≡ true }
@@ -181,7 +181,6 @@ impl LineReplay {
             { history = history_with self.old.history (opening self.old number speech) }) }
         ensures printed { OnOk result (PrintsOpening self.old number speech out.old.items
             out.new.items) }
-        ensures fault { IfErr result (λ fault. fault ≡ Fault.NoMemory) }
     {
         match speech {
             Speech::Gone => print_end(out, number),
@@ -197,7 +196,7 @@ impl LineReplay {
         number: Conn,
         said: Said,
         out: &mut Vec<u8>,
-    ) -> Result<(), Fault>
+    ) -> Result<(), AllocError>
         requires number { is_number number ≡ true }
         requires named { is_named self.old number ≡ true }
         requires may_join { may_join self.old.history number ≡ true }
@@ -206,7 +205,6 @@ impl LineReplay {
         }) }
         ensures printed { OnOk result (PrintsOpening self.old number (Speech.Said said)
             out.old.items out.new.items) }
-        ensures fault { IfErr result (λ fault. fault ≡ Fault.NoMemory) }
     {
         match first(said, slice::from_ref(&self.name)) {
             Ok(First { authid, .. }) => {
@@ -224,19 +222,18 @@ impl LineReplay {
     /// One line, whose number is one: what it gives is added to the output.
     ///
     /// # Errors
-    /// `NoMemory` where a growth was refused; nothing is said of the replay then.
+    /// [`AllocError`] where a growth was refused; nothing is said of the replay then.
     pub fn apply_line(
         &mut self,
         alloc: Global,
         number: Conn,
         speech: Speech,
         out: &mut Vec<u8>,
-    ) -> Result<(), Fault>
+    ) -> Result<(), AllocError>
         requires { is_number number ≡ true }
         ensures next { OnOk result (self.new ≡ after self.old number speech) }
         ensures printed { OnOk result (PrintsMore self.old number speech out.old.items
             out.new.items) }
-        ensures fault { IfErr result (λ fault. fault ≡ Fault.NoMemory) }
     {
         if !self.is_named(number) {
             self.named.push(number)?;

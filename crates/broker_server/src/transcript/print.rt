@@ -1,21 +1,19 @@
 //! What a replay prints.
-ghost use Rattle.std.specs.Prelude.{◌≡◌, ◌++◌, OnOk, IfErr};
+ghost use Rattle.std.specs.Prelude.{◌≡◌, ◌++◌, OnOk};
 ghost use Rattle.session.specs.ToClient.{message_of};
 ghost use Rattle.json_codec.specs.Encoder.{json_text};
 ghost use Rattle.broker_server.specs.Transcript.{ended, item_text, printed, printed_all};
 ghost use Rattle.message_tree.specs.Meaning.{meaning};
 
-use crate::fault::Fault;
 use itoa::Buffer;
 use message_tree::Message;
 use session::{Item, item_message};
-use std::alloc::Global;
+use std::alloc::{AllocError, Global};
 use wamp_ids::Conn;
 
 /// A line of output.
-fn print(out: &mut Vec<u8>, number: Conn, text: &[u8]) -> Result<(), Fault>
+fn print(out: &mut Vec<u8>, number: Conn, text: &[u8]) -> Result<(), AllocError>
     ensures printed { OnOk result (out.new.items ≡ out.old.items ++ printed number text.now) }
-    ensures fault { IfErr result (λ fault. fault ≡ Fault.NoMemory) }
 {
     let mut buffer = Buffer::new();
     out.extend_from_slice(buffer.format(number.value()).as_bytes())?;
@@ -26,23 +24,25 @@ fn print(out: &mut Vec<u8>, number: Conn, text: &[u8]) -> Result<(), Fault>
 }
 
 /// The line that says that a number has ended.
-pub fn print_end(out: &mut Vec<u8>, number: Conn) -> Result<(), Fault>
+pub fn print_end(out: &mut Vec<u8>, number: Conn) -> Result<(), AllocError>
     ensures printed { OnOk result (out.new.items ≡ out.old.items ++ ended number) }
-    ensures fault { IfErr result (λ fault. fault ≡ Fault.NoMemory) }
 {
     print(out, number, b"end")
 }
 
 /// The line of an item.
-pub fn print_item(alloc: Global, out: &mut Vec<u8>, number: Conn, item: &Item) -> Result<(), Fault>
+pub fn print_item(
+    alloc: Global,
+    out: &mut Vec<u8>,
+    number: Conn,
+    item: &Item,
+) -> Result<(), AllocError>
     ensures printed { OnOk result (out.new.items ≡ out.old.items ++ printed
         number (item_text (message_of item.now))) }
-    ensures fault { IfErr result (λ fault. fault ≡ Fault.NoMemory) }
 {
-    match item_message(alloc, item) {
-        Ok(Some(message)) => print_message(alloc, out, number, &message),
-        Ok(None) => print(out, number, b""),
-        Err(_) => Err(Fault::NoMemory),
+    match item_message(alloc, item)? {
+        Some(message) => print_message(alloc, out, number, &message),
+        None => print(out, number, b""),
     }
 }
 
@@ -52,21 +52,23 @@ fn print_message(
     out: &mut Vec<u8>,
     number: Conn,
     message: &Message,
-) -> Result<(), Fault>
+) -> Result<(), AllocError>
     ensures printed { OnOk result (out.new.items ≡ out.old.items ++ printed
         number (json_text (meaning message.now))) }
-    ensures fault { IfErr result (λ fault. fault ≡ Fault.NoMemory) }
 {
     match json_codec::encode(alloc, message) {
         Ok(text) => print(out, number, &text),
-        Err(_) => Err(Fault::NoMemory),
+        Err(_) => Err(AllocError),
     }
 }
 
 /// The lines of what was given.
-pub fn print_all(alloc: Global, out: &mut Vec<u8>, given: &Vec<(Conn, Item)>) -> Result<(), Fault>
+pub fn print_all(
+    alloc: Global,
+    out: &mut Vec<u8>,
+    given: &Vec<(Conn, Item)>,
+) -> Result<(), AllocError>
     ensures printed { OnOk result (out.new.items ≡ out.old.items ++ printed_all given.now.items) }
-    ensures fault { IfErr result (λ fault. fault ≡ Fault.NoMemory) }
 {
     for (number, item) in given {
         print_item(alloc, out, *number, item)?;

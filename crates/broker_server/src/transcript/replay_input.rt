@@ -1,10 +1,11 @@
 //! A replay as it stands between two pieces of its input: the line that isn't ended yet, and what is to be written.
 ghost use Rattle.std.specs.Prelude.{◌≡◌, ◌≢◌, ◌++◌, ◌+◌, ◌<◌, ◌≤◌, ◌^◌, ℕ, [], ◌∷◌, drop, length, take, false, true, IfErr, IfNone, IfOk, IfSome, OnOk};
 ghost use Rattle.rawsocket.specs.Devices.{GrowsByBeginning};
+ghost use Rattle.rawsocket.specs.Steps.{Steps, meter, told_by};
 ghost use Rattle.broker_server.specs.Grants.{bytes_of};
 ghost use Rattle.broker_server.specs.Lines.{has_line_feed};
 ghost use Rattle.broker_server.specs.Progress.{Completes, Goes, IsRefused, Stops, TellsMore};
-ghost use Rattle.broker_server.specs.Outcome.{HasCause};
+ghost use Rattle.broker_server.specs.Outcome.{HasCause, write_told};
 ghost use Rattle.broker_server.specs.Transcript.{starting};
 
 use crate::fault::Fault;
@@ -12,7 +13,7 @@ use crate::transcript::line::{LONGEST, read_line};
 use crate::transcript::line_replay::LineReplay;
 use crate::transcript::speech::read_speech;
 use rawsocket::devices::{Sink, Turns};
-use std::alloc::Global;
+use std::alloc::{AllocError, Global};
 use std::marker::Model;
 use wamp_ids::Topic;
 
@@ -83,13 +84,11 @@ impl ReplayInput {
     }
 
     /// Takes octets without LF.
-    fn keep_octets(&mut self, octets: &[u8]) -> Result<(), Fault>
+    fn keep_octets(&mut self, octets: &[u8]) -> Result<(), AllocError>
         ensures held { OnOk result (self.new ≡ record self.old
             { rest = self.old.rest ++ octets.now }) }
-        ensures fault { IfErr result (λ fault. fault ≡ Fault.NoMemory) }
     {
-        self.rest.extend_from_slice(octets)?;
-        Ok(())
+        self.rest.extend_from_slice(octets)
     }
 
     /// Takes the octets up to the next LF, and tells the line.
@@ -160,11 +159,9 @@ impl ReplayInput {
         ensures written { OnOk result (O.taken sink.new ≡ O.taken sink.old ++ self.old.out) }
         ensures emptied { OnOk result (self.new ≡ record self.old { out = [] }) }
         ensures begun { GrowsByBeginning (O.taken sink.old) (O.taken sink.new) self.old.out }
-        ensures calls { O.calls sink.new + writing.new ≡ O.calls sink.old + writing.old }
-        ensures failures { O.failures sink.old ≤ O.failures sink.new }
-        ensures fine { OnOk result (O.failures sink.new ≡ O.failures sink.old) }
-        ensures writes_told { IfErr result (λ fault. fault ≢ Fault.WriteFault
-            → O.failures sink.new ≡ O.failures sink.old) }
+        ensures writes { Steps (meter (O.calls sink.old) (O.failures sink.old) writing.old)
+            (meter (O.calls sink.new) (O.failures sink.new) writing.new)
+            (told_by write_told result) }
         ensures cause { IfErr result (HasCause
             ⊥ (O.failures sink.old < O.failures sink.new) (writing.new ≡ 0)) }
         ensures fault { (k : ℕ) → result ≢ Err (Fault.BadLine k) }

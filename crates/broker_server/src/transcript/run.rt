@@ -1,43 +1,15 @@
 //! `replay`: reads the input to its end, and writes what each piece gives before it reads the next.
 ghost use Rattle.std.specs.Prelude.{◌≡◌, ◌≢◌, ◌++◌, ◌+◌, ◌<◌, ◌≤◌, ◌⊎◌, ℕ, [], length, take, true, IfErr, IfOk, OnErr, OnOk};
 ghost use Rattle.broker_server.specs.Grants.{bytes_of};
-ghost use Rattle.broker_server.specs.Outcome.{BeginsReplay, IsReplayed, StopsAt, IsFresh, FromRealm, HasCause};
-ghost use Rattle.session.specs.Opened.{AreUsedUp, AreWithinTurns};
+ghost use Rattle.broker_server.specs.Outcome.{BeginsReplay, IsReplayed, StopsAt, IsFresh, FromRealm, HasCause, read_told, write_told};
+ghost use Rattle.rawsocket.specs.Steps.{Steps, WholeSteps, meter, told_by};
+ghost use Rattle.session.specs.Opened.{AreUsedUp};
 
 use crate::fault::Fault;
 use crate::transcript::replay_input::ReplayInput;
-use rawsocket::devices::{PIECE, Sink, Source, Turns, read_turn};
+use rawsocket::devices::{NoOctets, PIECE, Sink, Source, Turns, read_piece};
 use std::alloc::Global;
 use threaded_server::Config;
-
-/// Reads the next octets of the input; none at its end.
-fn read_piece<I: Source>(
-    source: &mut I,
-    buffer: &mut [u8],
-    turns: &mut Turns,
-) -> Result<usize, Fault>
-    requires { 0 < length buffer.old }
-    ensures within { IfOk result (λ n. n ≤ length buffer.new) }
-    ensures given { IfOk result (λ n. I.given source.new ≡ I.given source.old ++ take n
-        buffer.new) }
-    ensures end { IfOk result (λ n. n ≡ 0 → I.is_ended source.new ≡ true) }
-    ensures kept { OnErr result (I.given source.new ≡ I.given source.old) }
-    ensures turn { OnOk result (turns.old ≡ turns.new + 1) }
-    ensures calls { I.calls source.new + turns.new ≡ I.calls source.old + turns.old }
-    ensures failures { I.failures source.old ≤ I.failures source.new }
-    ensures fine { OnOk result (I.failures source.new ≡ I.failures source.old) }
-    ensures reads_told { IfErr result (λ fault. fault ≢ Fault.ReadFault
-        → I.failures source.new ≡ I.failures source.old) }
-    ensures cause { IfErr result (HasCause (I.failures source.old < I.failures source.new)
-        ⊥ (turns.new ≡ 0)) }
-    ensures fault { (k : ℕ) → result ≢ Err (Fault.BadLine k) }
-{
-    match read_turn(source, buffer, turns) {
-        Ok(count) => Ok(count),
-        Err(rawsocket::Fault::ReadFault) => Err(Fault::ReadFault),
-        Err(_) => Err(Fault::TooManyTurns),
-    }
-}
 
 /// Reads the input to its end, in pieces of the buffer, and writes what each piece gives.
 fn replay_all<I: Source, O: Sink>(
@@ -60,15 +32,10 @@ fn replay_all<I: Source, O: Sink>(
     ensures begun { OnErr result (BeginsReplay
         told.old.replay (I.given source.old) (I.given source.new) (I.is_ended source.new)
         (O.taken sink.old) (O.taken sink.new)) }
-    ensures calls { O.calls sink.new + writing.new ≡ O.calls sink.old + writing.old }
-    ensures failures { O.failures sink.old ≤ O.failures sink.new }
-    ensures fine { OnOk result ((I.failures source.new ≡ I.failures source.old)
-        × (O.failures sink.new ≡ O.failures sink.old)) }
-    ensures reads_told { IfErr result (λ fault. fault ≢ Fault.ReadFault
-        → I.failures source.new ≡ I.failures source.old) }
-    ensures writes_told { IfErr result (λ fault. fault ≢ Fault.WriteFault
-        → O.failures sink.new ≡ O.failures sink.old) }
-    ensures reads { AreWithinTurns (I.calls source.old) (I.calls source.new) }
+    ensures reads { WholeSteps (meter (I.calls source.old) (I.failures source.old))
+        (meter (I.calls source.new) (I.failures source.new)) (told_by read_told result) }
+    ensures writes { Steps (meter (O.calls sink.old) (O.failures sink.old) writing.old)
+        (meter (O.calls sink.new) (O.failures sink.new) writing.new) (told_by write_told result) }
     ensures cause { IfErr result (HasCause (I.failures source.old < I.failures source.new)
         (O.failures sink.old < O.failures sink.new)
         ((AreUsedUp (I.calls source.old) (I.calls source.new)) ⊎ (writing.new ≡ 0))) }
@@ -77,14 +44,15 @@ fn replay_all<I: Source, O: Sink>(
     'pieces: loop {
         let count = match read_piece(source, buffer, &mut reading) {
             Ok(count) => count,
-            Err(fault) => return Err(fault),
-        };
-        if count == 0 {
-            if let Err(fault) = told.finish(alloc) {
-                return Err(fault);
+            Err(NoOctets::Ended) => {
+                if let Err(fault) = told.finish(alloc) {
+                    return Err(fault);
+                }
+                return Ok(());
             }
-            return Ok(());
-        }
+            Err(NoOctets::Failed) => return Err(Fault::ReadFault),
+            Err(NoOctets::TooManyTurns) => return Err(Fault::TooManyTurns),
+        };
         if let Err(fault) = told.feed(alloc, &buffer[..count]) {
             return Err(fault);
         }
@@ -115,14 +83,10 @@ fn replay_to_end<I: Source, O: Sink>(
     ensures begun { OnErr result (BeginsReplay
         told.old.replay (I.given source.old) (I.given source.new) (I.is_ended source.new)
         (O.taken sink.old) (O.taken sink.new)) }
-    ensures fine { OnOk result ((I.failures source.new ≡ I.failures source.old)
-        × (O.failures sink.new ≡ O.failures sink.old)) }
-    ensures reads_told { IfErr result (λ fault. fault ≢ Fault.ReadFault
-        → I.failures source.new ≡ I.failures source.old) }
-    ensures writes_told { IfErr result (λ fault. fault ≢ Fault.WriteFault
-        → O.failures sink.new ≡ O.failures sink.old) }
-    ensures reads { AreWithinTurns (I.calls source.old) (I.calls source.new) }
-    ensures writes { AreWithinTurns (O.calls sink.old) (O.calls sink.new) }
+    ensures reads { WholeSteps (meter (I.calls source.old) (I.failures source.old))
+        (meter (I.calls source.new) (I.failures source.new)) (told_by read_told result) }
+    ensures writes { WholeSteps (meter (O.calls sink.old) (O.failures sink.old))
+        (meter (O.calls sink.new) (O.failures sink.new)) (told_by write_told result) }
     ensures cause { IfErr result (HasCause (I.failures source.old < I.failures source.new)
         (O.failures sink.old < O.failures sink.new)
         ((AreUsedUp (I.calls source.old) (I.calls source.new))
@@ -173,14 +137,10 @@ pub fn replay<I: Source, O: Sink>(
         (λ start. BeginsReplay
         start (I.given source.old) (I.given source.new) (I.is_ended source.new) (O.taken sink.old)
         (O.taken sink.new))) }
-    ensures fine { OnOk result ((I.failures source.new ≡ I.failures source.old)
-        × (O.failures sink.new ≡ O.failures sink.old)) }
-    ensures reads_told { IfErr result (λ fault. fault ≢ Fault.ReadFault
-        → I.failures source.new ≡ I.failures source.old) }
-    ensures writes_told { IfErr result (λ fault. fault ≢ Fault.WriteFault
-        → O.failures sink.new ≡ O.failures sink.old) }
-    ensures reads { AreWithinTurns (I.calls source.old) (I.calls source.new) }
-    ensures writes { AreWithinTurns (O.calls sink.old) (O.calls sink.new) }
+    ensures reads { WholeSteps (meter (I.calls source.old) (I.failures source.old))
+        (meter (I.calls source.new) (I.failures source.new)) (told_by read_told result) }
+    ensures writes { WholeSteps (meter (O.calls sink.old) (O.failures sink.old))
+        (meter (O.calls sink.new) (O.failures sink.new)) (told_by write_told result) }
     ensures cause { IfErr result (HasCause (I.failures source.old < I.failures source.new)
         (O.failures sink.old < O.failures sink.new)
         ((AreUsedUp (I.calls source.old) (I.calls source.new))

@@ -1,9 +1,11 @@
 //! How often a call may read or write one stream, and what is read and written in turns.
 ghost use Rattle.std.specs.Prelude.{◌≡◌, ◌≢◌, ◌<◌, ◌≤◌, ◌+◌, ◌++◌, ◌||◌, length, take, IfOk, IfErr, OnOk, OnErr, true, false};
 ghost use Rattle.rawsocket.specs.Devices.{GrowsByBeginning, tells_end};
+ghost use Rattle.rawsocket.specs.Steps.{Steps, device_told, meter, piece_told, told_by};
 ghost use Rattle.std.specs.Io.KnownBytes.{ReadConsumes};
 
 use crate::devices::device::{Sink, Source};
+use crate::devices::no_octets::NoOctets;
 use crate::fault::Fault;
 use std::marker::Model;
 
@@ -74,19 +76,44 @@ pub fn read_turn<S: Source>(
     ensures kept { OnErr result (S.given source.new ≡ S.given source.old) }
     ensures goes_on { OnErr result (S.is_ended source.new ≡ S.is_ended source.old) }
     ensures turn { OnOk result (turns.old ≡ turns.new + 1) }
-    ensures fine { OnOk result (S.failures source.new ≡ S.failures source.old) }
-    ensures calls { S.calls source.new + turns.new ≡ S.calls source.old + turns.old }
-    ensures failures { S.failures source.old ≤ S.failures source.new }
-    ensures device { result ≡ Err Fault.ReadFault → S.failures source.old < S.failures source.new }
-    ensures told { IfErr result (λ e. e ≢ Fault.ReadFault
-        → S.failures source.new ≡ S.failures source.old) }
-    ensures turns { result ≡ Err Fault.TooManyTurns → turns.new ≡ 0 }
+    ensures steps { Steps (meter (S.calls source.old) (S.failures source.old) turns.old)
+        (meter (S.calls source.new) (S.failures source.new) turns.new)
+        (told_by device_told result) }
     ensures which { IfErr result (λ e. e ≢ Fault.ReadFault → e ≡ Fault.TooManyTurns) }
 {
     if !turns.take() {
         return Err(Fault::TooManyTurns);
     }
     source.read_some(buffer)
+}
+
+/// Reads the next octets, at least one, in one turn.
+///
+/// # Errors
+/// [`NoOctets`]: the stream has ended, the device failed, or no turn was left.
+pub fn read_piece<S: Source>(
+    source: &mut S,
+    buffer: &mut [u8],
+    turns: &mut Turns,
+) -> Result<usize, NoOctets>
+    requires { 0 < length buffer.old }
+    ensures within { IfOk result (λ n. n ≤ length buffer.new) }
+    ensures some { IfOk result (λ n. 0 < n) }
+    ensures given { IfOk result (λ n. S.given source.new ≡ S.given source.old ++ take n
+        buffer.new) }
+    ensures kept { OnErr result (S.given source.new ≡ S.given source.old) }
+    ensures ended { result ≡ Err NoOctets.Ended → S.is_ended source.new ≡ true }
+    ensures turn { OnOk result (turns.old ≡ turns.new + 1) }
+    ensures steps { Steps (meter (S.calls source.old) (S.failures source.old) turns.old)
+        (meter (S.calls source.new) (S.failures source.new) turns.new)
+        (told_by piece_told result) }
+{
+    match read_turn(source, buffer, turns) {
+        Ok(0) => Err(NoOctets::Ended),
+        Ok(count) => Ok(count),
+        Err(Fault::ReadFault) => Err(NoOctets::Failed),
+        Err(_) => Err(NoOctets::TooManyTurns),
+    }
 }
 
 /// Writes all octets, in as many turns as it takes.
@@ -96,14 +123,9 @@ pub fn read_turn<S: Source>(
 /// beginning of the octets is written then.
 pub fn write_all<S: Sink>(sink: &mut S, octets: &[u8], turns: &mut Turns) -> Result<(), Fault>
     ensures written { OnOk result (S.taken sink.new ≡ S.taken sink.old ++ octets.now) }
-    ensures fine { OnOk result (S.failures sink.new ≡ S.failures sink.old) }
     ensures begun { GrowsByBeginning (S.taken sink.old) (S.taken sink.new) octets.now }
-    ensures calls { S.calls sink.new + turns.new ≡ S.calls sink.old + turns.old }
-    ensures failures { S.failures sink.old ≤ S.failures sink.new }
-    ensures device { result ≡ Err Fault.WriteFault → S.failures sink.old < S.failures sink.new }
-    ensures told { IfErr result (λ e. e ≢ Fault.WriteFault
-        → S.failures sink.new ≡ S.failures sink.old) }
-    ensures turns { result ≡ Err Fault.TooManyTurns → turns.new ≡ 0 }
+    ensures steps { Steps (meter (S.calls sink.old) (S.failures sink.old) turns.old)
+        (meter (S.calls sink.new) (S.failures sink.new) turns.new) (told_by device_told result) }
     ensures which { IfErr result (λ e. e ≢ Fault.WriteFault → e ≡ Fault.TooManyTurns) }
 {
     let mut rest = octets;
@@ -124,14 +146,9 @@ pub fn write_all<S: Sink>(sink: &mut S, octets: &[u8], turns: &mut Turns) -> Res
 /// then. Where a write failed, or no turn was left, nothing is flushed.
 pub fn send<S: Sink>(sink: &mut S, octets: &[u8], turns: &mut Turns) -> Result<(), Fault>
     ensures written { OnOk result (S.taken sink.new ≡ S.taken sink.old ++ octets.now) }
-    ensures fine { OnOk result (S.failures sink.new ≡ S.failures sink.old) }
     ensures begun { GrowsByBeginning (S.taken sink.old) (S.taken sink.new) octets.now }
-    ensures calls { S.calls sink.new + turns.new ≡ S.calls sink.old + turns.old }
-    ensures failures { S.failures sink.old ≤ S.failures sink.new }
-    ensures device { result ≡ Err Fault.WriteFault → S.failures sink.old < S.failures sink.new }
-    ensures told { IfErr result (λ e. e ≢ Fault.WriteFault
-        → S.failures sink.new ≡ S.failures sink.old) }
-    ensures turns { result ≡ Err Fault.TooManyTurns → turns.new ≡ 0 }
+    ensures steps { Steps (meter (S.calls sink.old) (S.failures sink.old) turns.old)
+        (meter (S.calls sink.new) (S.failures sink.new) turns.new) (told_by device_told result) }
     ensures which { IfErr result (λ e. e ≢ Fault.WriteFault → e ≡ Fault.TooManyTurns) }
 {
     match write_all(sink, octets, turns) {

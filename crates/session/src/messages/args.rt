@@ -5,12 +5,11 @@ ghost use Rattle.message_tree.specs.Data.{depth, is_carried};
 ghost use Rattle.session.specs.Arguments.{FitMessages, is_all_carried, is_carried_if_any, is_args, is_kwargs};
 ghost use Rattle.session.specs.body.EncodedArguments.{IsTail};
 
-use crate::fault::Fault;
 use crate::wire::appender::Appender;
 use crate::wire::item_frames::put_args;
 use message_tree::{Content, Octets};
 use rawsocket::Serializer;
-use std::alloc::Global;
+use std::alloc::{AllocError, Global};
 use std::marker::Model;
 
 /// The octets that are reserved at once for encoded arguments: enough for a small message.
@@ -40,7 +39,8 @@ impl Model for Args {
 
     ghost view = { λ a. record { args = a.args; kwargs = a.kwargs } };
 
-    ghost invariant = { λ a. Encoded (record { args = a.args; kwargs = a.kwargs }) a.json a.msgpack };
+    ghost invariant = { λ a.
+        Encoded (record { args = a.args; kwargs = a.kwargs }) a.json a.msgpack };
 }
 
 impl Args {
@@ -173,10 +173,9 @@ impl Args {
     /// Equal ones, in memory of their own.
     ///
     /// # Errors
-    /// [`Fault::NoMemory`] where a growth was refused.
-    pub fn try_copy(&self, alloc: Global) -> Result<Args, Fault>
+    /// [`AllocError`] where a growth was refused.
+    pub fn try_copy(&self, alloc: Global) -> Result<Args, AllocError>
         ensures ok { IfOk result (λ a. a ≡ self.now) }
-        ensures err { IfErr result (λ fault. fault ≡ Fault.NoMemory) }
     {
         let args = copy_if_any(alloc, &self.args)?;
         let kwargs = copy_if_any(alloc, &self.kwargs)?;
@@ -193,9 +192,8 @@ fn is_carried_if_any(content: &Option<Content>) -> bool
     }
 }
 
-fn copy_if_any(alloc: Global, content: &Option<Content>) -> Result<Option<Content>, Fault>
+fn copy_if_any(alloc: Global, content: &Option<Content>) -> Result<Option<Content>, AllocError>
     ensures ok { IfOk result (λ copy. copy ≡ content.now) }
-    ensures err { IfErr result (λ fault. fault ≡ Fault.NoMemory) }
 {
     match content {
         None => Ok(None),

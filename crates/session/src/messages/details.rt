@@ -1,14 +1,13 @@
 //! The dictionaries of the broker's messages, each key of them set where it is wanted.
-ghost use Rattle.std.specs.Prelude.{◌≡◌, ◌≤◌, IfOk, IfErr, OnOk, true};
+ghost use Rattle.std.specs.Prelude.{◌≡◌, ◌≤◌, IfOk, OnOk, true};
 ghost use Rattle.message_tree.specs.Data.{flag, text, dict, put, entries_depth, is_carried, entries_carried};
 ghost use Rattle.message_tree.specs.View.{view, dict_view};
 ghost use Rattle.session.specs.ToClient.{number, put_if, features, roles, welcome_details, event_details};
 
-use crate::fault::Fault;
 use crate::messages::item::Publication;
 use eligibility::Who;
 use message_tree::{Dict, Tree};
-use std::alloc::Global;
+use std::alloc::{AllocError, Global};
 
 /// A whole number as a tree.
 pub(crate) fn number(n: u64) -> Tree
@@ -19,9 +18,8 @@ pub(crate) fn number(n: u64) -> Tree
 }
 
 /// A text as a tree.
-pub(crate) fn text(alloc: Global, of: &str) -> Result<Tree, Fault>
+pub(crate) fn text(alloc: Global, of: &str) -> Result<Tree, AllocError>
     ensures ok { IfOk result (λ t. view t ≡ text of.now) }
-    ensures err { IfErr result (λ fault. fault ≡ Fault.NoMemory) }
 {
     Ok(Tree::Text(String::from_str(alloc, of)?))
 }
@@ -42,11 +40,10 @@ pub(crate) fn dictionary(of: Dict) -> Tree
 
 /// WELCOME.Details: who the session is, and the broker's features.
 #[tactic(auto, unfolding(crate::specs::ToClient::welcome_details))]
-pub(crate) fn welcome_details(alloc: Global, who: &Who) -> Result<Dict, Fault>
+pub(crate) fn welcome_details(alloc: Global, who: &Who) -> Result<Dict, AllocError>
     ensures ok { IfOk result (λ d. dict_view d ≡ welcome_details who.now) }
     ensures bounded { IfOk result (λ d. entries_depth (dict_view d) ≤ 3) }
     ensures carried { IfOk result (λ d. entries_carried (dict_view d) ≡ true) }
-    ensures err { IfErr result (λ fault. fault ≡ Fault.NoMemory) }
 {
     let mut dict = Dict::new(alloc);
     let roles = roles(alloc)?;
@@ -63,11 +60,10 @@ pub(crate) fn event_details(
     made: &Publication,
     with_topic: bool,
     retained: bool,
-) -> Result<Dict, Fault>
+) -> Result<Dict, AllocError>
     ensures ok { IfOk result (λ d. dict_view d ≡ event_details made.now with_topic retained) }
     ensures bounded { IfOk result (λ d. entries_depth (dict_view d) ≤ 0) }
     ensures carried { IfOk result (λ d. entries_carried (dict_view d) ≡ true) }
-    ensures err { IfErr result (λ fault. fault ≡ Fault.NoMemory) }
 {
     let publisher = &made.publisher;
     let is_named = made.disclosed;
@@ -83,9 +79,8 @@ pub(crate) fn event_details(
     Ok(dict)
 }
 
-fn roles(alloc: Global) -> Result<Dict, Fault>
+fn roles(alloc: Global) -> Result<Dict, AllocError>
     ensures ok { IfOk result (λ d. dict_view d ≡ roles) }
-    ensures err { IfErr result (λ fault. fault ≡ Fault.NoMemory) }
 {
     let features = features(alloc)?;
     let mut broker = Dict::new(alloc);
@@ -96,9 +91,8 @@ fn roles(alloc: Global) -> Result<Dict, Fault>
 }
 
 /// The features that the broker announces (WAMP, "Feature Announcement").
-fn features(alloc: Global) -> Result<Dict, Fault>
+fn features(alloc: Global) -> Result<Dict, AllocError>
     ensures ok { IfOk result (λ d. dict_view d ≡ features) }
-    ensures err { IfErr result (λ fault. fault ≡ Fault.NoMemory) }
 {
     let mut dict = Dict::new(alloc);
     put_flag(alloc, &mut dict, "subscriber_blackwhite_listing")?;
@@ -110,49 +104,47 @@ fn features(alloc: Global) -> Result<Dict, Fault>
 }
 
 /// Sets a key.
-fn put(alloc: Global, dict: &mut Dict, key: &str, value: Tree) -> Result<(), Fault>
+fn put(alloc: Global, dict: &mut Dict, key: &str, value: Tree) -> Result<(), AllocError>
     ensures ok { OnOk result (dict_view dict.new ≡ put key.now (view value) (dict_view dict.old)) }
-    ensures err { IfErr result (λ fault. fault ≡ Fault.NoMemory) }
 {
     let key = String::from_str(alloc, key)?;
-    match dict.set(alloc, key, value) {
-        Ok(_) => Ok(()),
-        Err(_) => Err(Fault::NoMemory),
-    }
+    dict.set(alloc, key, value)
 }
 
 /// Sets a key to true.
-fn put_flag(alloc: Global, dict: &mut Dict, key: &str) -> Result<(), Fault>
+fn put_flag(alloc: Global, dict: &mut Dict, key: &str) -> Result<(), AllocError>
     ensures ok { OnOk result (dict_view dict.new ≡ put key.now (flag true) (dict_view dict.old)) }
-    ensures err { IfErr result (λ fault. fault ≡ Fault.NoMemory) }
 {
     put(alloc, dict, key, truth())
 }
 
 /// Sets a key to a text.
-fn put_text(alloc: Global, dict: &mut Dict, key: &str, of: &str) -> Result<(), Fault>
+fn put_text(alloc: Global, dict: &mut Dict, key: &str, of: &str) -> Result<(), AllocError>
     ensures ok { OnOk result (dict_view dict.new ≡ put key.now (text of.now) (dict_view dict.old)) }
-    ensures err { IfErr result (λ fault. fault ≡ Fault.NoMemory) }
 {
     let value = text(alloc, of)?;
     put(alloc, dict, key, value)
 }
 
 /// Sets a key to a dictionary.
-fn put_dict(alloc: Global, outer: &mut Dict, key: &str, inner: Dict) -> Result<(), Fault>
+fn put_dict(alloc: Global, outer: &mut Dict, key: &str, inner: Dict) -> Result<(), AllocError>
     ensures ok { OnOk result (dict_view outer.new ≡ put
         key.now (dict (dict_view inner)) (dict_view outer.old)) }
-    ensures err { IfErr result (λ fault. fault ≡ Fault.NoMemory) }
 {
     put(alloc, outer, key, dictionary(inner))
 }
 
 /// Sets a key where it is wanted.
 #[tactic(auto, unfolding(crate::specs::ToClient::put_if))]
-fn put_if(alloc: Global, dict: &mut Dict, wanted: bool, key: &str, value: Tree) -> Result<(), Fault>
+fn put_if(
+    alloc: Global,
+    dict: &mut Dict,
+    wanted: bool,
+    key: &str,
+    value: Tree,
+) -> Result<(), AllocError>
     ensures ok { OnOk result (dict_view dict.new ≡ put_if wanted
         key.now (view value) (dict_view dict.old)) }
-    ensures err { IfErr result (λ fault. fault ≡ Fault.NoMemory) }
 {
     if wanted {
         put(alloc, dict, key, value)?;
@@ -167,10 +159,9 @@ fn put_text_if(
     wanted: bool,
     key: &str,
     of: &str,
-) -> Result<(), Fault>
+) -> Result<(), AllocError>
     ensures ok { OnOk result (dict_view dict.new ≡ put_if wanted
         key.now (text of.now) (dict_view dict.old)) }
-    ensures err { IfErr result (λ fault. fault ≡ Fault.NoMemory) }
 {
     let value = text(alloc, of)?;
     put_if(alloc, dict, wanted, key, value)

@@ -1,27 +1,25 @@
 //! From what the broker tells to the message that says it.
-ghost use Rattle.std.specs.Prelude.{◌≡◌, ◌≤◌, IfOk, IfErr, IfSome, Some, option_map, true};
+ghost use Rattle.std.specs.Prelude.{◌≡◌, ◌≤◌, IfOk, IfSome, Some, option_map, true};
 ghost use Rattle.message_tree.specs.Data.{text, dict, list, item, no_items, depth, items_depth, entries_depth, is_carried, items_carried, entries_carried};
 ghost use Rattle.message_tree.specs.View.{view, items_view, dict_view};
 ghost use Rattle.message_tree.specs.Meaning.{meaning};
 ghost use Rattle.session.specs.ToClient.{number, uri_of, type_of, triple, unsubscribed, farewell, error, welcome, event, message_of};
 
-use crate::fault::Fault;
 use crate::messages::details::{dictionary, event_details, number, text, welcome_details};
 use crate::messages::item::{Item, Publication, Reason, Request};
 use eligibility::Who;
 use message_tree::{Content, Dict, Message, Tree};
-use std::alloc::Global;
+use std::alloc::{AllocError, Global};
 use wamp_ids::Id;
 
 /// The message that tells a client an item (WAMP, "Messages"); `None` for a PONG, which is a frame
 /// and no message. Every serialization writes it: nothing in it is uncarried.
 ///
 /// # Errors
-/// [`Fault::NoMemory`] where a growth was refused.
-pub fn item_message(alloc: Global, item: &Item) -> Result<Option<Message>, Fault>
+/// [`AllocError`] where a growth was refused.
+pub fn item_message(alloc: Global, item: &Item) -> Result<Option<Message>, AllocError>
     ensures ok { IfOk result (λ m. option_map meaning m ≡ message_of item.now) }
     ensures carried { IfOk result (λ m. IfSome m (λ m. is_carried (meaning m) ≡ true)) }
-    ensures err { IfErr result (λ fault. fault ≡ Fault.NoMemory) }
 {
     match item {
         Item::Welcome(who) => Ok(Some(welcome(alloc, who)?)),
@@ -99,10 +97,9 @@ fn message(elements: Vec<Tree>) -> Message
     }
 }
 
-fn triple(alloc: Global, kind: u64, request: Id, other: Id) -> Result<Message, Fault>
+fn triple(alloc: Global, kind: u64, request: Id, other: Id) -> Result<Message, AllocError>
     ensures ok { IfOk result (λ m. meaning m ≡ triple kind request other) }
     ensures carried { IfOk result (λ m. is_carried (meaning m) ≡ true) }
-    ensures err { IfErr result (λ fault. fault ≡ Fault.NoMemory) }
 {
     let elements = vec![in alloc;
         number(kind),
@@ -112,20 +109,18 @@ fn triple(alloc: Global, kind: u64, request: Id, other: Id) -> Result<Message, F
     Ok(message(elements))
 }
 
-fn unsubscribed(alloc: Global, request: Id) -> Result<Message, Fault>
+fn unsubscribed(alloc: Global, request: Id) -> Result<Message, AllocError>
     ensures ok { IfOk result (λ m. meaning m ≡ unsubscribed request) }
     ensures carried { IfOk result (λ m. is_carried (meaning m) ≡ true) }
-    ensures err { IfErr result (λ fault. fault ≡ Fault.NoMemory) }
 {
     let elements = vec![in alloc; number(35), number(request.value())]?;
     Ok(message(elements))
 }
 
 /// ABORT, of type 3, or GOODBYE, of type 6.
-pub(crate) fn farewell(alloc: Global, kind: u64, reason: Reason) -> Result<Message, Fault>
+pub(crate) fn farewell(alloc: Global, kind: u64, reason: Reason) -> Result<Message, AllocError>
     ensures ok { IfOk result (λ m. meaning m ≡ farewell kind reason) }
     ensures carried { IfOk result (λ m. is_carried (meaning m) ≡ true) }
-    ensures err { IfErr result (λ fault. fault ≡ Fault.NoMemory) }
 {
     let reason = text(alloc, uri(reason))?;
     let details = dictionary(Dict::new(alloc));
@@ -133,10 +128,9 @@ pub(crate) fn farewell(alloc: Global, kind: u64, reason: Reason) -> Result<Messa
     Ok(message(elements))
 }
 
-fn error(alloc: Global, kind: Request, request: Id, reason: Reason) -> Result<Message, Fault>
+fn error(alloc: Global, kind: Request, request: Id, reason: Reason) -> Result<Message, AllocError>
     ensures ok { IfOk result (λ m. meaning m ≡ error kind request reason) }
     ensures carried { IfOk result (λ m. is_carried (meaning m) ≡ true) }
-    ensures err { IfErr result (λ fault. fault ≡ Fault.NoMemory) }
 {
     let reason = text(alloc, uri(reason))?;
     let details = dictionary(Dict::new(alloc));
@@ -151,10 +145,9 @@ fn error(alloc: Global, kind: Request, request: Id, reason: Reason) -> Result<Me
     Ok(message(elements))
 }
 
-fn welcome(alloc: Global, who: &Who) -> Result<Message, Fault>
+fn welcome(alloc: Global, who: &Who) -> Result<Message, AllocError>
     ensures ok { IfOk result (λ m. meaning m ≡ welcome who.now) }
     ensures carried { IfOk result (λ m. is_carried (meaning m) ≡ true) }
-    ensures err { IfErr result (λ fault. fault ≡ Fault.NoMemory) }
 {
     let details = dictionary(welcome_details(alloc, who)?);
     let elements = vec![in alloc; number(2), number(who.id.value()), details]?;
@@ -167,10 +160,9 @@ fn event(
     made: &Publication,
     with_topic: bool,
     retained: bool,
-) -> Result<Message, Fault>
+) -> Result<Message, AllocError>
     ensures ok { IfOk result (λ m. meaning m ≡ event subscription made.now with_topic retained) }
     ensures carried { IfOk result (λ m. is_carried (meaning m) ≡ true) }
-    ensures err { IfErr result (λ fault. fault ≡ Fault.NoMemory) }
 {
     let details = event_details(alloc, made, with_topic, retained)?;
     let payload = made.args.args();
@@ -194,13 +186,12 @@ fn event_without_arguments(
     subscription: Id,
     publication: Id,
     details: Dict,
-) -> Result<Message, Fault>
+) -> Result<Message, AllocError>
     requires shallow { entries_depth (dict_view details) ≤ 98 }
     requires writable { entries_carried (dict_view details) ≡ true }
     ensures ok { IfOk result (λ m. meaning m ≡ list (item (number 36) (item (number subscription)
         (item (number publication) (item (dict (dict_view details)) no_items))))) }
     ensures carried { IfOk result (λ m. is_carried (meaning m) ≡ true) }
-    ensures err { IfErr result (λ fault. fault ≡ Fault.NoMemory) }
 {
     let elements = vec![in alloc;
         number(36),
@@ -218,15 +209,15 @@ fn event_with_arguments(
     publication: Id,
     details: Dict,
     args: Tree,
-) -> Result<Message, Fault>
+) -> Result<Message, AllocError>
     requires shallow { entries_depth (dict_view details) ≤ 98 }
     requires writable { entries_carried (dict_view details) ≡ true }
     requires args_shallow { depth (view args) ≤ 99 }
     requires args_writable { is_carried (view args) ≡ true }
     ensures ok { IfOk result (λ m. meaning m ≡ list (item (number 36) (item (number subscription)
-        (item (number publication) (item (dict (dict_view details)) (item (view args) no_items)))))) }
+        (item (number publication) (item (dict (dict_view details))
+        (item (view args) no_items)))))) }
     ensures carried { IfOk result (λ m. is_carried (meaning m) ≡ true) }
-    ensures err { IfErr result (λ fault. fault ≡ Fault.NoMemory) }
 {
     let elements = vec![in alloc;
         number(36),
@@ -246,7 +237,7 @@ fn event_with_both(
     details: Dict,
     args: Tree,
     kwargs: Tree,
-) -> Result<Message, Fault>
+) -> Result<Message, AllocError>
     requires shallow { entries_depth (dict_view details) ≤ 98 }
     requires writable { entries_carried (dict_view details) ≡ true }
     requires args_shallow { depth (view args) ≤ 99 }
@@ -257,7 +248,6 @@ fn event_with_both(
         (item (number publication) (item (dict (dict_view details))
         (item (view args) (item (view kwargs) no_items))))))) }
     ensures carried { IfOk result (λ m. is_carried (meaning m) ≡ true) }
-    ensures err { IfErr result (λ fault. fault ≡ Fault.NoMemory) }
 {
     let elements = vec![in alloc;
         number(36),
@@ -270,12 +260,8 @@ fn event_with_both(
     Ok(message(elements))
 }
 
-fn copy(alloc: Global, content: &Content) -> Result<Tree, Fault>
+fn copy(alloc: Global, content: &Content) -> Result<Tree, AllocError>
     ensures ok { IfOk result (λ t. view t ≡ content.now) }
-    ensures err { IfErr result (λ fault. fault ≡ Fault.NoMemory) }
 {
-    match content.tree().try_copy(alloc) {
-        Ok(tree) => Ok(tree),
-        Err(_) => Err(Fault::NoMemory),
-    }
+    content.tree().try_copy(alloc)
 }

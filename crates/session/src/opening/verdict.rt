@@ -12,7 +12,7 @@ use crate::opening::first_message::{abort_reason, first};
 use crate::opening::hello::First;
 use crate::wire::serializer::{decode, encode};
 use rawsocket::{Frame, Kind, Serializer, write_frame};
-use std::alloc::Global;
+use std::alloc::{AllocError, Global};
 use std::collections::VecDeque;
 use wamp_ids::Topic;
 
@@ -65,16 +65,15 @@ fn write_abort(
     serializer: Serializer,
     reason: Reason,
     out: &mut Vec<u8>,
-) -> Result<(), Fault>
+) -> Result<(), AllocError>
     ensures ok { OnOk result (out.new.items ≡ out.old.items ++ abort_frame
         serializer (Some reason)) }
-    ensures fault { IfErr result (λ f. f ≡ Fault.NoMemory) }
 {
     let message = farewell(alloc, 3, reason)?;
     let payload = encode(alloc, serializer, &message)?;
     match write_frame(alloc, Kind::Message, &payload, out) {
         Ok(()) => Ok(()),
-        Err(_) => Err(Fault::NoMemory),
+        Err(_) => Err(AllocError),
     }
 }
 
@@ -84,10 +83,9 @@ pub(crate) fn refuse(
     serializer: Serializer,
     fault: Fault,
     out: &mut Vec<u8>,
-) -> Result<Verdict, Fault>
+) -> Result<Verdict, AllocError>
     ensures verdict { IfOk result (λ v. verdict_of v ≡ verdict_of (Verdict.Refuses fault)) }
     ensures told { OnOk result (out.new.items ≡ out.old.items ++ refusal serializer fault) }
-    ensures fault { IfErr result (λ f. f ≡ Fault.NoMemory) }
 {
     if let Some(reason) = abort_reason(fault) {
         write_abort(alloc, serializer, reason, out)?;
@@ -103,34 +101,37 @@ fn decide(
     payload: &[u8],
     early: Vec<Frame>,
     out: &mut Vec<u8>,
-) -> Result<Verdict, Fault>
+) -> Result<Verdict, AllocError>
     ensures decided { IfOk result (λ v. AddsFor client.serializer client.limit realms.now
         Kind.Message payload.now (contents early.items) out.old.items
         out.new.items (verdict_of v)) }
-    ensures fault { IfErr result (λ f. f ≡ Fault.NoMemory) }
 {
     match ask(alloc, client.serializer, realms, payload) {
         Ok(first) => Ok(Verdict::Opens(first, early)),
-        Err(Fault::NoMemory) => Err(Fault::NoMemory),
+        Err(Fault::NoMemory) => Err(AllocError),
         Err(fault) => refuse(alloc, client.serializer, fault, out),
     }
 }
 
 /// Answers a PING, unless the client takes fewer octets.
-fn answer_ping(alloc: Global, limit: u32, payload: &[u8], out: &mut Vec<u8>) -> Result<bool, Fault>
+fn answer_ping(
+    alloc: Global,
+    limit: u32,
+    payload: &[u8],
+    out: &mut Vec<u8>,
+) -> Result<bool, AllocError>
     requires { limit ≤ 16777215 }
     ensures answered { result ≡ Ok true → (length payload.now ≤ limit)
         × (out.new.items ≡ out.old.items ++ spelled (pong payload.now)) }
     ensures long { result ≡ Ok false → (limit < length payload.now)
         × (out.new.items ≡ out.old.items) }
-    ensures fault { IfErr result (λ f. f ≡ Fault.NoMemory) }
 {
     if payload.len() > limit as usize {
         return Ok(false);
     }
     match write_frame(alloc, Kind::Pong, payload, out) {
         Ok(()) => Ok(true),
-        Err(rawsocket::Fault::NoMemory) => Err(Fault::NoMemory),
+        Err(rawsocket::Fault::NoMemory) => Err(AllocError),
         Err(_) => unreachable!(),
     }
 }
@@ -141,10 +142,9 @@ fn judge_rest(
     serializer: Serializer,
     fault: Option<rawsocket::Fault>,
     out: &mut Vec<u8>,
-) -> Result<Verdict, Fault>
+) -> Result<Verdict, AllocError>
     ensures decided { IfOk result (λ v. Adds serializer 0 [] fault [] out.old.items
         out.new.items (verdict_of v)) }
-    ensures fault { IfErr result (λ f. f ≡ Fault.NoMemory) }
 {
     match fault {
         None => Ok(Verdict::Undecided),
@@ -161,11 +161,10 @@ pub(crate) fn judge(
     frames: Vec<Frame>,
     fault: Option<rawsocket::Fault>,
     out: &mut Vec<u8>,
-) -> Result<Verdict, Fault>
+) -> Result<Verdict, AllocError>
     requires { client.limit ≤ 16777215 }
     ensures decided { IfOk result (λ v. Adds client.serializer client.limit realms.now
         fault (contents frames.items) out.old.items out.new.items (verdict_of v)) }
-    ensures fault { IfErr result (λ f. f ≡ Fault.NoMemory) }
 {
     let mut left = VecDeque::from_vec(frames);
     while let Some(frame) = left.pop_front() {

@@ -72,20 +72,14 @@ impl Appender {
         alloc: Global,
         serializer: Serializer,
         n: u64,
-    ) -> Result<(), Fault>
+    ) -> Result<(), AllocError>
         ensures ok { OnOk result (self.new.since ≡ self.old.since ++ serialized
             serializer (number n)) }
         ensures before { self.new.before ≡ self.old.before }
-        ensures err { IfErr result (λ f. f ≡ Fault.NoMemory) }
     {
         match serializer {
-            Serializer::Json => Ok(json_codec::encode_number_into(n, &mut self.out)?),
-            Serializer::MsgPack => {
-                match msgpack_codec::encode_number_into(alloc, n, &mut self.out) {
-                    Ok(()) => Ok(()),
-                    Err(_) => Err(Fault::NoMemory),
-                }
-            }
+            Serializer::Json => json_codec::encode_number_into(n, &mut self.out),
+            Serializer::MsgPack => msgpack_codec::encode_number_into(alloc, n, &mut self.out),
         }
     }
 
@@ -197,11 +191,10 @@ impl Appender {
         serializer: Serializer,
         later: bool,
         key: &str,
-    ) -> Result<(), Fault>
+    ) -> Result<(), AllocError>
         ensures ok { OnOk result (self.new.since ≡ self.old.since ++ key_text serializer later
             key.now) }
         ensures before { self.new.before ≡ self.old.before }
-        ensures err { IfErr result (λ f. f ≡ Fault.NoMemory) }
     {
         match serializer {
             Serializer::Json => {
@@ -209,12 +202,12 @@ impl Appender {
                     self.put_all(b",")?;
                 }
                 json_codec::encode_text_into(alloc, key, &mut self.out)?;
-                Ok(self.put_all(b":")?)
+                self.put_all(b":")
             }
             Serializer::MsgPack => {
                 match msgpack_codec::encode_text_into(alloc, key, &mut self.out) {
                     Ok(()) => Ok(()),
-                    Err(_) => Err(Fault::NoMemory),
+                    Err(_) => Err(AllocError),
                 }
             }
         }

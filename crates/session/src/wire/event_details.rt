@@ -48,17 +48,16 @@ fn put_retained(
     serializer: Serializer,
     later: bool,
     retained: bool,
-) -> Result<(), Fault>
+) -> Result<(), AllocError>
     ensures ok { OnOk result (out.new.since ≡ out.old.since
         ++ entries_from serializer later (retained_entries retained)) }
     ensures before { out.new.before ≡ out.old.before }
-    ensures err { IfErr result (λ f. f ≡ Fault.NoMemory) }
 {
     if !retained {
         return Ok(());
     }
     out.put_key(alloc, serializer, later, "retained")?;
-    Ok(out.put_true(serializer)?)
+    out.put_true(serializer)
 }
 
 /// The topic, where it is wanted.

@@ -17,7 +17,7 @@ use crate::messages::to_client::item_message;
 use crate::wire::appender::Appender;
 use crate::wire::event_details::put_details;
 use rawsocket::{Kind, Serializer, fill_header};
-use std::alloc::Global;
+use std::alloc::{AllocError, Global};
 use std::mem;
 use wamp_ids::Id;
 
@@ -39,13 +39,12 @@ fn put_numbers(
     serializer: Serializer,
     count: u8,
     numbers: (u64, u64, u64),
-) -> Result<(), Fault>
+) -> Result<(), AllocError>
     requires { count < 16 }
     ensures ok { OnOk result (out.new.since ≡ out.old.since ++ (list_opening serializer count
         ++ (serialized serializer (number numbers.0)
         ++ further serializer (item (number numbers.1) (item (number numbers.2) no_items))))) }
     ensures before { out.new.before ≡ out.old.before }
-    ensures err { IfErr result (λ f. f ≡ Fault.NoMemory) }
 {
     out.open_list(serializer, count)?;
     out.put_number(alloc, serializer, numbers.0)?;
@@ -146,16 +145,15 @@ fn put_triple(
     kind: u64,
     request: Id,
     other: Id,
-) -> Result<(), Fault>
+) -> Result<(), AllocError>
     ensures ok { OnOk result (out.new.since ≡ out.old.since
         ++ serialized serializer (triple kind request other)) }
     ensures spelled { has_spelling serializer (triple kind request other) ≡ true }
     ensures before { out.new.before ≡ out.old.before }
-    ensures err { IfErr result (λ f. f ≡ Fault.NoMemory) }
 {
     let numbers = (kind, request.value(), other.value());
     put_numbers(out, alloc, serializer, 3, numbers)?;
-    Ok(out.close_list(serializer)?)
+    out.close_list(serializer)
 }
 
 /// The payload of an item's frame.
@@ -191,11 +189,11 @@ fn put_item(
         Item::Published {
             request,
             publication,
-        } => put_triple(out, alloc, serializer, 17, *request, *publication),
+        } => Ok(put_triple(out, alloc, serializer, 17, *request, *publication)?),
         Item::Subscribed {
             request,
             subscription,
-        } => put_triple(out, alloc, serializer, 33, *request, *subscription),
+        } => Ok(put_triple(out, alloc, serializer, 33, *request, *subscription)?),
         _ => put_message(out, alloc, serializer, item),
     }
 }

@@ -8,7 +8,7 @@ ghost use Rattle.session.specs.Serializer.{Decodes, IsUndecodable, serialized};
 use crate::fault::Fault;
 use message_tree::Message;
 use rawsocket::Serializer;
-use std::alloc::Global;
+use std::alloc::{AllocError, Global};
 
 /// The message that the octets are in a serialization.
 ///
@@ -58,21 +58,20 @@ pub(crate) fn encode(
     alloc: Global,
     serializer: Serializer,
     message: &Message,
-) -> Result<Vec<u8>, Fault>
+) -> Result<Vec<u8>, AllocError>
     requires carried { is_carried (meaning message.now) ≡ true }
     requires short { has_short (meaning message.now) ≡ true }
     ensures ok { IfOk result (λ v. v.items ≡ serialized serializer (meaning message.now)) }
-    ensures fault { IfErr result (λ f. f ≡ Fault.NoMemory) }
 {
     match serializer {
         Serializer::Json => match json_codec::encode(alloc, message) {
             Ok(octets) => Ok(octets),
-            Err(json_codec::Fault::NoMemory) => Err(Fault::NoMemory),
+            Err(json_codec::Fault::NoMemory) => Err(AllocError),
             Err(_) => unreachable!(),
         },
         Serializer::MsgPack => match msgpack_codec::encode(alloc, message) {
             Ok(octets) => Ok(octets),
-            Err(msgpack_codec::Fault::NoMemory) => Err(Fault::NoMemory),
+            Err(msgpack_codec::Fault::NoMemory) => Err(AllocError),
             Err(_) => unreachable!(),
         },
     }

@@ -1,5 +1,5 @@
 use Rattle.realm_inbox.specs.EndViews.{received}
-use Rattle.realm_actor.proofs.RunLemmas.{same_grown}
+use Rattle.realm_actor.proofs.Lemmas.{same_grown}
 use Rattle.cases_actor.proofs.desk.handle_one.Goals as goal
 
 pub returns : goal.returns

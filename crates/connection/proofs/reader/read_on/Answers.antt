@@ -1,15 +1,15 @@
-use Rattle.std.proofs.Common.{◌+◌, ◌∙◌, ap, subst, take, refl, Ok, Err, List}
+use Rattle.std.proofs.Common.{ap, subst, take, Ok, Err, List, []}
 use Rattle.rawsocket.specs.Frames.{contents}
 use Rattle.rawsocket.specs.declared.frame.Frame.{Frame}
 use Rattle.connection.specs.Reader.{IsAdvance}
-use Rattle.connection.proofs.ReaderProgress.{Onward-start, Onward-more, Onward-ends, Onward-stops, early_ends}
+use Rattle.rawsocket.proofs.Lemmas.{all_turns, no_steps, then_steps, told_fine}
+use Rattle.connection.proofs.ReaderProgress.{Onward-start, Onward-more, Onward-ends, Onward-stops, early_ends, piece_ended, piece_steps, posting_told}
 use Rattle.connection.proofs.reader.read_on.Goals as goal
 
 pub pieces-init : goal.pieces-init
 pieces-init g c = record {
   onward = Onward-start c.args.serializer (contents c.args.early.items) c.args.deframer (g.I.Source.given c.args.source.now) (g.P.Posting.posted c.args.poster.now) (g.P.Posting.posted c.advance.new.poster) c.advance.new.deframer c.in_default.ensures;
-  calls = ap (λ n. g.I.Source.calls c.args.source.now + n) c.new-turns.ensures;
-  failures = refl;
+  steps = all_turns c.new-turns.ensures;
 }
 
 pub pieces-preserved : goal.pieces-preserved
@@ -18,8 +18,7 @@ pieces-preserved g c = record {
       (g.P.Posting.posted c.args.poster.now) (g.P.Posting.posted c.pieces.poster) (g.P.Posting.posted c.advance-in-pieces.new.poster) c.pieces.deframer c.advance-in-pieces.new.deframer c.pieces.invariant.onward c.in-Ok.ensures.given
       (subst (λ (fs : List Frame). IsAdvance c.args.serializer (contents fs) c.pieces.deframer (take c.in-Ok.count c.read_piece.new.buffer) c.advance-in-pieces.new.deframer (g.P.Posting.posted c.pieces.poster) (g.P.Posting.posted c.advance-in-pieces.new.poster) (Ok tt))
       c.new-none.ensures.items c.in_default-advance.ensures);
-  calls = c.read_piece.ensures.calls ∙ c.pieces.invariant.calls;
-  failures = c.in-Ok.ensures.fine ∙ c.pieces.invariant.failures;
+  steps = then_steps c.pieces.invariant.steps c.in-Ok.ensures.steps;
 }
 
 pub returns-in-Err-clause-posted : goal.returns-in-Err-clause-posted
@@ -28,8 +27,8 @@ returns-in-Err-clause-posted g c =
 
 pub returns-in-Err-read_piece-clause-posted : goal.returns-in-Err-read_piece-clause-posted
 returns-in-Err-read_piece-clause-posted g c =
-    Onward-stops c.args.serializer (contents c.args.early.items) c.args.deframer c.in-Err-read_piece.end (g.I.Source.given c.args.source.now) (g.I.Source.given c.pieces.source) (g.I.Source.given c.read_piece.new.source)
-    (g.P.Posting.posted c.args.poster.now) (g.P.Posting.posted c.pieces.poster) c.pieces.deframer c.in-Err-read_piece.ensures.end c.pieces.invariant.onward c.in-Err-read_piece.ensures.kept
+    Onward-stops c.args.serializer (contents c.args.early.items) c.args.deframer c.in-Err-read_piece.none c.from.result (g.I.Source.given c.args.source.now) (g.I.Source.given c.pieces.source) (g.I.Source.given c.read_piece.new.source)
+    (g.P.Posting.posted c.args.poster.now) (g.P.Posting.posted c.pieces.poster) c.pieces.deframer c.from.ensures c.pieces.invariant.onward c.in-Err-read_piece.ensures.kept
 
 pub returns-in-Err-advance-clause-posted : goal.returns-in-Err-advance-clause-posted
 returns-in-Err-advance-clause-posted g c =
@@ -37,3 +36,20 @@ returns-in-Err-advance-clause-posted g c =
     (g.P.Posting.posted c.args.poster.now) (g.P.Posting.posted c.pieces.poster) (g.P.Posting.posted c.advance-in-pieces.new.poster) c.pieces.deframer c.advance-in-pieces.new.deframer c.pieces.invariant.onward c.in-Ok.ensures.given
     (subst (λ (fs : List Frame). IsAdvance c.args.serializer (contents fs) c.pieces.deframer (take c.in-Ok.count c.read_piece.new.buffer) c.advance-in-pieces.new.deframer (g.P.Posting.posted c.pieces.poster) (g.P.Posting.posted c.advance-in-pieces.new.poster) (Err c.in-Err-advance.end))
     c.new-none.ensures.items c.in-Err-advance.ensures)
+
+pub returns-in-Err-clause-reads : goal.returns-in-Err-clause-reads
+returns-in-Err-clause-reads g c =
+    let told = posting_told c.args.serializer (contents c.args.early.items) c.args.deframer [] c.advance.new.deframer (g.P.Posting.posted c.args.poster.now) (g.P.Posting.posted c.advance.new.poster) c.in-Err.end c.in-Err.ensures in
+    record { left = 4294967296; steps = told_fine told (no_steps _) }
+
+pub returns-in-Err-read_piece-clause-reads : goal.returns-in-Err-read_piece-clause-reads
+returns-in-Err-read_piece-clause-reads g c =
+    record { left = c.read_piece.new.turns; steps = then_steps c.pieces.invariant.steps (piece_steps c.in-Err-read_piece.none c.from.result c.from.ensures c.in-Err-read_piece.ensures.steps) }
+
+pub returns-in-Err-read_piece-clause-ended : goal.returns-in-Err-read_piece-clause-ended
+returns-in-Err-read_piece-clause-ended g c = λ is. c.in-Err-read_piece.ensures.ended (ap Err (piece_ended c.in-Err-read_piece.none c.from.result c.from.ensures is))
+
+pub returns-in-Err-advance-clause-reads : goal.returns-in-Err-advance-clause-reads
+returns-in-Err-advance-clause-reads g c =
+    let told = posting_told c.args.serializer _ c.pieces.deframer (take c.in-Ok.count c.read_piece.new.buffer) c.advance-in-pieces.new.deframer (g.P.Posting.posted c.pieces.poster) (g.P.Posting.posted c.advance-in-pieces.new.poster) c.in-Err-advance.end c.in-Err-advance.ensures in
+    record { left = c.read_piece.new.turns; steps = told_fine told (then_steps c.pieces.invariant.steps c.in-Ok.ensures.steps) }

@@ -1,4 +1,5 @@
-use Rattle.std.proofs.Common.{◌+◌, ◌∙◌, refl, ap, Err, arith}
+use Rattle.std.proofs.Common.{ap, Err, arith}
+use Rattle.rawsocket.proofs.Lemmas.{all_turns, then_steps}
 use Rattle.connection.proofs.WriterProgress.{then_ends, none_so_far}
 use Rattle.connection.proofs.DrainProgress.{same_is_later, later_still}
 use Rattle.connection.specs.declared.writer.WriteEnd.TheVariants.{Stopped}
@@ -8,8 +9,7 @@ pub items-init : goal.items-init
 items-init g c = record {
   done = none_so_far c.args.serializer c.args.limit c.args.drain.taken (g.S.Sink.taken c.args.sink.now);
   later = same_is_later g.H.Owed.begins g.H.Owed.begins_itself c.args.drain;
-  calls = ap (λ n. g.S.Sink.calls c.args.sink.now + n) c.new-turns.ensures;
-  failures = refl;
+  steps = all_turns c.new-turns.ensures;
 }
 
 pub items-preserved : goal.items-preserved
@@ -17,8 +17,7 @@ items-preserved g c = record {
   done = then_ends c.args.serializer c.args.limit Stopped c.args.drain.taken c.items.drain.taken c.write_next.new.drain.taken (g.S.Sink.taken c.args.sink.now) (g.S.Sink.taken c.items.sink) (g.S.Sink.taken c.write_next.new.sink)
       c.items.invariant.done c.in_default.ensures.done;
   later = later_still g.H.Owed.begins g.H.Owed.begins_on c.args.drain c.items.drain c.write_next.new.drain c.items.invariant.later c.in_default.ensures.drain;
-  calls = c.in_default.ensures.calls ∙ c.items.invariant.calls;
-  failures = c.in_default.ensures.fine ∙ c.items.invariant.failures;
+  steps = then_steps c.items.invariant.steps c.in_default.ensures.steps;
 }
 
 pub returns-in-Err-clause-written : goal.returns-in-Err-clause-written
@@ -32,14 +31,5 @@ returns-in-Err-clause-drain g c = later_still g.H.Owed.begins g.H.Owed.begins_on
 pub returns-in-Err-clause-stopped : goal.returns-in-Err-clause-stopped
 returns-in-Err-clause-stopped g c = λ stopped. let rose = c.in-Err.ensures.stopped (ap Err stopped) in omega (arith, rose, c.items.invariant.later.finds)
 
-pub returns-in-Err-clause-device : goal.returns-in-Err-clause-device
-returns-in-Err-clause-device g c = λ device. let rose = c.in-Err.ensures.device (ap Err device) in omega (arith, rose, c.items.invariant.failures)
-
-pub returns-in-Err-clause-writes_told : goal.returns-in-Err-clause-writes_told
-returns-in-Err-clause-writes_told g c = λ other. c.in-Err.ensures.told other ∙ c.items.invariant.failures
-
 pub returns-in-Err-clause-writes : goal.returns-in-Err-clause-writes
-returns-in-Err-clause-writes g c = omega (arith, c.in-Err.ensures.calls, c.items.invariant.calls)
-
-pub returns-in-Err-clause-turns : goal.returns-in-Err-clause-turns
-returns-in-Err-clause-turns g c = λ many. let none = c.in-Err.ensures.turns (ap Err many) in omega (arith, none, c.in-Err.ensures.calls, c.items.invariant.calls)
+returns-in-Err-clause-writes g c = record { left = c.write_next.new.turns; steps = then_steps c.items.invariant.steps c.in-Err.ensures.steps }

@@ -1,4 +1,4 @@
-use Rattle.std.proofs.Common.{◌≡◌, ◌+◌}
+use Rattle.rawsocket.specs.Steps.{Fine, Steps, meter}
 use Rattle.connection.specs.Writer.{IsWhole, WritesSince, IsLater}
 use Rattle.connection.proofs.writer.write_items.Given as goal
 
@@ -6,6 +6,5 @@ abbrev pub invariant-items : goal.invariant-items
 invariant-items g l = record {
   done : WritesSince l.fn.drain.taken l.drain.taken (g.S.Sink.taken l.fn.sink) (g.S.Sink.taken l.sink) (IsWhole l.serializer l.limit);
   later : IsLater g.H.Owed.begins l.fn.drain l.drain;
-  calls : g.S.Sink.calls l.sink + l.turns ≡ g.S.Sink.calls l.fn.sink + 4294967296;
-  failures : g.S.Sink.failures l.sink ≡ g.S.Sink.failures l.fn.sink;
+  steps : Steps (meter (g.S.Sink.calls l.fn.sink) (g.S.Sink.failures l.fn.sink) 4294967296) (meter (g.S.Sink.calls l.sink) (g.S.Sink.failures l.sink) l.turns) Fine;
 }

@@ -1,8 +1,7 @@
 use Rattle.std.proofs.Common.{◌≡◌, ◌++◌, map}
 use Rattle.std.specs.Vec.Iter.{into_iter_items}
-use Rattle.message_tree.specs.View.{view, dict_view}
-use Rattle.message_tree.proofs.EntryParts.{joined}
-use Rattle.message_tree.proofs.Views.{entries_by}
+use Rattle.message_tree.specs.View.{view, dict_view, entries_by}
+use Rattle.message_tree.specs.Data.{joined}
 use Rattle.json_codec.proofs.Trees.{tree_at}
 use Rattle.json_codec.proofs.decoder.+tree.Given as goal
 

@@ -2,8 +2,7 @@ use Rattle.std.proofs.Common.{◌≡◌, ◌≤◌, ◌<◌, length, get_or, sym
 use Rattle.std.proofs.lemmas.Bool.{and_parts}
 use Rattle.message_tree.specs.Data.{depth, items_depth, is_carried, items_carried}
 use Rattle.message_tree.specs.View.{view, items_view}
-use Rattle.message_tree.proofs.Views.{items_from}
-use Rattle.message_tree.proofs.Depths.{depth_at}
+use Rattle.message_tree.proofs.Lemmas.{items_from, depth_at}
 use Rattle.json_codec.proofs.encoder.+write.Goals as goal
 
 pub write_items-write_tree-requires : goal.write_items-write_tree-requires

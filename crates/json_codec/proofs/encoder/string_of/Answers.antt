@@ -3,7 +3,7 @@ use Rattle.json.specs.Print.{print}
 use Rattle.json.specs.Token.{string}
 use Rattle.serde_json.proofs.Texts.{print-outline}
 use Rattle.message_tree.specs.Data.{text}
-use Rattle.json_codec.specs.Encoder.{value_of, json_text}
+use Rattle.json_codec.specs.Encoder.{value_of}
 use Rattle.json_codec.proofs.encoder.string_of.Goals as goal
 
 pub returns : goal.returns

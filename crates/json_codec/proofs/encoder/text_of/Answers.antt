@@ -1,10 +1,10 @@
-use Rattle.std.proofs.Common.{◌≡◌, ◌≤◌, [], ◌++◌, true, IsUtf8, sym, ap, ◌∙◌, subst, arith, rules}
+use Rattle.std.proofs.Common.{◌≡◌, ◌≤◌, [], ◌++◌, IsUtf8, sym, ap, ◌∙◌, subst, arith}
 use Rattle.json.specs.Lex.{tokens}
 use Rattle.json.specs.Print.{print}
 use Rattle.json.specs.Tree.{json_tokens}
 use Rattle.serde_json.specs.Written.{outline}
 use Rattle.serde_json.proofs.Texts.{print-outline}
-use Rattle.message_tree.specs.Data.{depth, is_carried, IsSound}
+use Rattle.message_tree.specs.Data.{depth}
 use Rattle.message_tree.specs.View.{view}
 use Rattle.json_codec.specs.Encoder.{value_of, json_text}
 use Rattle.json_codec.proofs.Laws.{reads_back}

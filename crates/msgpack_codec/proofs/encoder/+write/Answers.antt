@@ -1,11 +1,10 @@
-use Rattle.std.proofs.Common.{◌≡◌, ◌≤◌, ◌<◌, [], ◌∷◌, ◌++◌, true, false, length, get_or, string_bytes, nat_lt, sym, ap, ◌∙◌, subst, append_assoc, arith, rules}
+use Rattle.std.proofs.Common.{◌≡◌, ◌≤◌, ◌<◌, [], ◌∷◌, ◌++◌, true, length, get_or, string_bytes, nat_lt, sym, ap, ◌∙◌, subst, append_assoc, arith, rules}
 use Rattle.std.proofs.lemmas.Bool.{and_parts}
 use Rattle.message_tree.specs.Data.{depth, entries_depth, items_depth, is_carried, items_carried, entries_carried}
 use Rattle.message_tree.specs.View.{view, dict_view, items_view, entries_view}
-use Rattle.message_tree.proofs.Depths.{depth_at}
-use Rattle.message_tree.proofs.Views.{items_from}
-use Rattle.msgpack_codec.specs.Short.{short, has_short, items_have_short, entries_have_short, entries_short, text_head}
-use Rattle.msgpack_codec.proofs.Members.{Entry, depth_within, both_pass, middle_of, last_of}
+use Rattle.message_tree.proofs.Lemmas.{depth_at, items_from}
+use Rattle.msgpack_codec.specs.Short.{short, has_short, entries_have_short, entries_short, text_head}
+use Rattle.msgpack_codec.proofs.Members.{Entry, depth_within, both_pass}
 use Rattle.msgpack_codec.proofs.encoder.+write.Goals as goal
 
 pub write_items-write-requires : goal.write_items-write-requires

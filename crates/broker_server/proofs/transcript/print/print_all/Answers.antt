@@ -18,7 +18,7 @@ loop-number-preserved c =
     ∙ (append_assoc c.args.out.now.items (printed_all (take c.loop-number.number-index c.args.given.now.items)) (printed g.0 (item_text (message_of g.1)))
     ∙ ap (λ l. c.args.out.now.items ++ l) (sym (printed_all-more c.args.given.now.items c.loop-number.number-index g small is))))
 
-pub returns-clause-printed : goal.returns-clause-printed
-returns-clause-printed c =
+pub returns : goal.returns
+returns c =
     let past = rw c.deref-number-items.ensures.value at c.loop-number-test.false in
-    c.loop-number.invariant ∙ ap (λ g. c.args.out.now.items ++ printed_all g) (take_all c.loop-number.number-index c.args.given.now.items past)
+    record { printed = c.loop-number.invariant ∙ ap (λ g. c.args.out.now.items ++ printed_all g) (take_all c.loop-number.number-index c.args.given.now.items past) }

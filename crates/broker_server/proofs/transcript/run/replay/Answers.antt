@@ -3,6 +3,7 @@ use Rattle.std.proofs.lemmas.Result.{on_ok_weaker, on_err_weaker}
 use Rattle.broker_server.specs.Grants.{bytes_of}
 use Rattle.broker_server.specs.Outcome.{BeginsReplay, IsReplayed, StopsAt, FromRealm}
 use Rattle.broker_server.specs.Transcript.{Replay}
+use Rattle.rawsocket.proofs.Lemmas.{no_whole_steps}
 use Rattle.broker_server.proofs.ProgressLemmas.{begun-start, from-any, from-realm}
 use Rattle.broker_server.proofs.transcript.run.replay.Goals as goal
 
@@ -35,3 +36,15 @@ returns-in_default-vec-clause-begun g c =
     from-any c.args.config.now.realms.items (bytes_of c.args.config.now.grants.items) (λ start. BeginsReplay start (g.I.Source.given c.args.source.now) (g.I.Source.given c.args.source.now) (g.I.Source.is_ended c.args.source.now)
     (g.O.Sink.taken c.args.sink.now) (g.O.Sink.taken c.args.sink.now))
     (λ start. begun-start start (g.I.Source.given c.args.source.now) (g.O.Sink.taken c.args.sink.now) (g.I.Source.is_ended c.args.source.now))
+
+pub returns-in_default-clause-reads : goal.returns-in_default-clause-reads
+returns-in_default-clause-reads g c = no_whole_steps _
+
+pub returns-in_default-clause-writes : goal.returns-in_default-clause-writes
+returns-in_default-clause-writes g c = no_whole_steps _
+
+pub returns-in_default-vec-clause-reads : goal.returns-in_default-vec-clause-reads
+returns-in_default-vec-clause-reads g c = no_whole_steps _
+
+pub returns-in_default-vec-clause-writes : goal.returns-in_default-vec-clause-writes
+returns-in_default-vec-clause-writes g c = no_whole_steps _

@@ -8,13 +8,13 @@ use Rattle.outbox_queue.proofs.RuleSteps.{takes}
 use Rattle.outbox_queue.proofs.OwedBeginnings.{owes_next}
 use Rattle.outbox_queue.proofs.ends.Consumer.pop.Goals as goal
 
-pub pop_as-requires-clause-rule : goal.pop_as-requires-clause-rule
-pop_as-requires-clause-rule g c = let o = g.H.Owed in (takes o.begins o.begins_itself o.begins_on _ _ (ap (λ v. v.takes) c.self.invariant.1), λ _ _ _ _. tt)
+pub pop_counted-requires-clause-rule : goal.pop_counted-requires-clause-rule
+pop_counted-requires-clause-rule g c = let o = g.H.Owed in (takes o.begins o.begins_itself o.begins_on _ _ (ap (λ v. v.takes) c.self.invariant.1), λ _ _ _ _. tt)
 
-pub invariant_of-self : goal.invariant_of-self
-invariant_of-self g c =
-    let o = g.H.Owed in let old = c.self.invariant in let x = c.in-Some.item in let v = view c.self.inside.place in
-    let same = c.in-Some.ensures.queue in let told = c.in-Some.ensures.rule in let eq = told.0 in
+pub invariant_of-self-2 : goal.invariant_of-self-2
+invariant_of-self-2 g c =
+    let o = g.H.Owed in let old = c.self.invariant in let x = c.in_ok-item.item in let v = view c.self.inside.place.pass in
+    let same = c.in_ok-item.ensures.queue in let told = c.in_ok-item.ensures.rule.0 in let eq = told.0 in
     let owes : slice_get (o.owed x.history v.conn) (length v.taken) ≡ Some x.item = subst (λ (y : ℕ × ℕ). slice_get (o.owed x.history y.0) y.1 ≡ Some x.item) (λ i. (told.1 i, told.2 i)) c.shows.ensures in
     let P : View g.row.T.Denot g.row.H.Denot → Type 0 = λ u. u ≡ taking u.conn u.seen u.taken in
     let Q : View g.row.T.Denot g.row.H.Denot → Type 0 = λ u. Owes o.owed u.seen u.conn u.taken in (

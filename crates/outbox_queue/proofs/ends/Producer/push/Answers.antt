@@ -8,8 +8,8 @@ use Rattle.outbox_queue.proofs.RuleSteps.{adds, learns_full}
 use Rattle.outbox_queue.proofs.OwedBeginnings.{owes_next}
 use Rattle.outbox_queue.proofs.ends.Producer.push.Goals as goal
 
-pub push_as-requires-clause-rule : goal.push_as-requires-clause-rule
-push_as-requires-clause-rule g c =
+pub push_counted-requires-clause-rule : goal.push_counted-requires-clause-rule
+push_counted-requires-clause-rule g c =
     let o = g.H.Owed in let is = sym c.self.view_is in let may = ap (λ v. v.adds) c.self.invariant.1 in let x = c.args.item in (
       adds o.begins o.begins_itself o.begins_on _ _ _ _ may (c.requires.conn ∙ ap (λ a. a.conn) is) (c.requires.place ∙ ap (λ a. length a.added) is) (subst (λ h. Grows o.begins h (Some x.history)) (ap (λ a. a.history) is) c.requires.history),
       learns_full o.begins o.begins_itself o.begins_on _ _ may,
@@ -17,8 +17,8 @@ push_as-requires-clause-rule g c =
 
 pub invariant_of-self : goal.invariant_of-self
 invariant_of-self g c =
-    let o = g.H.Owed in let is = sym c.self.view_is in let old = c.self.invariant in let x = c.args.item in let v = view c.self.inside.place in
-    let same = c.in-Ok.ensures.queue in let eq = c.in-Ok.ensures.rule in
+    let o = g.H.Owed in let is = sym c.self.view_is in let old = c.self.invariant in let x = c.args.item in let v = view c.self.inside.place.pass in
+    let same = c.in-Ok.ensures.queue in let eq = c.in-Ok.ensures.rule.0 in
     let conn : x.conn ≡ v.conn = c.requires.conn ∙ ap (λ a. a.conn) is in
     let place : x.place ≡ length v.added = c.requires.place ∙ ap (λ a. length a.added) is in
     let owes : slice_get (o.owed x.history v.conn) (length v.added) ≡ Some x.item = subst (λ (y : ℕ × ℕ). slice_get (o.owed x.history y.0) y.1 ≡ Some x.item) (λ i. (conn i, place i)) c.shows.ensures in

@@ -8,6 +8,7 @@ use Rattle.realm_actor.specs.ActorView.{Acting}
 use Rattle.realm_actor.specs.Settle.{Settles}
 use Rattle.realm_actor.specs.Invariant.{Stands}
 use Rattle.realm_actor.proofs.RowRemoval.{stands_either, stands_one, length_one, settles}
+use Rattle.realm_actor.proofs.MadeHistory.{made_kept}
 use Rattle.realm_actor.proofs.actor.Actor.settle.Goals as goal
 
 pub invariant_of-self : goal.invariant_of-self
@@ -24,7 +25,7 @@ invariant_of-self g c =
     let room = c.self.invariant.1 in
     let l = both.1 in
     let same = ap vec_capacity n.last_cut in
-    (subst (λ h. Stands h b.table.rows.items) (sym n.realm) both.0, omega (arith, room, l, same), n.knows c.self.invariant.2)
+    (subst (λ h. Stands h b.table.rows.items) (sym n.realm) both.0, omega (arith, room, l, same), n.knows c.self.invariant.2, made_kept a.table.realm b.table.realm _ _ n.realm (ap (λ (p : GhostList _). map said (items_of p)) n.handled) c.self.invariant.3)
 
 pub returns-clause-ok : goal.returns-clause-ok
 returns-clause-ok g c =

@@ -8,6 +8,7 @@ use Rattle.realm_actor.specs.ActorView.{Acting}
 use Rattle.realm_actor.specs.Settle.{Sweeps}
 use Rattle.realm_actor.specs.Invariant.{Stands}
 use Rattle.realm_actor.proofs.RowRemoval.{stands_swept, sweeps, fewer}
+use Rattle.realm_actor.proofs.MadeHistory.{made_kept}
 use Rattle.realm_actor.proofs.actor.Actor.sweep.Goals as goal
 
 pub invariant_of-self : goal.invariant_of-self
@@ -20,7 +21,7 @@ invariant_of-self g c =
     let less = fewer (λ r. live a.table.realm r.conn) a.table.rows.items in
     let l = ap length n.rows in
     let same = ap vec_capacity n.last_cut in
-    (subst (λ h. Stands h b.table.rows.items) (sym n.realm) (subst (λ x. Stands a.table.realm x) (sym n.rows) stands), omega (arith, room, less, l, same), n.knows c.self.invariant.2)
+    (subst (λ h. Stands h b.table.rows.items) (sym n.realm) (subst (λ x. Stands a.table.realm x) (sym n.rows) stands), omega (arith, room, less, l, same), n.knows c.self.invariant.2, made_kept a.table.realm b.table.realm _ _ n.realm (ap (λ (p : GhostList _). map said (items_of p)) n.handled) c.self.invariant.3)
 
 pub returns : goal.returns
 returns g c =

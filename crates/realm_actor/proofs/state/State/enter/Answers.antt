@@ -1,7 +1,7 @@
-use Rattle.std.proofs.Common.{[], ◌∷◌, sym, ap, arith, append-nil}
+use Rattle.std.proofs.Common.{[], ◌∷◌, refl, sym, ap, arith, append-nil}
 use Rattle.std.specs.Prelude.{vec_capacity}
 use Rattle.realm_actor.proofs.HandleLemmas.{as_many}
-use Rattle.realm_actor.proofs.AppliedActs.{by_outcome, applies_plain, applies_word, loses_by, no_joining}
+use Rattle.realm_actor.proofs.AppliedActs.{by_outcome, applies_plain, applies_word, loses_by, none_lost, one_lost, no_joining}
 use Rattle.realm_actor.proofs.state.State.enter.Goals as goal
 
 pub returns-then-not-draws-clause-outcome : goal.returns-then-not-draws-clause-outcome
@@ -12,7 +12,7 @@ returns-then-not-draws-clause-outcome g c =
     let after = g.W.IdSource.given b.words in
     by_outcome c.take_in.result _ _ _ _
     (applies_plain c.args.conn c.args.act a.table.realm b.table.realm a.table.rows.items b.table.rows.items before after c.entry_of.result c.requires.other (sym c.if-not-draws.ensures) c.entry_of.ensures)
-    (loses_by c.args.conn a.table.realm b.table.realm a.table.rows.items b.table.rows.items before after [] before (sym (append-nil before)) (omega arith))
+    (loses_by c.args.conn c.args.act a.table.realm b.table.realm a.table.rows.items b.table.rows.items before after [] before (sym (append-nil before)) (none_lost c.args.act [] refl (sym c.if-not-draws.ensures)))
     _ c.take_in.ensures.outcome
 
 pub returns-clause-outcome : goal.returns-clause-outcome
@@ -25,7 +25,7 @@ returns-clause-outcome g c =
     let word = c.next_word-word.result in
     by_outcome c.take_in-2.result _ _ _ _
     (applies_word c.args.conn c.args.act a.table.realm b.table.realm a.table.rows.items b.table.rows.items before after c.entry_of-2.result c.requires.other word start c.next_word-word.ensures (sym c.if-not-draws.ensures) c.entry_of-2.ensures)
-    (loses_by c.args.conn a.table.realm b.table.realm a.table.rows.items b.table.rows.items before after (word ∷ []) start c.next_word-word.ensures (omega arith))
+    (loses_by c.args.conn c.args.act a.table.realm b.table.realm a.table.rows.items b.table.rows.items before after (word ∷ []) start c.next_word-word.ensures (one_lost c.args.act word (sym c.if-not-draws.ensures)))
     _ c.take_in-2.ensures.outcome
 
 pub returns-then-not-draws-clause-room : goal.returns-then-not-draws-clause-room

@@ -21,7 +21,7 @@ returns-then-is_err-clause-outcome g c =
     let b = c.make_room.new.self in
     let m = c.make_room.ensures in
     let may : may_join a.table.realm c.args.conn ≡ true = sym c.may_join.ensures ∙ c.if-not-may_join.false in
-    loses_early c.args.conn a.table.realm b.table.realm a.table.rows.items b.table.rows.items (g.W.IdSource.given a.words) (g.W.IdSource.given b.words) may m.realm m.rows (ap (g.W.IdSource.given) m.words)
+    loses_early c.args.conn a.table.realm c.args.joining b.table.realm a.table.rows.items b.table.rows.items (g.W.IdSource.given a.words) (g.W.IdSource.given b.words) may m.realm m.rows (ap (g.W.IdSource.given) m.words)
 
 pub returns-in-Err-clause-outcome : goal.returns-in-Err-clause-outcome
 returns-in-Err-clause-outcome g c =
@@ -29,7 +29,7 @@ returns-in-Err-clause-outcome g c =
     let m = c.make_room.ensures in
     let may : may_join a.table.realm c.args.conn ≡ true = sym c.may_join.ensures ∙ c.if-not-may_join.false in
     let same = c.in-Err.ensures.err in
-    loses_join c.args.conn a.table.realm c.admit.new.self.realm a.table.rows.items c.admit.new.self.rows.items (g.W.IdSource.given a.words) (g.W.IdSource.given c.next_word-word.new.self) c.next_word-word.result may
+    loses_join c.args.conn a.table.realm c.args.joining c.admit.new.self.realm a.table.rows.items c.admit.new.self.rows.items (g.W.IdSource.given a.words) (g.W.IdSource.given c.next_word-word.new.self) c.next_word-word.result may
     (ap (λ t. t.realm) same ∙ m.realm) (ap (λ t. t.rows.items) same ∙ m.rows) (c.next_word-word.ensures ∙ ap (λ w. g.W.IdSource.given w ++ c.next_word-word.result ∷ []) m.words)
 
 pub returns-in-Ok-clause-outcome : goal.returns-in-Ok-clause-outcome

@@ -1,12 +1,11 @@
 use Rattle.std.proofs.Common.{◌≡◌, refl, sym, ap, ◌∙◌, subst, []}
 use Rattle.std.specs.List.{insert}
 use Rattle.realm.specs.Sessions.{live}
-use Rattle.realm_actor.specs.Rows.{Ascending, PartsAt, EachDue}
+use Rattle.realm_actor.specs.Rows.{Ascending, PartsAt, EachDue, NoneRose}
 use Rattle.realm_actor.specs.Tables.{EachEnds, EachWent, Ready, Sound}
 use Rattle.realm_actor.specs.Cuts.{NoneFull}
 use Rattle.realm_actor.proofs.EntryLemmas.{due_all, went_all, sound_after}
 use Rattle.realm_actor.proofs.TableInvariant.{still_none, knows_join, none_inserted}
-use Rattle.realm_actor.specs.Rows.{NoneRose}
 use Rattle.realm_actor.proofs.RowInsertion.{ready_join}
 use Rattle.realm_actor.proofs.table.Table.admit.Goals as goal
 
@@ -23,7 +22,7 @@ deliver-is_full-requires-clause-ascending g c =
     let seen : c.as_slice.result.now ≡ table.rows.items = c.as_slice.ensures.value in
     let parts = subst (λ l. PartsAt l c.args.conn i) seen c.place_in-place.ensures in
     let put : c.put.new.rows.items ≡ insert table.rows.items i c.args.row = c.put.ensures in
-    let ready = ready_join table.realm c.args.entry c.args.conn table.rows.items i c.args.row new.outbox c.requires.own c.requires.may c.requires.sound parts new.conn new.box new.of_conn new.empty new.unseen new.fresh in
+    let ready = ready_join table.realm c.args.entry c.args.conn table.rows.items i c.args.row new.outbox c.requires.own c.requires.may c.requires.sound parts new.conn new.box new.of_conn new.empty new.unseen new.fresh new.never in
     subst (λ l. Ascending l) (sym put) ready.ascending
 
 pub deliver-is_full-requires-clause-due : goal.deliver-is_full-requires-clause-due
@@ -34,7 +33,7 @@ deliver-is_full-requires-clause-due g c =
     let seen : c.as_slice.result.now ≡ table.rows.items = c.as_slice.ensures.value in
     let parts = subst (λ l. PartsAt l c.args.conn i) seen c.place_in-place.ensures in
     let put : c.put.new.rows.items ≡ insert table.rows.items i c.args.row = c.put.ensures in
-    let ready = ready_join table.realm c.args.entry c.args.conn table.rows.items i c.args.row new.outbox c.requires.own c.requires.may c.requires.sound parts new.conn new.box new.of_conn new.empty new.unseen new.fresh in
+    let ready = ready_join table.realm c.args.entry c.args.conn table.rows.items i c.args.row new.outbox c.requires.own c.requires.may c.requires.sound parts new.conn new.box new.of_conn new.empty new.unseen new.fresh new.never in
     subst (λ h. EachDue h c.in-Ok.given.items c.put.new.rows.items) (sym (c.of-history.ensures ∙ c.in-Ok.ensures.history))
     (due_all table.realm c.args.entry c.put.new.rows.items c.in-Ok.given.items (subst (λ l. Ready c.args.entry table.realm l) (sym put) ready) c.in-Ok.ensures.given)
 
@@ -46,7 +45,7 @@ returns-clause-rows g c =
     let seen : c.as_slice.result.now ≡ table.rows.items = c.as_slice.ensures.value in
     let parts = subst (λ l. PartsAt l c.args.conn i) seen c.place_in-place.ensures in
     let put : c.put.new.rows.items ≡ insert table.rows.items i c.args.row = c.put.ensures in
-    let ready = ready_join table.realm c.args.entry c.args.conn table.rows.items i c.args.row new.outbox c.requires.own c.requires.may c.requires.sound parts new.conn new.box new.of_conn new.empty new.unseen new.fresh in
+    let ready = ready_join table.realm c.args.entry c.args.conn table.rows.items i c.args.row new.outbox c.requires.own c.requires.may c.requires.sound parts new.conn new.box new.of_conn new.empty new.unseen new.fresh new.never in
     let d = c.deliver-is_full.ensures.rows in
     let is = c.in-Ok.ensures.history in (
       i,
@@ -64,7 +63,7 @@ returns-clause-sound g c =
     let seen : c.as_slice.result.now ≡ table.rows.items = c.as_slice.ensures.value in
     let parts = subst (λ l. PartsAt l c.args.conn i) seen c.place_in-place.ensures in
     let put : c.put.new.rows.items ≡ insert table.rows.items i c.args.row = c.put.ensures in
-    let ready = ready_join table.realm c.args.entry c.args.conn table.rows.items i c.args.row new.outbox c.requires.own c.requires.may c.requires.sound parts new.conn new.box new.of_conn new.empty new.unseen new.fresh in
+    let ready = ready_join table.realm c.args.entry c.args.conn table.rows.items i c.args.row new.outbox c.requires.own c.requires.may c.requires.sound parts new.conn new.box new.of_conn new.empty new.unseen new.fresh new.never in
     let d = c.deliver-is_full.ensures.rows in
     let is = c.in-Ok.ensures.history in
     subst (λ h. Sound h c.deliver-is_full.new.rows.items) (sym is)
@@ -80,7 +79,7 @@ returns-clause-none g c = λ quiet none.
     let seen : c.as_slice.result.now ≡ table.rows.items = c.as_slice.ensures.value in
     let parts = subst (λ l. PartsAt l c.args.conn i) seen c.place_in-place.ensures in
     let put : c.put.new.rows.items ≡ insert table.rows.items i c.args.row = c.put.ensures in
-    let ready = ready_join table.realm c.args.entry c.args.conn table.rows.items i c.args.row new.outbox c.requires.own c.requires.may c.requires.sound parts new.conn new.box new.of_conn new.empty new.unseen new.fresh in
+    let ready = ready_join table.realm c.args.entry c.args.conn table.rows.items i c.args.row new.outbox c.requires.own c.requires.may c.requires.sound parts new.conn new.box new.of_conn new.empty new.unseen new.fresh new.never in
     let d = c.deliver-is_full.ensures.rows in
     let is = c.in-Ok.ensures.history in
     let went = went_all table.realm c.args.entry c.args.conn c.put.new.rows.items d.0 c.deliver-is_full.new.rows.items c.requires.own c.requires.comes (subst (λ l. Ready c.args.entry table.realm l) (sym put) ready) d.1
@@ -96,7 +95,7 @@ returns-clause-knows g c =
     let seen : c.as_slice.result.now ≡ table.rows.items = c.as_slice.ensures.value in
     let parts = subst (λ l. PartsAt l c.args.conn i) seen c.place_in-place.ensures in
     let put : c.put.new.rows.items ≡ insert table.rows.items i c.args.row = c.put.ensures in
-    let ready = ready_join table.realm c.args.entry c.args.conn table.rows.items i c.args.row new.outbox c.requires.own c.requires.may c.requires.sound parts new.conn new.box new.of_conn new.empty new.unseen new.fresh in
+    let ready = ready_join table.realm c.args.entry c.args.conn table.rows.items i c.args.row new.outbox c.requires.own c.requires.may c.requires.sound parts new.conn new.box new.of_conn new.empty new.unseen new.fresh new.never in
     let d = c.deliver-is_full.ensures.rows in
     let is = c.in-Ok.ensures.history in
     let lives = c.is_live-is_live.ensures ∙ ap (λ h. live h c.args.conn) is in

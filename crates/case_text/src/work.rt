@@ -9,6 +9,9 @@ pub trait Work<R, T>: Sized + Drop {
 }
 
 /// Starts a thread that does the work.
+///
+/// # Errors
+/// Where no thread can be made. The work is dropped.
 pub fn start<R, T, W>(rt: R, work: W) -> Result<JoinHandle<T>, AllocError>
 where
     R: Threads + Wait + Copy + Send + 'static,
