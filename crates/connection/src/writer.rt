@@ -12,8 +12,11 @@ use session::{Fault, Item, write_item};
 use std::alloc::Global;
 use std::sync::Wait;
 
-/// A buffer with room for more octets than these isn't kept once its frame is handed over.
-const KEPT: usize = 65536;
+/// So many octets are handed over at once.
+const HELD: usize = 65_536;
+
+/// A buffer with room for more octets than these isn't kept once they are handed over.
+const KEPT: usize = 131_072;
 
 /// Why a writer ended.
 #[derive(Clone, Copy, Debug, Drop, PartialEq, Eq)]
@@ -30,70 +33,74 @@ pub enum WriteEnd {
     TooManyTurns,
 }
 
-/// Takes the next item. Where none waits, all that was written is passed on before the next one is waited for.
+/// Hands what the buffer holds to the device. The buffer is empty then, and no large one is kept.
+fn hand_over<S: Sink>(
+    alloc: Global,
+    sink: &mut S,
+    buffer: &mut Vec<u8>,
+    turns: &mut Turns,
+) -> Result<(), WriteEnd>
+{
+    match write_all(sink, buffer.as_slice(), turns) {
+        Ok(()) => {}
+        Err(rawsocket::Fault::WriteFault) => return Err(WriteEnd::Device),
+        Err(_) => return Err(WriteEnd::TooManyTurns),
+    }
+    if buffer.capacity() > KEPT {
+        *buffer = Vec::new(alloc);
+    } else {
+        buffer.clear();
+    }
+    Ok(())
+}
+
+/// Hands over what the buffer holds, and tells the device to pass on what it holds itself.
+fn pass_on<S: Sink>(
+    alloc: Global,
+    sink: &mut S,
+    buffer: &mut Vec<u8>,
+    turns: &mut Turns,
+) -> Result<(), WriteEnd>
+{
+    hand_over(alloc, sink, buffer, turns)?;
+    match sink.flush() {
+        Ok(()) => Ok(()),
+        Err(_) => Err(WriteEnd::Device),
+    }
+}
+
+/// Takes the next item. Where none waits, all that was made is passed on before the next one is waited for.
 fn next_item<R: Wait, H: Owed<Item>, S: Sink>(
     rt: &R,
+    alloc: Global,
     drain: &mut Drain<Item, H>,
     sink: &mut S,
+    buffer: &mut Vec<u8>,
+    turns: &mut Turns,
 ) -> Result<Item, WriteEnd>
-    ensures took { IfOk result (λ item. drain.new.taken ≡ drain.old.taken ++ item ∷ []) }
-    ensures none { OnErr result (drain.new.taken ≡ drain.old.taken) }
-    ensures drain { IsLater H.begins drain.old drain.new }
-    ensures between { IfErr result IsBetween }
-    ensures stopped { result ≡ Err WriteEnd.Stopped
-        → drain.old.empty_finds < drain.new.empty_finds }
-    ensures kept { S.taken sink.new ≡ S.taken sink.old }
-    ensures steps { (turns : ℕ) → Steps (meter (S.calls sink.old) (S.failures sink.old) turns)
-        (meter (S.calls sink.new) (S.failures sink.new) turns) (told_by write_told result) }
 {
     match drain.next(rt) {
         Next::Item(item) => return Ok(item),
         Next::Empty => {}
     }
-    if let Err(_) = sink.flush() {
-        return Err(WriteEnd::Device);
-    }
+    pass_on(alloc, sink, buffer, turns)?;
     match drain.wait_next(rt) {
         Waited::Item(item) => Ok(item),
         Waited::Stopped => Err(WriteEnd::Stopped),
     }
 }
 
-/// Empties a buffer, and keeps no large one.
-fn empty(alloc: Global, buffer: &mut Vec<u8>)
-    ensures { buffer.new.items ≡ [] }
+/// The end for an item that can't be encoded. What was made before it is passed on.
+fn give_up<S: Sink>(
+    alloc: Global,
+    sink: &mut S,
+    buffer: &mut Vec<u8>,
+    turns: &mut Turns,
+    fault: Fault,
+) -> WriteEnd
 {
-    if buffer.capacity() > KEPT {
-        *buffer = Vec::new(alloc);
-    } else {
-        buffer.clear();
-    }
-}
-
-/// Hands octets to the device, which may hold them back.
-fn hand<S: Sink>(sink: &mut S, octets: &[u8], turns: &mut Turns) -> Result<(), WriteEnd>
-    ensures written { OnOk result (S.taken sink.new ≡ S.taken sink.old ++ octets.now) }
-    ensures begun { GrowsByBeginning (S.taken sink.old) (S.taken sink.new) octets.now }
-    ensures which { IfErr result (λ e. (e ≡ WriteEnd.Device) ⊎ (e ≡ WriteEnd.TooManyTurns)) }
-    ensures steps { Steps (meter (S.calls sink.old) (S.failures sink.old) turns.old)
-        (meter (S.calls sink.new) (S.failures sink.new) turns.new) (told_by write_told result) }
-{
-    match write_all(sink, octets, turns) {
-        Ok(()) => Ok(()),
-        Err(rawsocket::Fault::WriteFault) => Err(WriteEnd::Device),
-        Err(_) => Err(WriteEnd::TooManyTurns),
-    }
-}
-
-/// The end for an item that can't be encoded. What was written before it is passed on.
-fn give_up<S: Sink>(sink: &mut S, fault: Fault) -> WriteEnd
-    ensures which { result ≢ WriteEnd.Device → result ≡ end_by fault }
-    ensures kept { S.taken sink.new ≡ S.taken sink.old }
-    ensures steps { (turns : ℕ) → Steps (meter (S.calls sink.old) (S.failures sink.old) turns)
-        (meter (S.calls sink.new) (S.failures sink.new) turns) (write_told result) }
-{
-    if let Err(_) = sink.flush() {
-        return WriteEnd::Device;
+    if let Err(end) = pass_on(alloc, sink, buffer, turns) {
+        return end;
     }
     match fault {
         Fault::NoMemory => WriteEnd::NoMemory,
@@ -101,33 +108,7 @@ fn give_up<S: Sink>(sink: &mut S, fault: Fault) -> WriteEnd
     }
 }
 
-/// Hands the frame of an item to the device. It is made in the buffer, which is empty before.
-fn write_one<S: Sink>(
-    alloc: Global,
-    sink: &mut S,
-    serializer: Serializer,
-    limit: u32,
-    item: &Item,
-    buffer: &mut Vec<u8>,
-    turns: &mut Turns,
-) -> Result<(), WriteEnd>
-    requires limit { limit ≤ 16777215 }
-    requires buffer { buffer.old.items ≡ [] }
-    ensures written { OnOk result (S.taken sink.new ≡ S.taken sink.old ++ octets_of serializer
-        item.now) }
-    ensures writable { OnOk result (IsWritable serializer limit item.now) }
-    ensures ended { IfErr result (λ e. BreaksAt serializer limit e
-        item.now (S.taken sink.old) (S.taken sink.new)) }
-    ensures steps { Steps (meter (S.calls sink.old) (S.failures sink.old) turns.old)
-        (meter (S.calls sink.new) (S.failures sink.new) turns.new) (told_by write_told result) }
-{
-    match write_item(alloc, serializer, limit, item, buffer) {
-        Ok(()) => hand(sink, buffer, turns),
-        Err(fault) => Err(give_up(sink, fault)),
-    }
-}
-
-/// Takes the next item, and hands its frame to the device. While it waits for the item, no large buffer is kept.
+/// Takes the next item, and makes its frame behind what the buffer holds. That is handed over once it is long.
 fn write_next<R: Wait, H: Owed<Item>, S: Sink>(
     rt: &R,
     alloc: Global,
@@ -138,23 +119,15 @@ fn write_next<R: Wait, H: Owed<Item>, S: Sink>(
     buffer: &mut Vec<u8>,
     turns: &mut Turns,
 ) -> Result<(), WriteEnd>
-    requires { limit ≤ 16777215 }
-    ensures done { OnOk result (WritesSince drain.old.taken
-        drain.new.taken (S.taken sink.old) (S.taken sink.new) (IsWhole serializer limit)) }
-    ensures ended { IfErr result (λ e. WritesSince drain.old.taken
-        drain.new.taken (S.taken sink.old) (S.taken sink.new) (IsWrittenBy serializer limit e)) }
-    ensures drain { IsLater H.begins drain.old drain.new }
-    ensures stopped { result ≡ Err WriteEnd.Stopped
-        → drain.old.empty_finds < drain.new.empty_finds }
-    ensures steps { Steps (meter (S.calls sink.old) (S.failures sink.old) turns.old)
-        (meter (S.calls sink.new) (S.failures sink.new) turns.new) (told_by write_told result) }
 {
-    empty(alloc, buffer);
-    let item = match next_item(rt, drain, sink) {
-        Ok(item) => item,
-        Err(end) => return Err(end),
-    };
-    write_one(alloc, sink, serializer, limit, &item, buffer, turns)
+    let item = next_item(rt, alloc, drain, sink, buffer, turns)?;
+    if let Err(fault) = write_item(alloc, serializer, limit, &item, buffer) {
+        return Err(give_up(alloc, sink, buffer, turns, fault));
+    }
+    if buffer.len() < HELD {
+        return Ok(());
+    }
+    hand_over(alloc, sink, buffer, turns)
 }
 
 /// Takes items and writes their frames, one after another, until the outbox is closed and nothing is left in it, or something fails.

@@ -24,5 +24,5 @@ pub use devices::no_octets::NoOctets;
 pub use devices::over_io::{ReadSource, WriteSink};
 pub use devices::turns::{PIECE, Turns, read_piece, read_turn, send, write_all};
 pub use fault::Fault;
-pub use frame::{Frame, Kind, fill_header, write_frame};
+pub use frame::{Frame, Kind, fill_header, header, write_frame};
 pub use handshake::{Handshake, Serializer, answer, no_seat_reply};

@@ -1,12 +1,12 @@
 -- The fault for a read that gave no octets.
 use Rattle.std.proofs.Common.{◌≡◌, ◌<◌, ◌⊎◌, Bool, true, inl, inr, refl, sym, subst, arith}
-use Rattle.rawsocket.specs.Steps.{Meter, Told, Fine, Steps, piece_told}
+use Rattle.rawsocket.specs.Steps.{Meter, Steps, piece_told}
 use Rattle.rawsocket.specs.declared.devices.no_octets.NoOctets.{NoOctets}
 use Rattle.rawsocket.specs.declared.devices.no_octets.NoOctets.TheVariants as no_octets
 use Rattle.session.specs.Faults.{piece_fault, read_told}
 use Rattle.session.specs.Opened.{HasCause, is_decided}
 use Rattle.session.specs.declared.fault.Fault.{Fault}
-use Rattle.session.specs.declared.fault.Fault.TheVariants.{Ended, ReadFault, TooManyTurns}
+use Rattle.session.specs.declared.fault.Fault.TheVariants.{Ended, ReadFault}
 
 -- it tells of the stream what the read told, but whose turns were used up
 steps_of : (why : NoOctets) (a b : Meter) → Steps a b (piece_told why) → Steps a b (read_told (piece_fault why))

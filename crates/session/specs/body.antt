@@ -2,3 +2,4 @@
 pub mod SerializedParts
 pub mod EncodedArguments
 pub mod EventDetails
+pub mod EventHead

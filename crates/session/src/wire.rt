@@ -2,5 +2,6 @@
 
 pub(crate) mod appender;
 pub(crate) mod event_details;
+pub(crate) mod event_head;
 pub(crate) mod item_frames;
 pub(crate) mod serializer;

@@ -6,15 +6,12 @@ use crate::answer::Answer;
 use rawsocket::devices::{ReadSource, WriteSink};
 use realm_inbox::{GhostList, Shut};
 use std::alloc::{AllocError, Global};
-use std::io::{self, BufWriter, Read, Write};
+use std::io::{self, Read, Write};
 use std::net::{Shutdown, TcpListener, TcpStream};
 use std::snapshot::Snapshot;
 use std::sync::Arc;
 use std::thread;
 use std::time::{Clock, Duration};
-
-/// How many octets a stream holds back until it is told to pass them on.
-const HELD: usize = 65_536;
 
 /// How many milliseconds are waited after accepting failed, for each failure in a row.
 const PAUSE: u64 = 20;
@@ -104,7 +101,7 @@ impl<R: Clock + Drop> Acceptor for TcpAcceptor<R> {
 
     type Source = ReadSource<TcpHandle>;
 
-    type Sink = WriteSink<BufWriter<TcpHandle>>;
+    type Sink = WriteSink<TcpHandle>;
 
     type Shut = TcpHandle;
 
@@ -126,19 +123,16 @@ impl<R: Clock + Drop> Acceptor for TcpAcceptor<R> {
         alloc: Global,
         stream: TcpStream,
     ) -> Result<
-        Parts<ReadSource<TcpHandle>, WriteSink<BufWriter<TcpHandle>>, TcpHandle>,
+        Parts<ReadSource<TcpHandle>, WriteSink<TcpHandle>, TcpHandle>,
         AllocError,
     > {
         let _ = stream.set_nodelay(true);
         let shut = TcpHandle {
             stream: Arc::new(alloc, stream)?,
         };
-        let Ok(writer) = BufWriter::with_capacity(alloc, HELD, shut.another()?) else {
-            return Err(AllocError);
-        };
         Ok(Parts {
             source: ReadSource::new(shut.another()?),
-            sink: WriteSink::new(writer),
+            sink: WriteSink::new(shut.another()?),
             shut,
         })
     }

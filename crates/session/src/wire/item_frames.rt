@@ -1,11 +1,13 @@
 //! Items as octets, written straight from what they hold.
-ghost use Rattle.std.specs.Prelude.{◌≡◌, ◌≤◌, ◌<◌, ◌+◌, ◌++◌, ◌⊎◌, OnOk, OnErr, IfErr, Some, true, false};
+ghost use Rattle.std.specs.Prelude.{◌≡◌, ◌≤◌, ◌<◌, ◌+◌, ◌++◌, ◌⊎◌, length, take, OnOk, OnErr, IfErr, IfSome, Some, true, false};
 ghost use Rattle.message_tree.specs.Data.{item, no_items};
 ghost use Rattle.msgpack_codec.specs.Short.{item_count};
 ghost use Rattle.rawsocket.specs.Frames.{spelled};
+ghost use Rattle.rawsocket.specs.declared.frame.Kind.TheVariants.{Message};
 ghost use Rattle.rawsocket.specs.declared.handshake.Serializer.{Serializer};
 ghost use Rattle.session.specs.ItemFrames.{frame_of, octets_of, Fits, IsSpelled, IsUnspelled, IsTooLong};
-ghost use Rattle.session.specs.body.SerializedParts.{has_spelling, items_have_spelling, list_opening, further};
+ghost use Rattle.session.specs.body.EncodedArguments.{IsTail};
+ghost use Rattle.session.specs.body.SerializedParts.{has_spelling, items_have_spelling, list_opening, list_closing, further};
 ghost use Rattle.session.specs.Serializer.{serialized};
 ghost use Rattle.session.specs.Arguments.{is_all_carried, last_items};
 ghost use Rattle.session.specs.ToClient.{number, event, triple, unsubscribed, message_of};
@@ -16,6 +18,7 @@ use crate::messages::item::{Item, Publication};
 use crate::messages::to_client::item_message;
 use crate::wire::appender::Appender;
 use crate::wire::event_details::put_details;
+use crate::wire::event_head::EventHead;
 use rawsocket::{Kind, Serializer, fill_header};
 use std::alloc::{AllocError, Global};
 use std::mem;
@@ -265,12 +268,91 @@ fn kind_of(item: &Item) -> Kind
     }
 }
 
-/// Writes the frame of an item at the end, for a client that takes so many octets in one payload.
-///
-/// # Errors
-/// [`Fault::TooLongForClient`] where the payload has more octets, or MessagePack has no spelling for
-/// the message; [`Fault::NoMemory`] where a growth was refused. What was written stays as it was.
-pub fn write_item(
+/// What the encoded arguments of a publication are at the end of its EVENT, where that names no publisher.
+fn plain_tail(made: &Publication, serializer: Serializer) -> Option<&[u8]>
+    ensures tail { IfSome result (λ octets. IsTail serializer made.now.args octets.now) }
+    ensures plain { IfSome result (λ _. made.now.disclosed ≡ false) }
+{
+    if made.disclosed {
+        return None;
+    }
+    made.args.args().tail(serializer)
+}
+
+/// How many octets close a list.
+fn closing_len(serializer: Serializer) -> usize
+    ensures { result ≡ length (list_closing serializer) }
+{
+    match serializer {
+        Serializer::Json => 1,
+        Serializer::MsgPack => 0,
+    }
+}
+
+/// Writes octets at the end, and the end of a list. Where a growth was refused some of them may stand there.
+fn append(
+    serializer: Serializer,
+    head: &[u8],
+    tail: &[u8],
+    out: &mut Vec<u8>,
+) -> Result<(), AllocError>
+    ensures ok { OnOk result (out.new.items ≡ out.old.items
+        ++ (head.now ++ (tail.now ++ list_closing serializer))) }
+    ensures before { take (length out.old.items) out.new.items ≡ out.old.items }
+{
+    out.extend_from_slice(head)?;
+    out.extend_from_slice(tail)?;
+    match serializer {
+        Serializer::Json => match out.push(b']') {
+            Ok(()) => Ok(()),
+            Err(_) => Err(AllocError),
+        },
+        Serializer::MsgPack => Ok(()),
+    }
+}
+
+/// Writes the frame of an EVENT without details, whose arguments are these octets, at the end: what [`write_item`] writes, in two copies.
+fn write_event(
+    serializer: Serializer,
+    limit: u32,
+    subscription: Id,
+    made: &Publication,
+    tail: &[u8],
+    out: &mut Vec<u8>,
+) -> Result<(), Fault>
+    requires limit { limit ≤ 16777215 }
+    requires tail { IsTail serializer made.now.args tail.now }
+    requires plain { made.now.disclosed ≡ false }
+    ensures ok { OnOk result (out.new.items ≡ out.old.items ++ spelled (record {
+      kind = Message;
+      payload = serialized serializer (event subscription made.now false false);
+    })) }
+    ensures fits { OnOk result
+        (length (serialized serializer (event subscription made.now false false)) ≤ limit) }
+    ensures spelled { has_spelling serializer (event subscription made.now false false) ≡ true }
+    ensures err { OnErr result (out.new.items ≡ out.old.items) }
+    ensures long { result ≡ Err Fault.TooLongForClient
+        → limit < length (serialized serializer (event subscription made.now false false)) }
+    ensures fault { IfErr result (λ f. (f ≡ Fault.NoMemory) ⊎ (f ≡ Fault.TooLongForClient)) }
+{
+    let count = 4 + count_of(made.args.args());
+    let mut head = EventHead::new();
+    head.put_event(serializer, count, (subscription.value(), made.id.value()));
+    let len = head.len() + tail.len() + closing_len(serializer);
+    if len > limit as usize {
+        return Err(Fault::TooLongForClient);
+    }
+    head.put_header(len);
+    let at = out.len();
+    if let Err(AllocError) = append(serializer, head.as_slice(), tail, out) {
+        out.truncate(at);
+        return Err(Fault::NoMemory);
+    }
+    Ok(())
+}
+
+/// Writes the frame of any item at the end, as [`write_item`] does.
+fn write_any(
     alloc: Global,
     serializer: Serializer,
     limit: u32,
@@ -297,4 +379,39 @@ pub fn write_item(
     }
     fill_header(kind_of(item), at, out);
     Ok(())
+}
+
+/// Writes the frame of an item at the end, for a client that takes so many octets in one payload.
+///
+/// # Errors
+/// [`Fault::TooLongForClient`] where the payload has more octets, or MessagePack has no spelling for
+/// the message; [`Fault::NoMemory`] where a growth was refused. What was written stays as it was.
+pub fn write_item(
+    alloc: Global,
+    serializer: Serializer,
+    limit: u32,
+    item: &Item,
+    out: &mut Vec<u8>,
+) -> Result<(), Fault>
+    requires { limit ≤ 16777215 }
+    ensures ok { OnOk result (out.new.items ≡ out.old.items ++ octets_of serializer item.now) }
+    ensures fits { OnOk result (Fits serializer limit item.now) }
+    ensures spelled { OnOk result (IsSpelled serializer (message_of item.now)) }
+    ensures err { OnErr result (out.new.items ≡ out.old.items) }
+    ensures long { result ≡ Err Fault.TooLongForClient → IsTooLong serializer limit item.now }
+    ensures fault { IfErr result (λ f. (f ≡ Fault.NoMemory) ⊎ (f ≡ Fault.TooLongForClient)) }
+{
+    if let Item::Event {
+        subscription,
+        publication,
+        with_topic: false,
+        retained: false,
+    } = item
+    {
+        let made = publication.value();
+        if let Some(tail) = plain_tail(made, serializer) {
+            return write_event(serializer, limit, *subscription, made, tail, out);
+        }
+    }
+    write_any(alloc, serializer, limit, item, out)
 }

@@ -1,6 +1,6 @@
 use Rattle.std.proofs.Common.{ap, arith}
 use Rattle.rawsocket.specs.Steps.{device_told}
-use Rattle.rawsocket.proofs.Lemmas.{at_told, untold}
+use Rattle.rawsocket.proofs.Lemmas.{at_told}
 use Rattle.session.proofs.opening.send.Goals as goal
 
 pub returns-in-Ok-clause-writes : goal.returns-in-Ok-clause-writes

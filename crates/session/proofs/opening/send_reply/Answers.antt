@@ -1,4 +1,3 @@
-use Rattle.rawsocket.proofs.Lemmas.{no_steps}
 use Rattle.session.proofs.opening.send_reply.Goals as goal
 
 pub returns-in-Some-clause-writes : goal.returns-in-Some-clause-writes
