@@ -209,9 +209,9 @@ def free_port():
 class Broker:
     """A broker that runs, or has ended: `status` is its exit status then."""
 
-    def __init__(self, program, options=(), env=None):
+    def __init__(self, program, options=(), env=None, under=()):
         self.port = free_port()
-        words = [program, "serve", "--port", str(self.port), *options, "r.one"]
+        words = [*under, program, "serve", "--port", str(self.port), *options, "r.one"]
         self.process = subprocess.Popen(words, env=env, stdout=subprocess.PIPE, stderr=subprocess.PIPE)
         self.told = self.first_line()
 

@@ -1,5 +1,5 @@
 -- A stream that is read piece by piece and posted.
-use Rattle.std.proofs.Common.{◌≡◌, ◌≢◌, ℕ, List, [], ◌∷◌, ◌++◌, None, Ok, Err, inl, inr, refl, sym, ap, ◌∙◌, subst, append_assoc, append-nil, ◌≤◌, ◌<◌, arith}
+use Rattle.std.proofs.Common.{◌≡◌, ◌≢◌, ℕ, List, [], ◌∷◌, ◌++◌, None, Ok, Err, inl, inr, refl, sym, ap, ◌∙◌, subst, append_assoc, append-nil}
 use Rattle.rawsocket.specs.Frames.{Content, Reads, fault_of}
 use Rattle.rawsocket.specs.Steps.{Meter, Fine, Steps, piece_told}
 use Rattle.rawsocket.specs.declared.devices.no_octets.NoOctets.{NoOctets}

@@ -1,10 +1,9 @@
 -- What a writer has written of the items that it took, when it ends.
-use Rattle.std.specs.Prelude.{◌≡◌, ◌≤◌, ◌⊎◌, ℕ, List, [], ◌∷◌, ◌++◌, take}
+use Rattle.std.specs.Prelude.{◌≡◌, ◌≤◌, ◌+◌, ℕ, List, [], ◌∷◌, ◌++◌, length}
+use mathlib.Core.List.{IsPrefix}
 use Rattle.std.specs.List.{flat_map, AllByRecursion}
 use Rattle.rawsocket.specs.Steps.{Told, Fine, Failed, NoTurn}
 use Rattle.rawsocket.specs.declared.handshake.Serializer.{Serializer}
-use Rattle.session.specs.declared.fault.Fault.{Fault}
-use Rattle.session.specs.declared.fault.Fault.TheVariants as fault
 use Rattle.session.specs.declared.messages.item.Item.{Item}
 use Rattle.session.specs.ToClient.{message_of}
 use Rattle.outbox_queue.specs.Ends.{Taking}
@@ -43,17 +42,24 @@ IsRefused s limit item part = (part ≡ []) × IsTooLong s limit item
 abbrev pub IsMissing : Item → List ℕ → Type 0
 IsMissing item part = part ≡ []
 
--- a beginning of its frame is written, or none of it
-abbrev pub IsCut : Serializer → ℕ → Item → List ℕ → Type 0
-IsCut s limit item part = (part ≡ []) ⊎ (IsWritable s limit item × (n : ℕ) × (part ≡ take n (octets_of s item)))
+-- of the items all but perhaps the last one can be written, and of their frames, behind what was held back before them, a beginning is
+-- written: what is held back are less than 65,536 octets, and one frame
+pub record IsBegun (s : Serializer) (limit : ℕ) (held_before : List ℕ) (items : List Item) (octets : List ℕ) : Type 0 where
+  pub made : List Item
+  pub unmade : List Item
+  pub items_are : items ≡ made ++ unmade
+  pub few : length unmade ≤ 1
+  pub writable : AllByRecursion (IsWritable s limit) made
+  pub begun : IsPrefix octets (held_before ++ frames_of s made)
+  pub held : length (held_before ++ frames_of s made) ≤ length octets + (65539 + limit)
 
 -- by the writer's end
 abbrev pub IsWrittenBy : Serializer → ℕ → WriteEnd → List Item → List ℕ → Type 0
 IsWrittenBy s limit Stopped items octets = IsWhole s limit items octets
 IsWrittenBy s limit TooLong items octets = LacksLast s limit (IsRefused s limit) items octets
 IsWrittenBy s limit NoMemory items octets = LacksLast s limit IsMissing items octets
-IsWrittenBy s limit Device items octets = IsWhole s limit items octets ⊎ LacksLast s limit (IsCut s limit) items octets
-IsWrittenBy s limit TooManyTurns items octets = LacksLast s limit (IsCut s limit) items octets
+IsWrittenBy s limit Device items octets = IsBegun s limit [] items octets
+IsWrittenBy s limit TooManyTurns items octets = IsBegun s limit [] items octets
 
 -- these items were taken, and these octets written, since
 pub record WritesSince (taken_before taken : List Item) (before now : List ℕ) (Written : List Item → List ℕ → Type 0) : Type 0 where
@@ -70,31 +76,6 @@ pub record IsLater {T H : Type 0} (begins : H → H → Type 0) (before now : Ta
   pub conn : now.conn ≡ before.conn
   pub seen : Grows begins before.seen now.seen
   pub finds : before.empty_finds ≤ now.empty_finds
-
--- the ends that come while no item is in hand
-abbrev pub IsBetween : WriteEnd → Type 0
-IsBetween Stopped = Unit {0}
-IsBetween Device = Unit {0}
-IsBetween _ = ⊥
-
--- what is written of the item in hand, by the end that comes at it
-abbrev pub EndsAt : Serializer → ℕ → WriteEnd → Item → List ℕ → Type 0
-EndsAt s limit Stopped item part = ⊥
-EndsAt s limit TooLong item part = IsRefused s limit item part
-EndsAt s limit NoMemory item part = IsMissing item part
-EndsAt s limit Device item part = IsCut s limit item part
-EndsAt s limit TooManyTurns item part = IsCut s limit item part
-
--- these octets of it were written since
-pub record BreaksAt (s : Serializer) (limit : ℕ) (end : WriteEnd) (item : Item) (before now : List ℕ) : Type 0 where
-  pub part : List ℕ
-  pub wrote : now ≡ before ++ part
-  pub ends : EndsAt s limit end item part
-
--- the end for a fault of encoding
-abbrev pub end_by : Fault → WriteEnd
-end_by fault.NoMemory = NoMemory
-end_by _ = TooLong
 
 -- what an end tells of the stream
 abbrev pub write_told : WriteEnd → Told

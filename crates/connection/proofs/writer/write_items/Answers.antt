@@ -1,21 +1,22 @@
-use Rattle.std.proofs.Common.{ap, Err, arith}
+use Rattle.std.proofs.Common.{ap, Err, arith, length}
 use Rattle.rawsocket.proofs.Lemmas.{all_turns, then_steps}
-use Rattle.connection.proofs.WriterProgress.{then_ends, none_so_far}
+use Rattle.connection.proofs.WriterProgress.{then_passes, then_ends, none_so_far}
 use Rattle.connection.proofs.DrainProgress.{same_is_later, later_still}
-use Rattle.connection.specs.declared.writer.WriteEnd.TheVariants.{Stopped}
 use Rattle.connection.proofs.writer.write_items.Goals as goal
 
 pub items-init : goal.items-init
 items-init g c = record {
-  done = none_so_far c.args.serializer c.args.limit c.args.drain.taken (g.S.Sink.taken c.args.sink.now);
+  done = none_so_far c.args.serializer c.args.limit c.args.drain.taken (g.S.Sink.taken c.args.sink.now) c.new-buffer.result.items c.new-buffer.ensures.items;
+  held = omega (arith, ap length c.new-buffer.ensures.items);
   later = same_is_later g.H.Owed.begins g.H.Owed.begins_itself c.args.drain;
   steps = all_turns c.new-turns.ensures;
 }
 
 pub items-preserved : goal.items-preserved
 items-preserved g c = record {
-  done = then_ends c.args.serializer c.args.limit Stopped c.args.drain.taken c.items.drain.taken c.write_next.new.drain.taken (g.S.Sink.taken c.args.sink.now) (g.S.Sink.taken c.items.sink) (g.S.Sink.taken c.write_next.new.sink)
-      c.items.invariant.done c.in_default.ensures.done;
+  done = then_passes c.args.serializer c.args.limit c.args.drain.taken c.items.drain.taken c.write_next.new.drain.taken (g.S.Sink.taken c.args.sink.now) (g.S.Sink.taken c.items.sink) (g.S.Sink.taken c.write_next.new.sink)
+      c.items.buffer.items c.write_next.new.buffer.items c.items.invariant.done c.in_default.ensures.done;
+  held = c.in_default.ensures.held;
   later = later_still g.H.Owed.begins g.H.Owed.begins_on c.args.drain c.items.drain c.write_next.new.drain c.items.invariant.later c.in_default.ensures.drain;
   steps = then_steps c.items.invariant.steps c.in_default.ensures.steps;
 }
@@ -23,7 +24,7 @@ items-preserved g c = record {
 pub returns-in-Err-clause-written : goal.returns-in-Err-clause-written
 returns-in-Err-clause-written g c =
     then_ends c.args.serializer c.args.limit c.in-Err.end c.args.drain.taken c.items.drain.taken c.write_next.new.drain.taken (g.S.Sink.taken c.args.sink.now) (g.S.Sink.taken c.items.sink) (g.S.Sink.taken c.write_next.new.sink)
-    c.items.invariant.done c.in-Err.ensures.ended
+    c.items.buffer.items c.items.invariant.done c.in-Err.ensures.ended
 
 pub returns-in-Err-clause-drain : goal.returns-in-Err-clause-drain
 returns-in-Err-clause-drain g c = later_still g.H.Owed.begins g.H.Owed.begins_on c.args.drain c.items.drain c.write_next.new.drain c.items.invariant.later c.in-Err.ensures.drain
