@@ -1,5 +1,5 @@
 -- A stream that is read piece by piece and posted.
-use Rattle.std.proofs.Common.{◌≡◌, ◌≢◌, ℕ, List, [], ◌∷◌, ◌++◌, None, Ok, Err, inl, inr, refl, sym, ap, ◌∙◌, subst, append_assoc, append-nil}
+use Rattle.std.proofs.Common.{◌≡◌, ◌≢◌, ℕ, List, [], ◌∷◌, ◌++◌, None, Ok, Err, inl, inr, refl, sym, ap, ◌∙◌, subst, append_assoc, append-nil, ◌≤◌, ◌<◌, length, arith}
 use Rattle.rawsocket.specs.Frames.{Content, Reads, fault_of}
 use Rattle.rawsocket.specs.Steps.{Meter, Fine, Steps, piece_told}
 use Rattle.rawsocket.specs.declared.devices.no_octets.NoOctets.{NoOctets}
@@ -7,7 +7,7 @@ use Rattle.rawsocket.specs.declared.devices.no_octets.NoOctets.TheVariants as no
 use Rattle.rawsocket.specs.declared.handshake.Serializer.{Serializer}
 use Rattle.rawsocket.proofs.Lemmas.{pieces_join}
 use Rattle.connection.specs.Posts.{Course, GoesOn, Leaves, Breaks, Posts}
-use Rattle.connection.specs.Reader.{PostsAll, PostsSome, IsReadAll, IsReadPartly, ThenGone, IsReadUpTo, IsReadBy, ReadsSince, IsAdvance, GoesWith, Departs, end_of, read_told}
+use Rattle.connection.specs.Reader.{PostsAll, PostsSome, IsReadAll, IsReadToEnd, IsReadPartly, ThenGone, IsReadUpTo, IsReadBy, ReadsSince, IsAdvance, GoesWith, Departs, end_of, read_told}
 use Rattle.realm_inbox.specs.declared.act.Act.{Act}
 use Rattle.realm_inbox.specs.declared.act.Act.TheVariants.{Gone}
 use Rattle.connection.specs.declared.reader.ReadEnd.{ReadEnd}
@@ -59,13 +59,25 @@ module _ {S : Type 0} (s : Serializer) (early : List Content) (held₀ : List �
   }
 
   all_then : (course : Course) (given_before given after piece : List ℕ) (before now later : List (Act S)) (held new : List ℕ) (more : List Content) → Onward given_before given before now held → after ≡ given ++ piece
-      → Reads (held ++ piece) more new → PostsAll s (fault_of new) more course now later → ReadsSince given_before after before later (IsReadAll s early held₀ course)
-  all_then course given_before given after piece before now later held new more o grows reads w = record {
+      → length piece ≤ 65536 → Reads (held ++ piece) more new → PostsAll s (fault_of new) more course now later → ReadsSince given_before after before later (IsReadToEnd s early held₀ course)
+  all_then course given_before given after piece before now later held new more o grows few reads w = record {
     octets = o.octets ++ piece;
     acts = o.acts ++ w.acts;
     read = grows ∙ ap (λ g. g ++ piece) o.read ∙ append_assoc given_before o.octets piece;
     posted = w.posted ∙ ap (λ p. p ++ w.acts) o.posted ∙ append_assoc before o.acts w.acts;
-    holds = record { frames = o.frames ++ more; new = new; reads = both held₀ o.octets piece held new o.frames more o.reads reads; posts = posts_both held new o.frames more o.acts w.acts course o.posts w.posts };
+    holds = record {
+      all = record { frames = o.frames ++ more; new = new; reads = both held₀ o.octets piece held new o.frames more o.reads reads; posts = posts_both held new o.frames more o.acts w.acts course o.posts w.posts };
+      last = inr (record {
+        front = o.octets;
+        back = piece;
+        octets_are = refl;
+        few = few;
+        before = o.acts;
+        more = w.acts;
+        acts_are = refl;
+        went_on = record { frames = o.frames; new = held; reads = o.reads; posts = o.posts };
+      });
+    };
   }
 
   some_then : (given_before given after piece : List ℕ) (before now later : List (Act S)) (held new : List ℕ) (more : List Content) → Onward given_before given before now held → after ≡ given ++ piece
@@ -110,22 +122,22 @@ module _ {S : Type 0} (s : Serializer) (early : List Content) (held₀ : List �
     });
   }
 
-  pub Onward-ends : (end : ReadEnd) (given_before given after piece : List ℕ) (before now later : List (Act S)) (held new : List ℕ) → Onward given_before given before now held → after ≡ given ++ piece → IsAdvance s [] held piece new now later (Err end)
+  pub Onward-ends : (end : ReadEnd) (given_before given after piece : List ℕ) (before now later : List (Act S)) (held new : List ℕ) → Onward given_before given before now held → after ≡ given ++ piece → length piece ≤ 65536 → IsAdvance s [] held piece new now later (Err end)
       → ReadsSince given_before after before later (IsReadUpTo s early held₀ end)
-  Onward-ends Left given_before given after piece before now later held new o grows (inl w) = all_then Leaves given_before given after piece before now later held new w.frames o grows w.reads w.posted
-  Onward-ends (Violation f) given_before given after piece before now later held new o grows (inl w) = all_then (Breaks f) given_before given after piece before now later held new w.frames o grows w.reads w.posted
-  Onward-ends NoMemory given_before given after piece before now later held new o grows (inl w) = some_then given_before given after piece before now later held new w.frames o grows w.reads w.posted
-  Onward-ends ActorGone given_before given after piece before now later held new o grows (inl w) = some_then given_before given after piece before now later held new w.frames o grows w.reads w.posted
-  Onward-ends Ended given_before given after piece before now later held new o grows (inl w) = absurd w.posted
-  Onward-ends Device given_before given after piece before now later held new o grows (inl w) = absurd w.posted
-  Onward-ends TooManyTurns given_before given after piece before now later held new o grows (inl w) = absurd w.posted
-  Onward-ends NoMemory given_before given after piece before now later held new o grows (inr none) = none_then given_before given after piece before now later held o grows none.1
-  Onward-ends Left given_before given after piece before now later held new o grows (inr none) = absurd (let never : Err Left ≡ Err NoMemory = none.0 in cc)
-  Onward-ends (Violation f) given_before given after piece before now later held new o grows (inr none) = absurd (let never : Err (Violation f) ≡ Err NoMemory = none.0 in cc)
-  Onward-ends ActorGone given_before given after piece before now later held new o grows (inr none) = absurd (let never : Err ActorGone ≡ Err NoMemory = none.0 in cc)
-  Onward-ends Ended given_before given after piece before now later held new o grows (inr none) = absurd (let never : Err Ended ≡ Err NoMemory = none.0 in cc)
-  Onward-ends Device given_before given after piece before now later held new o grows (inr none) = absurd (let never : Err Device ≡ Err NoMemory = none.0 in cc)
-  Onward-ends TooManyTurns given_before given after piece before now later held new o grows (inr none) = absurd (let never : Err TooManyTurns ≡ Err NoMemory = none.0 in cc)
+  Onward-ends Left given_before given after piece before now later held new o grows few (inl w) = all_then Leaves given_before given after piece before now later held new w.frames o grows few w.reads w.posted
+  Onward-ends (Violation f) given_before given after piece before now later held new o grows few (inl w) = all_then (Breaks f) given_before given after piece before now later held new w.frames o grows few w.reads w.posted
+  Onward-ends NoMemory given_before given after piece before now later held new o grows few (inl w) = some_then given_before given after piece before now later held new w.frames o grows w.reads w.posted
+  Onward-ends ActorGone given_before given after piece before now later held new o grows few (inl w) = some_then given_before given after piece before now later held new w.frames o grows w.reads w.posted
+  Onward-ends Ended given_before given after piece before now later held new o grows few (inl w) = absurd w.posted
+  Onward-ends Device given_before given after piece before now later held new o grows few (inl w) = absurd w.posted
+  Onward-ends TooManyTurns given_before given after piece before now later held new o grows few (inl w) = absurd w.posted
+  Onward-ends NoMemory given_before given after piece before now later held new o grows few (inr none) = none_then given_before given after piece before now later held o grows none.1
+  Onward-ends Left given_before given after piece before now later held new o grows few (inr none) = absurd (let never : Err Left ≡ Err NoMemory = none.0 in cc)
+  Onward-ends (Violation f) given_before given after piece before now later held new o grows few (inr none) = absurd (let never : Err (Violation f) ≡ Err NoMemory = none.0 in cc)
+  Onward-ends ActorGone given_before given after piece before now later held new o grows few (inr none) = absurd (let never : Err ActorGone ≡ Err NoMemory = none.0 in cc)
+  Onward-ends Ended given_before given after piece before now later held new o grows few (inr none) = absurd (let never : Err Ended ≡ Err NoMemory = none.0 in cc)
+  Onward-ends Device given_before given after piece before now later held new o grows few (inr none) = absurd (let never : Err Device ≡ Err NoMemory = none.0 in cc)
+  Onward-ends TooManyTurns given_before given after piece before now later held new o grows few (inr none) = absurd (let never : Err TooManyTurns ≡ Err NoMemory = none.0 in cc)
 
   -- the stream ends
   so_far : (given_before given after : List ℕ) (before now : List (Act S)) (held : List ℕ) → Onward given_before given before now held → after ≡ given → ReadsSince given_before after before now (IsReadAll s early held₀ GoesOn)
@@ -146,8 +158,8 @@ module _ {S : Type 0} (s : Serializer) (early : List Content) (held₀ : List �
       stops no_octets.Failed = so_far given_before given after before now held o same
       stops no_octets.TooManyTurns = so_far given_before given after before now held o same
 
-  early_all : (course : Course) (given new : List ℕ) (before now : List (Act S)) (frames : List Content) → Reads (held₀ ++ []) frames new → PostsAll s (fault_of new) (early ++ frames) course before now → ReadsSince given given before now (IsReadAll s early held₀ course)
-  early_all course given new before now frames reads w = record { octets = []; acts = w.acts; read = sym (append-nil given); posted = w.posted; holds = record { frames = frames; new = new; reads = reads; posts = w.posts } }
+  early_all : (course : Course) (given new : List ℕ) (before now : List (Act S)) (frames : List Content) → Reads (held₀ ++ []) frames new → PostsAll s (fault_of new) (early ++ frames) course before now → ReadsSince given given before now (IsReadToEnd s early held₀ course)
+  early_all course given new before now frames reads w = record { octets = []; acts = w.acts; read = sym (append-nil given); posted = w.posted; holds = record { all = record { frames = frames; new = new; reads = reads; posts = w.posts }; last = inl refl } }
 
   early_some : (given new : List ℕ) (before now : List (Act S)) (frames : List Content) → Reads (held₀ ++ []) frames new → PostsSome s (early ++ frames) before now → ReadsSince given given before now (IsReadPartly s early held₀)
   early_some given new before now frames reads w = record {
@@ -222,8 +234,8 @@ module _ {S : Type 0} (s : Serializer) (early : List Content) (held₀ : List �
 
   pub departs_ends : (end result : ReadEnd) (given_before given : List ℕ) (before now later : List (Act S)) → ReadsSince given_before given before now (IsReadUpTo s early held₀ end) → Departs end now later result
       → ReadsSince given_before given before later (IsReadBy s early held₀ result)
-  departs_ends Left result given_before given before now later w d = stays Left result (IsReadAll s early held₀ Leaves) given_before given before now later d.0 d.1 w
-  departs_ends (Violation f) result given_before given before now later w d = stays (Violation f) result (IsReadAll s early held₀ (Breaks f)) given_before given before now later d.0 d.1 w
+  departs_ends Left result given_before given before now later w d = stays Left result (IsReadToEnd s early held₀ Leaves) given_before given before now later d.0 d.1 w
+  departs_ends (Violation f) result given_before given before now later w d = stays (Violation f) result (IsReadToEnd s early held₀ (Breaks f)) given_before given before now later d.0 d.1 w
   departs_ends ActorGone result given_before given before now later w d = stays ActorGone result (IsReadPartly s early held₀) given_before given before now later d.0 d.1 w
   departs_ends Ended result given_before given before now later w d = stream_goes Ended result given_before given before now later (λ octets acts h. h) w d
   departs_ends Device result given_before given before now later w d = stream_goes Device result given_before given before now later (λ octets acts h. h) w d

@@ -1,5 +1,5 @@
 -- What a reader has posted of the octets that it read, when it ends.
-use Rattle.std.specs.Prelude.{◌≡◌, ◌≢◌, ◌⊎◌, ℕ, List, [], ◌∷◌, ◌++◌, None, Result, Ok, Err}
+use Rattle.std.specs.Prelude.{◌≡◌, ◌≢◌, ◌⊎◌, ◌≤◌, ℕ, List, [], ◌∷◌, ◌++◌, None, Result, Ok, Err, length}
 use Rattle.std.specs.declared.option.Option.{Option}
 use Rattle.rawsocket.specs.Frames.{Content, Reads, fault_of}
 use Rattle.rawsocket.specs.declared.fault.Fault as stream
@@ -20,6 +20,22 @@ module _ {S : Type 0} where
     pub new : List ℕ
     pub reads : Reads (held ++ octets) frames new
     pub posts : Posts s (fault_of new) (early ++ frames) acts course
+
+  -- the frames still went on after the first of the octets, and what was read behind these is no more than one read takes
+  pub record EndsInLast (s : Serializer) (early : List Content) (held : List ℕ) (octets : List ℕ) (acts : List (Act S)) : Type 0 where
+    pub front : List ℕ
+    pub back : List ℕ
+    pub octets_are : octets ≡ front ++ back
+    pub few : length back ≤ 65536
+    pub before : List (Act S)
+    pub more : List (Act S)
+    pub acts_are : acts ≡ before ++ more
+    pub went_on : IsReadAll s early held GoesOn front before
+
+  -- the posts of all, up to what ends them; it ends them in the octets that were read last, or before anything was read
+  pub record IsReadToEnd (s : Serializer) (early : List Content) (held : List ℕ) (course : Course) (octets : List ℕ) (acts : List (Act S)) : Type 0 where
+    pub all : IsReadAll s early held course octets acts
+    pub last : (octets ≡ []) ⊎ EndsInLast s early held octets acts
 
   -- the posts of the first frames that the first of the octets give
   pub record IsPart (s : Serializer) (early : List Content) (held : List ℕ) (octets : List ℕ) (acts : List (Act S)) : Type 0 where
@@ -46,8 +62,8 @@ module _ {S : Type 0} where
 
   -- by the reader's end
   abbrev pub IsReadBy : Serializer → List Content → List ℕ → ReadEnd → List ℕ → List (Act S) → Type 0
-  IsReadBy s early held Left octets acts = IsReadAll s early held Leaves octets acts
-  IsReadBy s early held (Violation fault) octets acts = IsReadAll s early held (Breaks fault) octets acts
+  IsReadBy s early held Left octets acts = IsReadToEnd s early held Leaves octets acts
+  IsReadBy s early held (Violation fault) octets acts = IsReadToEnd s early held (Breaks fault) octets acts
   IsReadBy s early held Ended octets acts = ThenGone (IsReadAll s early held GoesOn octets) acts
   IsReadBy s early held Device octets acts = ThenGone (IsReadAll s early held GoesOn octets) acts
   IsReadBy s early held TooManyTurns octets acts = ThenGone (IsReadAll s early held GoesOn octets) acts
@@ -56,8 +72,8 @@ module _ {S : Type 0} where
 
   -- by the reader's end, before it posts that the client is gone
   abbrev pub IsReadUpTo : Serializer → List Content → List ℕ → ReadEnd → List ℕ → List (Act S) → Type 0
-  IsReadUpTo s early held Left octets acts = IsReadAll s early held Leaves octets acts
-  IsReadUpTo s early held (Violation fault) octets acts = IsReadAll s early held (Breaks fault) octets acts
+  IsReadUpTo s early held Left octets acts = IsReadToEnd s early held Leaves octets acts
+  IsReadUpTo s early held (Violation fault) octets acts = IsReadToEnd s early held (Breaks fault) octets acts
   IsReadUpTo s early held Ended octets acts = IsReadAll s early held GoesOn octets acts
   IsReadUpTo s early held Device octets acts = IsReadAll s early held GoesOn octets acts
   IsReadUpTo s early held TooManyTurns octets acts = IsReadAll s early held GoesOn octets acts

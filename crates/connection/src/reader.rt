@@ -210,7 +210,8 @@ fn read_on<R: Wait, S: Shut, I: Source, P: Posting<S>>(
     buffer: &mut [u8],
     poster: &mut P,
 ) -> ReadEnd
-    requires { 0 < length buffer.old }
+    requires some { 0 < length buffer.old }
+    requires piece { length buffer.old ≤ 65536 }
     ensures posted { ReadsSince (I.given source.old) (I.given source.new) (P.posted poster.old)
         (P.posted poster.new) (IsReadUpTo serializer (contents early.items) deframer result) }
     ensures ended { result ≡ ReadEnd.Ended → I.is_ended source.new ≡ true }
@@ -283,7 +284,8 @@ fn read_up_to<R: Wait, S: Shut, I: Source, P: Posting<S>>(
 
 /// Posts what a client does after its HELLO: first what the opening of the session read already, then what is read from here on, until
 /// the client leaves or breaks the protocol, or something fails. A PING is posted, a PONG is passed over. A read takes up to 65,536
-/// octets, and gives as many posts as it completes frames. Nothing is read or posted after what ends it, but that the client is gone.
+/// octets, and gives as many posts as it completes frames. Nothing is read or posted after what ends it, but that the client is gone:
+/// what the client ends it by is complete within the last 65,536 octets that were read, and not before them.
 ///
 /// A failed read is told by [`ReadEnd::Device`], unless nobody receives any more that the client is gone: then by
 /// [`ReadEnd::ActorGone`].

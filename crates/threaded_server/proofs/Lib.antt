@@ -1,2 +1,3 @@
 pub mod SendLemmas
 pub mod AcceptLoop
+pub mod CountedWords

@@ -1,4 +1,5 @@
-use Rattle.std.proofs.Common.{ap, subst, take, Ok, Err, List, []}
+use Rattle.std.proofs.Common.{ap, subst, take, Ok, Err, List, [], arith}
+use Rattle.std.proofs.lemmas.List.{length-take-le}
 use Rattle.rawsocket.specs.Frames.{contents}
 use Rattle.rawsocket.specs.declared.frame.Frame.{Frame}
 use Rattle.connection.specs.Reader.{IsAdvance}
@@ -34,6 +35,7 @@ pub returns-in-Err-advance-clause-posted : goal.returns-in-Err-advance-clause-po
 returns-in-Err-advance-clause-posted g c =
     Onward-ends c.args.serializer (contents c.args.early.items) c.args.deframer c.in-Err-advance.end (g.I.Source.given c.args.source.now) (g.I.Source.given c.pieces.source) (g.I.Source.given c.read_piece.new.source) (take c.in-Ok.count c.read_piece.new.buffer)
     (g.P.Posting.posted c.args.poster.now) (g.P.Posting.posted c.pieces.poster) (g.P.Posting.posted c.advance-in-pieces.new.poster) c.pieces.deframer c.advance-in-pieces.new.deframer c.pieces.invariant.onward c.in-Ok.ensures.given
+    (omega (arith, length-take-le c.in-Ok.count c.read_piece.new.buffer c.in-Ok.ensures.within, c.in-Ok.ensures.within, c.requires.piece, c.read_piece.auto.buffer, c.pieces.auto.buffer))
     (subst (λ (fs : List Frame). IsAdvance c.args.serializer (contents fs) c.pieces.deframer (take c.in-Ok.count c.read_piece.new.buffer) c.advance-in-pieces.new.deframer (g.P.Posting.posted c.pieces.poster) (g.P.Posting.posted c.advance-in-pieces.new.poster) (Err c.in-Err-advance.end))
     c.new-none.ensures.items c.in-Err-advance.ensures)
 
