@@ -32,6 +32,7 @@ mod table;
 
 pub use actor::Actor;
 pub use outcome::Outcome;
+pub use realm_inbox::opening::inbox;
 pub use realm_inbox::{
     Act, Door, GhostList, IdSource, InTurn, Inbox, Joining, Letter, Post, Poster, Posting,
     RealmHistory, Seat, Shut, View, opening,
