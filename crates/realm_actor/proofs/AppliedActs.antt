@@ -11,7 +11,8 @@ use Rattle.realm.proofs.Lemmas.{live-joined}
 use Rattle.realm_actor.proofs.EntryLemmas.{not_joined}
 use Rattle.realm_inbox.specs.declared.joining.Joining.{Joining}
 use Rattle.realm_actor.specs.Rows.{box_in}
-use Rattle.realm_actor.specs.Tables.{EachMarked, EachWent, Sound}
+use Rattle.realm_actor.specs.Tables.{EachMarked, EachWent, Sound, Standing}
+use Rattle.realm_actor.specs.ActorView.{Working, standing_in}
 use Rattle.realm_inbox.specs.declared.act.Act.{Act}
 use Rattle.realm_inbox.specs.declared.act.Act.TheVariants.{Said, Join, Ping, Spoilt, Gone}
 use Rattle.realm_inbox.specs.Joins.{is_join}
@@ -25,6 +26,11 @@ pub by_outcome : (r : Outcome) (A B D E : Type 0) → (A → D) → (B → E) �
 by_outcome Applied A B D E f g C m = f m
 by_outcome Dropped A B D E f g C m = absurd m
 by_outcome NoMemory A B D E f g C m = g m
+
+pub not_dropped : (r : Outcome) (A B : Type 0) → r ≡ Dropped → MatchOutcome r A ⊥ B → ⊥
+not_dropped Applied A B is m = absurd (cc)
+not_dropped Dropped A B is m = m
+not_dropped NoMemory A B is m = absurd (cc)
 
 -- an act that is no Join
 
@@ -67,26 +73,26 @@ module _ {S : Type 0} where
   stays c Spoilt rows other = refl
   stays c Gone rows other = refl
 
-module _ {S : Type 0} (c : ℕ) (act : Act S) (h l : History) (rows news : List (Row S)) (before after : List ℕ) (e : Entry) (other : is_join act ≡ false) where
-  pub applies_plain : draws act ≡ false → e ≡ entry_of c act 0 → (drawn : List ℕ) × Accepted h rows e drawn l news × (after ≡ before ++ drawn) → Applies c act h rows before l news after
+module _ {S : Type 0} (c : ℕ) (act : Act S) (old new : Working S) (e : Entry) (other : is_join act ≡ false) where
+  pub applies_plain : draws act ≡ false → e ≡ entry_of c act 0 → (drawn : List ℕ) × Accepted (standing_in old) e drawn (standing_in new) × (new.words ≡ old.words ++ drawn) → Applies c act old new
   applies_plain quiet is a = record {
     word = 0;
     drawn = a.0;
-    rows = rows;
-    brought = stays c act rows other;
-    accepted = subst (λ x. Accepted h rows x a.0 l news) is a.1;
-    words = a.2 ∙ ap (λ b. before ++ cond b (0 ∷ a.0) a.0) (sym quiet);
+    rows = old.rows;
+    brought = stays c act old.rows other;
+    accepted = subst (λ x. Accepted (standing_in old) x a.0 (standing_in new)) is a.1;
+    words = a.2 ∙ ap (λ b. old.words ++ cond b (0 ∷ a.0) a.0) (sym quiet);
   }
 
-  pub applies_word : (w : ℕ) (start : List ℕ) → start ≡ before ++ w ∷ [] → draws act ≡ true → e ≡ entry_of c act w
-      → (drawn : List ℕ) × Accepted h rows e drawn l news × (after ≡ start ++ drawn) → Applies c act h rows before l news after
+  pub applies_word : (w : ℕ) (start : List ℕ) → start ≡ old.words ++ w ∷ [] → draws act ≡ true → e ≡ entry_of c act w
+      → (drawn : List ℕ) × Accepted (standing_in old) e drawn (standing_in new) × (new.words ≡ start ++ drawn) → Applies c act old new
   applies_word w start begun told is a = record {
     word = w;
     drawn = a.0;
-    rows = rows;
-    brought = stays c act rows other;
-    accepted = subst (λ x. Accepted h rows x a.0 l news) is a.1;
-    words = a.2 ∙ ap (λ s. s ++ a.0) begun ∙ append_assoc before (w ∷ []) a.0 ∙ ap (λ b. before ++ cond b (w ∷ a.0) a.0) (sym told);
+    rows = old.rows;
+    brought = stays c act old.rows other;
+    accepted = subst (λ x. Accepted (standing_in old) x a.0 (standing_in new)) is a.1;
+    words = a.2 ∙ ap (λ s. s ++ a.0) begun ∙ append_assoc old.words (w ∷ []) a.0 ∙ ap (λ b. old.words ++ cond b (w ∷ a.0) a.0) (sym told);
   }
 
 -- no word is lost with an act that draws none, and one with an act that does
@@ -105,10 +111,11 @@ module _ {S : Type 0} (act : Act S) where
   pub one_lost : (word : ℕ) → draws act ≡ true → length (word ∷ []) ≡ cond (draws act) 1 0
   one_lost word told = told_lost (draws act) 1 refl told
 
-module _ {S : Type 0} (c : ℕ) (act : Act S) (h l : History) (rows news : List (Row S)) (before after : List ℕ) where
-  pub loses_by : (lost : List ℕ) (start : List ℕ) → start ≡ before ++ lost → length lost ≡ cond (draws act) 1 0
-      → (word : ℕ) × (drawn : List ℕ) × (e : Entry) × (marked : List (Row S)) × IsCutOf c word e × EachMarked c rows marked × Accepted h marked e drawn l news × (after ≡ start ++ word ∷ drawn)
-      → Loses act c h rows before l news after
+module _ {S : Type 0} (c : ℕ) (act : Act S) (old new : Working S) where
+  pub loses_by : (lost : List ℕ) (start : List ℕ) → start ≡ old.words ++ lost → length lost ≡ cond (draws act) 1 0
+      → (word : ℕ) × (drawn : List ℕ) × (e : Entry) × (marked : List (Row S)) × IsCutOf c word e × EachMarked c old.rows marked
+      × Accepted (record (standing_in old) { rows = marked }) e drawn (standing_in new) × (new.words ≡ start ++ word ∷ drawn)
+      → Loses c act old new
   loses_by lost start is few b = cut lost b.0 b.1 b.2 b.3 few b.4 b.5 b.6 (b.7 ∙ ap (λ s. s ++ b.0 ∷ b.1) is)
 
 -- a Join
@@ -116,36 +123,33 @@ module _ {S : Type 0} (c : ℕ) (act : Act S) (h l : History) (rows news : List 
 pub not_live_yet : (h : History) (c : ℕ) → may_join h c ≡ true → live h c ≡ false
 not_live_yet h c may = false_from_ne_true (live h c) (λ is. not_joined h c may (live-joined h c is))
 
-module _ {S : Type 0} (c : ℕ) (h : History) where
-  pub loses_early : (joining : Joining S) (l : History) (olds news : List (Row S)) (before after : List ℕ) → may_join h c ≡ true → l ≡ h → news ≡ olds → after ≡ before
-      → Loses (Join joining) c h olds before l news after
-  loses_early joining l olds news before after may history same words =
-      let first : Loses (Join joining) c h olds before h olds before = nothing_drawn (not_live_yet h c may) in
-      subst (λ k. Loses (Join joining) c h olds before k news after) (sym history)
-      (subst (λ x. Loses (Join joining) c h olds before h x after) (sym same) (subst (λ x. Loses (Join joining) c h olds before h olds x) (sym words) first))
+module _ {S : Type 0} (c : ℕ) (joining : Joining S) (old new : Working S) where
+  pub loses_early : may_join old.history c ≡ true → new.history ≡ old.history → new.rows ≡ old.rows → new.words ≡ old.words → Loses c (Join joining) old new
+  loses_early may history same words =
+      let is : old ≡ new = λ i. record { history = sym history i; rows = sym same i; words = sym words i } in
+      subst (λ w. Loses c (Join joining) old w) is (nothing_drawn (not_live_yet old.history c may))
 
-  pub loses_join : (joining : Joining S) (l : History) (olds news : List (Row S)) (before after : List ℕ) (word : ℕ) → may_join h c ≡ true → l ≡ h → news ≡ olds → after ≡ before ++ word ∷ []
-      → Loses (Join joining) c h olds before l news after
-  loses_join joining l olds news before after word may history same words =
-      let first : Loses (Join joining) c h olds before h olds (before ++ word ∷ []) = not_live (word ∷ []) (not_live_yet h c may) refl refl in
-      subst (λ k. Loses (Join joining) c h olds before k news after) (sym history)
-      (subst (λ x. Loses (Join joining) c h olds before h x after) (sym same) (subst (λ x. Loses (Join joining) c h olds before h olds x) (sym words) first))
+  pub loses_join : (word : ℕ) → may_join old.history c ≡ true → new.history ≡ old.history → new.rows ≡ old.rows → new.words ≡ old.words ++ word ∷ [] → Loses c (Join joining) old new
+  loses_join word may history same words =
+      let is : record old { words = old.words ++ word ∷ [] } ≡ new = λ i. record { history = sym history i; rows = sym same i; words = sym words i } in
+      subst (λ w. Loses c (Join joining) old w) is (not_live (word ∷ []) (not_live_yet old.history c may) refl refl)
 
-  pub applies_join : (joining : Joining S) (k l : History) (olds held mid news : List (Row S)) (row : Row S) (place : ℕ) (before start after drawn : List ℕ) (word : ℕ)
-      → held ≡ olds → EachWent (insert held place row) mid → k ≡ h ▷ entry.Join c word joining.authid → Sound k mid → Cuts k mid drawn l news → NoneFull news
-      → start ≡ before ++ word ∷ [] → after ≡ start ++ drawn → row.conn ≡ c → box_in row ≡ Some joining.outbox → row.is_cut ≡ false → row.is_lost ≡ false → joining.outbox.full_finds ≡ 0
-      → Applies c (Join joining) h olds before l news after
-  applies_join joining k l olds held mid news row place before start after drawn word same went history sound cuts none_full is words conn outbox is_cut is_lost never = record {
+  pub applies_join : (held : List (Row S)) (mid : Standing S) (row : Row S) (place word : ℕ) (start drawn : List ℕ)
+      → held ≡ old.rows → EachWent (insert held place row) mid.rows → mid.history ≡ old.history ▷ entry.Join c word joining.authid → Sound mid.history mid.rows
+      → Cuts mid drawn (standing_in new) → NoneFull new.rows → start ≡ old.words ++ word ∷ [] → new.words ≡ start ++ drawn
+      → row.conn ≡ c → box_in row ≡ Some joining.outbox → row.is_cut ≡ false → row.is_lost ≡ false → joining.outbox.full_finds ≡ 0
+      → Applies c (Join joining) old new
+  applies_join held mid row place word start drawn same went history sound cuts none_full is words conn outbox is_cut is_lost never = record {
     word = word;
     drawn = drawn;
-    rows = insert olds place row;
+    rows = insert old.rows place row;
     brought = record { place = place; row = row; rows_are = refl; conn = conn; outbox = outbox; is_cut = is_cut; is_lost = is_lost; never = never };
     accepted = record {
-      mid = mid;
-      went = subst (λ x. EachWent (insert x place row) mid) same went;
-      sound = subst (λ x. Sound x mid) history sound;
-      cuts = subst (λ x. Cuts x mid drawn l news) history cuts;
+      mid = mid.rows;
+      went = subst (λ x. EachWent (insert x place row) mid.rows) same went;
+      sound = subst (λ x. Sound x mid.rows) history sound;
+      cuts = subst (λ x. Cuts (record { history = x; rows = mid.rows }) drawn (standing_in new)) history cuts;
       none_full = none_full;
     };
-    words = words ∙ ap (λ s. s ++ drawn) is ∙ append_assoc before (word ∷ []) drawn;
+    words = words ∙ ap (λ s. s ++ drawn) is ∙ append_assoc old.words (word ∷ []) drawn;
   }

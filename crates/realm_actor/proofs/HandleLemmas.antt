@@ -8,13 +8,15 @@ use Rattle.realm_actor.specs.declared.row.Row.{Row}
 use Rattle.realm_inbox.specs.declared.joining.Joining.{Joining}
 use Rattle.realm_inbox.specs.declared.act.Act.{Act}
 use Rattle.realm_inbox.specs.declared.act.Act.TheVariants.{Join, Said, Ping, Spoilt, Gone}
+use Rattle.realm_inbox.specs.declared.letter.Letter.{Letter}
 use Rattle.realm_actor.specs.declared.outcome.Outcome.{Outcome}
 use Rattle.realm_actor.specs.declared.outcome.Outcome.TheVariants.{Applied, Dropped, NoMemory}
 use Rattle.realm_actor.specs.OutboxHistory.{Box, Follows}
 use Rattle.realm_actor.specs.Rows.{box_in, Each}
 use Rattle.realm_actor.specs.Tables.{has_joined, IsOpen, Went, BoxWent, EachWent, EachMarked, Sound}
 use Rattle.realm_actor.specs.Cuts.{NoneFull, IsFull}
-use Rattle.realm_actor.specs.Handle.{MatchOutcome, Applies, Loses, cut, not_live, nothing_drawn, Brings, EachUnmarked, Acts, Does, is_dropped, WithRow, entry_of}
+use Rattle.realm_actor.specs.ActorView.{Working}
+use Rattle.realm_actor.specs.Handle.{Applies, Loses, cut, not_live, nothing_drawn, Brings, EachUnmarked, Acts, Does, is_dropped, WithRow}
 use Rattle.realm_actor.specs.LastCut.{named_conns, is_in, finds_in, finds_of, outbox_of, NoMarks, Names}
 use Rattle.realm_actor.specs.Invariant.{Stands}
 use Rattle.realm_actor.proofs.RowPlaces.{read, beside, insert_all}
@@ -41,17 +43,17 @@ module _ {S : Type 0} where
     pub of : (d : ℕ) → is_in d lost ≡ true → c ≡ d
     pub cut : live h c ≡ true → is_in c lost ≡ true
 
-  pub loses_moved : {act : Act S} {c : ℕ} {h l : History} {olds news : List (Row S)} {before after : List ℕ} → Loses act c h olds before l news after → Lost c h olds news
-  loses_moved (not_live {c} {h} {rows} lost dead told few) = record { lost = []; moved = moved_went rows rows (EachWent-same rows); of = λ d e. absurd (cc e); cut = λ is. absurd (cc) }
-  loses_moved (nothing_drawn {c} {h} {rows} dead) = record { lost = []; moved = moved_went rows rows (EachWent-same rows); of = λ d e. absurd (cc e); cut = λ is. absurd (cc) }
-  loses_moved (cut {c} {h} {l} {rows} {news} lost word drawn e marked few is marks accepted words) = record {
+  pub loses_moved : {c : ℕ} {act : Act S} {old new : Working S} → Loses c act old new → Lost c old.history old.rows new.rows
+  loses_moved {old = old} (not_live lost dead told few) = record { lost = []; moved = moved_went old.rows old.rows (EachWent-same old.rows); of = λ d e. absurd (cc e); cut = λ is. absurd (cc) }
+  loses_moved {old = old} (nothing_drawn dead) = record { lost = []; moved = moved_went old.rows old.rows (EachWent-same old.rows); of = λ d e. absurd (cc e); cut = λ is. absurd (cc) }
+  loses_moved {c = c} {old = old} {new = new} (cut lost word drawn e marked few is marks accepted words) = record {
     lost = c ∷ [];
-    moved = moved_on (c ∷ []) [] rows marked news (moved_marked c rows marked marks) (moved_went marked news (accepted_went h l e marked news drawn accepted));
+    moved = moved_on (c ∷ []) [] old.rows marked new.rows (moved_marked c old.rows marked marks) (moved_went marked new.rows (accepted_went accepted));
     of = one_in c;
     cut = λ _. or_left (eqb c c) false (eq-eqb c c refl);
   }
 
-  loses_none : {act : Act S} {c : ℕ} {h l : History} {olds news : List (Row S)} {before after : List ℕ} → Loses act c h olds before l news after → NoneFull olds → NoneFull news
+  loses_none : {c : ℕ} {act : Act S} {old new : Working S} → Loses c act old new → NoneFull old.rows → NoneFull new.rows
   loses_none (not_live lost dead told few) n = n
   loses_none (nothing_drawn dead) n = n
   loses_none (cut lost word drawn e marked few is marks accepted words) n = accepted.none_full
@@ -106,13 +108,12 @@ module _ {S : Type 0} where
   no_row : (h : History) (c : ℕ) (rows : List (Row S)) → Sound h rows → may_join h c ≡ true → Each (λ r. r.conn ≢ c) rows
   no_row h c rows sound may k r e own = not_joined h c may (ap (has_joined h) (sym own) ∙ sound.joined k r e)
 
-  starts : (c : ℕ) (act : Act S) (h l : History) (olds news : List (Row S)) (before after : List ℕ) → Stands h olds → (is_dropped h c act ≡ true → ⊥)
-      → (a : Applies c act h olds before l news after) → Starts c act olds a.rows
-  starts c (Join joining) h l olds news before after s kept a = starts_join c joining olds a.rows (no_row h c olds s.sound (taken (may_join h c) kept)) s.unmarked a.brought
-  starts c (Said said) h l olds news before after s kept a = starts_same c (Said said) olds a.rows a.brought (λ joining e. absurd (cc)) s.unmarked
-  starts c (Ping payload) h l olds news before after s kept a = starts_same c (Ping payload) olds a.rows a.brought (λ joining e. absurd (cc)) s.unmarked
-  starts c Spoilt h l olds news before after s kept a = starts_same c Spoilt olds a.rows a.brought (λ joining e. absurd (cc)) s.unmarked
-  starts c Gone h l olds news before after s kept a = starts_same c Gone olds a.rows a.brought (λ joining e. absurd (cc)) s.unmarked
+  starts : (c : ℕ) (act : Act S) (old new : Working S) → Stands old.history old.rows → (is_dropped old.history c act ≡ true → ⊥) → (a : Applies c act old new) → Starts c act old.rows a.rows
+  starts c (Join joining) old new s kept a = starts_join c joining old.rows a.rows (no_row old.history c old.rows s.sound (taken (may_join old.history c) kept)) s.unmarked a.brought
+  starts c (Said said) old new s kept a = starts_same c (Said said) old.rows a.rows a.brought (λ joining e. absurd (cc)) s.unmarked
+  starts c (Ping payload) old new s kept a = starts_same c (Ping payload) old.rows a.rows a.brought (λ joining e. absurd (cc)) s.unmarked
+  starts c Spoilt old new s kept a = starts_same c Spoilt old.rows a.rows a.brought (λ joining e. absurd (cc)) s.unmarked
+  starts c Gone old new s kept a = starts_same c Gone old.rows a.rows a.brought (λ joining e. absurd (cc)) s.unmarked
 
   names_start : (P : ℕ → Type 0) (olds rows news : List (Row S)) (named : List ℕ) → ((d : ℕ) → finds_of rows d ≡ finds_of olds d) → Names P rows news named → Names P olds news named
   names_start P olds rows news named same n = record {
@@ -128,15 +129,17 @@ module _ {S : Type 0} where
       let t = went_some o (outbox_of ends d) (subst (λ x. BoxWent x (outbox_of ends d)) e (moved_by lost rows ends d w)) in
       (t.0, same_after ends news d u ∙ t.1, t.2)
 
-  pub does : (result : Outcome) (same : Type 0) (c : ℕ) (act : Act S) (h l : History) (olds ends news : List (Row S)) (before after named : List ℕ)
-      → (same → (l ≡ h) × (ends ≡ olds) × (after ≡ before)) → Stands h olds → Sound l ends → Acts result same c act h olds before l ends after
-      → (is_dropped h c act ≡ true → result ≡ Dropped) → EachUnmarked ends news → named ≡ named_conns ends
-      → Does result c act h olds before l news after named
-  does Applied same c act h l olds ends news before after named to s sound a exact u is =
-      let kept : is_dropped h c act ≡ true → ⊥ = λ e. let never = exact e in absurd (cc) in
-      let start = starts c act h l olds ends before after s kept a in
-      let w = moved_went a.rows ends (accepted_went h l (entry_of c act a.word) a.rows ends a.drawn a.accepted) in
-      let P : ℕ → Type 0 = λ d. (Applied ≡ NoMemory) × (live h d ≡ true) × (d ≡ c) in
+  pub does : (result : Outcome) (letter : Letter S) (old new : Working S) (ends : List (Row S)) (named : List ℕ) → Stands old.history old.rows → Sound new.history ends
+      → Acts result letter.conn letter.act old (record new { rows = ends }) → (is_dropped old.history letter.conn letter.act ≡ true → result ≡ Dropped)
+      → EachUnmarked ends new.rows → named ≡ named_conns ends → Does result letter old new named
+  does Applied letter old new ends named s sound a exact u is =
+      let c = letter.conn in
+      let olds = old.rows in
+      let news = new.rows in
+      let kept : is_dropped old.history c letter.act ≡ true → ⊥ = λ e. let never = exact e in absurd (cc) in
+      let start = starts c letter.act old (record new { rows = ends }) s kept a in
+      let w = moved_went a.rows ends (accepted_went a.accepted) in
+      let P : ℕ → Type 0 = λ d. (Applied ≡ NoMemory) × (live old.history d ≡ true) × (d ≡ c) in
       record {
         ends = ends;
         acts = a;
@@ -146,20 +149,26 @@ module _ {S : Type 0} where
         held = λ d o e. held_by [] a.rows ends news w u d o (start.held d o e);
         joined = λ joining e _. held_by [] a.rows ends news w u c joining.outbox (start.brought joining e);
       }
-  does Dropped same c act h l olds ends news before after named to s sound a exact u is =
-      let t = to a.0 in
-      let w = moved_went olds ends (subst (λ x. EachWent olds x) (sym t.1) (EachWent-same olds)) in
-      let P : ℕ → Type 0 = λ d. (Dropped ≡ NoMemory) × (live h d ≡ true) × (d ≡ c) in
+  does Dropped letter old new ends named s sound a exact u is =
+      let c = letter.conn in
+      let olds = old.rows in
+      let news = new.rows in
+      let w = moved_went olds ends (subst (λ x. EachWent olds x) (sym a.0.1) (EachWent-same olds)) in
+      let P : ℕ → Type 0 = λ d. (Dropped ≡ NoMemory) × (live old.history d ≡ true) × (d ≡ c) in
       record {
         ends = ends;
-        acts = (t, a.1);
+        acts = a;
         unmarked = u;
         names = subst (Names P olds news) (sym is) (names_moved [] P olds ends news sound.ascending s.unmarked w u (λ k r e f. absurd (cc f)) (λ d p. let never = p.0 in absurd (cc)));
         held = λ d o e. held_by [] olds ends news w u d o e;
         joined = λ joining e n. absurd (cc);
       }
-  does NoMemory same c act h l olds ends news before after named to s sound a exact u is =
-      let kept : is_dropped h c act ≡ true → ⊥ = λ e. let never = exact e in absurd (cc) in
+  does NoMemory letter old new ends named s sound a exact u is =
+      let c = letter.conn in
+      let h = old.history in
+      let olds = old.rows in
+      let news = new.rows in
+      let kept : is_dropped h c letter.act ≡ true → ⊥ = λ e. let never = exact e in absurd (cc) in
       let t = loses_moved a in
       let w = t.moved in
       let P : ℕ → Type 0 = λ d. (NoMemory ≡ NoMemory) × (live h d ≡ true) × (d ≡ c) in
@@ -173,7 +182,7 @@ module _ {S : Type 0} where
             let eo = beside ends olds k r (sym w.0) e in
             let first = (w.1 k (get_or olds k r) r eo e).conn in
             let has : has_joined h c ≡ true = ap (has_joined h) (own ∙ first) ∙ s.sound.joined k (get_or olds k r) eo in
-            (refl, ap (live h) (sym own) ∙ lost_live c act h kept has, sym own))
+            (refl, ap (live h) (sym own) ∙ lost_live c letter.act h kept has, sym own))
             (λ d p.
             let row = s.sound.has_rows d p.1 in
             let l = w.0 in
@@ -236,11 +245,10 @@ module _ {S : Type 0} where
     unmarked = unmarked_after ends news u;
   }
 
-  pub none_after : (result : Outcome) (same : Type 0) (c : ℕ) (act : Act S) (h l : History) (olds ends : List (Row S)) (before after : List ℕ) → (same → ends ≡ olds)
-      → NoneFull olds → Acts result same c act h olds before l ends after → NoneFull ends
-  none_after Applied same c act h l olds ends before after to n a = a.accepted.none_full
-  none_after Dropped same c act h l olds ends before after to n a = subst (λ x. NoneFull x) (sym (to a.0)) n
-  none_after NoMemory same c act h l olds ends before after to n a = loses_none a n
+  pub none_after : (result : Outcome) (c : ℕ) (act : Act S) (old new : Working S) → NoneFull old.rows → Acts result c act old new → NoneFull new.rows
+  none_after Applied c act old new n a = a.accepted.none_full
+  none_after Dropped c act old new n a = subst (λ x. NoneFull x) (sym a.0.1) n
+  none_after NoMemory c act old new n a = loses_none a n
 
   -- there are as many rows after an act that isn't a Join
 
@@ -251,9 +259,7 @@ module _ {S : Type 0} where
   kept_rows c Spoilt olds rows other b = b
   kept_rows c Gone olds rows other b = b
 
-  pub as_many : (result : Outcome) (same dropped : Type 0) (c : ℕ) (act : Act S) (h l : History) (olds ends : List (Row S)) (before after : List ℕ) → (same → ends ≡ olds)
-      → ((joining : Joining S) → act ≡ Join joining → ⊥)
-      → MatchOutcome result (Applies c act h olds before l ends after) (same × dropped) (Loses act c h olds before l ends after) → length ends ≡ length olds
-  as_many Applied same dropped c act h l olds ends before after to other a = (accepted_went h l (entry_of c act a.word) a.rows ends a.drawn a.accepted).0 ∙ ap length (kept_rows c act olds a.rows other a.brought)
-  as_many Dropped same dropped c act h l olds ends before after to other a = ap length (to a.0)
-  as_many NoMemory same dropped c act h l olds ends before after to other a = (loses_moved a).moved.0
+  pub as_many : (result : Outcome) (c : ℕ) (act : Act S) (old new : Working S) → ((joining : Joining S) → act ≡ Join joining → ⊥) → Acts result c act old new → length new.rows ≡ length old.rows
+  as_many Applied c act old new other a = (accepted_went a.accepted).0 ∙ ap length (kept_rows c act old.rows a.rows other a.brought)
+  as_many Dropped c act old new other a = ap length a.0.1
+  as_many NoMemory c act old new other a = (loses_moved a).moved.0

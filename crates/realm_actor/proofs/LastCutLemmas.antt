@@ -6,11 +6,10 @@ use Rattle.std.proofs.lemmas.Bool.{eqb-true, eq-eqb, or_cases, or_left, or_right
 use Rattle.std.proofs.Math.Bool.{or_assoc, or-false}
 use Rattle.std.proofs.lemmas.List.Folds.{list_any-append}
 use Rattle.realm.specs.declared.entry.Entry.{Entry}
-use Rattle.realm.specs.History.{History}
 use Rattle.realm_actor.specs.declared.row.Row.{Row}
 use Rattle.realm_actor.specs.OutboxHistory.{Box}
 use Rattle.realm_actor.specs.Rows.{Rose, box_in, Each, Ascending}
-use Rattle.realm_actor.specs.Tables.{Went, BoxWent, RowWent, EachWent, EachMarked}
+use Rattle.realm_actor.specs.Tables.{Standing, Went, BoxWent, RowWent, EachWent, EachMarked}
 use Rattle.realm_actor.specs.Cuts.{Cuts, none, one_more, Accepted}
 use Rattle.realm_actor.specs.Handle.{EachUnmarked}
 use Rattle.realm_actor.specs.LastCut.{is_named, named_conns, is_in, finds_in, finds_of, outbox_of, NoMarks, Names, Ascends}
@@ -116,15 +115,15 @@ module _ {S : Type 0} where
         RowWent-on o (get_or ys k o) q (a.1 k o (get_or ys k o) e here) (b.1 k (get_or ys k o) q here g),
   )
 
-  pub cuts_went : {h l : History} {rows news : List (Row S)} {drawn : List ℕ} → Cuts h rows drawn l news → EachWent rows news
-  cuts_went (none {h} {rows}) = EachWent-same rows
-  cuts_went (one_more {h} {k} {l} {rows} {mid} {news} c word so_far sound least cut is went) = EachWent-on rows mid news (cuts_went so_far) went
+  pub cuts_went : {old new : Standing S} {drawn : List ℕ} → Cuts old drawn new → EachWent old.rows new.rows
+  cuts_went {old = old} none = EachWent-same old.rows
+  cuts_went {old = old} {new = new} (one_more {mid = mid} c word so_far sound least cut is went) = EachWent-on old.rows mid.rows new.rows (cuts_went so_far) went
 
-  pub length_all : {h l : History} {rows news : List (Row S)} {drawn : List ℕ} → Cuts h rows drawn l news → length news ≡ length rows
+  pub length_all : {old new : Standing S} {drawn : List ℕ} → Cuts old drawn new → length new.rows ≡ length old.rows
   length_all cuts = (cuts_went cuts).0
 
-  pub accepted_went : (h l : History) (e : Entry) (rows news : List (Row S)) (drawn : List ℕ) → Accepted h rows e drawn l news → EachWent rows news
-  accepted_went h l e rows news drawn a = EachWent-on rows a.mid news a.went (cuts_went a.cuts)
+  pub accepted_went : {old new : Standing S} {e : Entry} {drawn : List ℕ} → Accepted old e drawn new → EachWent old.rows new.rows
+  accepted_went {old = old} {new = new} a = EachWent-on old.rows a.mid new.rows a.went (cuts_went a.cuts)
 
   -- what stands for a connection
 

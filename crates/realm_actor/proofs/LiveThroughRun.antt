@@ -15,7 +15,7 @@ use Rattle.realm_inbox.specs.declared.letter.Post.TheVariants.{Act}
 use Rattle.realm_actor.specs.declared.row.Row.{Row}
 use Rattle.realm_actor.specs.declared.outcome.Outcome.{Outcome}
 use Rattle.realm_actor.specs.declared.outcome.Outcome.TheVariants.{Applied, Dropped, NoMemory}
-use Rattle.realm_actor.specs.ActorView.{Acting}
+use Rattle.realm_actor.specs.ActorView.{Acting, Working}
 use Rattle.realm_actor.specs.OutboxHistory.{Box}
 use Rattle.realm_actor.specs.LastCut.{outbox_of}
 use Rattle.realm_actor.specs.Handle.{entry_of, Loses}
@@ -64,10 +64,10 @@ module _ {S : Type 0} where
   entry_live h d Spoilt word c dead is = clash (live h c) (some-before (ends (entry_of {S = S} d Spoilt word) c) (who h c) is) dead
   entry_live h d Gone word c dead is = clash (live h c) (some-before (ends (entry_of {S = S} d Gone word) c) (who h c) is) dead
 
-  loses_dead : {act : the.Act S} {d : ℕ} {h l : History} {rows news : List (Row S)} {before after : List ℕ} (c : ℕ) → Loses act d h rows before l news after → live h c ≡ false → live l c ≡ false
+  loses_dead : {d : ℕ} {act : the.Act S} {old new : Working S} (c : ℕ) → Loses d act old new → live old.history c ≡ false → live new.history c ≡ false
   loses_dead c (handling.Loses.not_live lost gone told few) dead = dead
   loses_dead c (handling.Loses.nothing_drawn gone) dead = dead
-  loses_dead {d = d} {h = h} c (handling.Loses.cut lost word drawn e marked few is marks accepted words) dead = cuts_dead c accepted.cuts (still_dead h word d e is c dead)
+  loses_dead {d = d} {old = old} c (handling.Loses.cut lost word drawn e marked few is marks accepted words) dead = cuts_dead c accepted.cuts (still_dead old.history word d e is c dead)
 
   -- a post by which c becomes live is its Join, and applied
   act_live : (result : Outcome) (l : Letter S) (old new : Acting S) → Handles result (Act l) old new → (c : ℕ) → live old.history c ≡ false → live new.history c ≡ true

@@ -13,7 +13,8 @@ use Rattle.realm_inbox.specs.HistoryBeginnings.{begins_longer}
 use Rattle.realm_actor.specs.declared.row.Row.{Row}
 use Rattle.realm_actor.specs.declared.outcome.Outcome.{Outcome}
 use Rattle.realm_actor.specs.declared.outcome.Outcome.TheVariants.{Applied, Dropped, NoMemory}
-use Rattle.realm_actor.specs.ActorView.{Acting}
+use Rattle.realm_actor.specs.ActorView.{Acting, Working}
+use Rattle.realm_actor.specs.Tables.{Standing}
 use Rattle.realm_actor.specs.Cuts.{Accepted, Cuts, IsCutOf}
 use Rattle.realm_actor.specs.Cuts as cutting
 use Rattle.realm_actor.specs.Handle.{entry_of, is_dropped, Loses, Acts}
@@ -47,19 +48,19 @@ closed_cuts h k c of.AfterCuts.none = refl
 closed_cuts h k c (of.AfterCuts.one_more d word more) = closed_cuts h _ c more
 
 module _ {S : Type 0} where
-  cuts_after : {h l : History} {rows news : List (Row S)} {drawn : List ℕ} → Cuts h rows drawn l news → AfterCuts h l
+  cuts_after : {old new : Standing S} {drawn : List ℕ} → Cuts old drawn new → AfterCuts old.history new.history
   cuts_after cutting.Cuts.none = of.AfterCuts.none
-  cuts_after {h = h} (cutting.Cuts.one_more {k = k} c word so_far sound least cut is went) = ⊎_elim
-      (λ (one : _ ≡ entry.Cut c (Some word)). subst (λ l. AfterCuts h l) (sym (is ∙ ap (λ e. k ▷ e) one)) (of.AfterCuts.one_more c (Some word) (cuts_after so_far)))
-      (λ (two : _ ≡ entry.Cut c None). subst (λ l. AfterCuts h l) (sym (is ∙ ap (λ e. k ▷ e) two)) (of.AfterCuts.one_more c None (cuts_after so_far)))
+  cuts_after {old = old} (cutting.Cuts.one_more {mid = mid} c word so_far sound least cut is went) = ⊎_elim
+      (λ (one : _ ≡ entry.Cut c (Some word)). subst (λ l. AfterCuts old.history l) (sym (is ∙ ap (λ e. mid.history ▷ e) one)) (of.AfterCuts.one_more c (Some word) (cuts_after so_far)))
+      (λ (two : _ ≡ entry.Cut c None). subst (λ l. AfterCuts old.history l) (sym (is ∙ ap (λ e. mid.history ▷ e) two)) (of.AfterCuts.one_more c None (cuts_after so_far)))
       cut
 
-  loses_makes : {act : the.Act S} {c : ℕ} {h l : History} {rows news : List (Row S)} {before after : List ℕ} (letter : Letter S) → letter.conn ≡ c → Loses act c h rows before l news after → Makes h (Act letter) l
-  loses_makes {h = h} letter own (handling.Loses.not_live lost dead told few) = of.Makes.lost letter (ap (live h) own ∙ dead)
-  loses_makes {h = h} letter own (handling.Loses.nothing_drawn dead) = of.Makes.lost letter (ap (live h) own ∙ dead)
-  loses_makes {c = c} {h = h} {l = l} letter own (handling.Loses.cut lost word drawn e marked few is marks accepted words) = ⊎_elim
-      (λ (one : e ≡ entry.Cut c (Some word)). of.Makes.cut letter (Some word) (subst (λ d. AfterCuts (h ▷ entry.Cut d (Some word)) l) (sym own) (subst (λ f. AfterCuts (h ▷ f) l) one (cuts_after accepted.cuts))))
-      (λ (two : e ≡ entry.Cut c None). of.Makes.cut letter None (subst (λ d. AfterCuts (h ▷ entry.Cut d None) l) (sym own) (subst (λ f. AfterCuts (h ▷ f) l) two (cuts_after accepted.cuts))))
+  loses_makes : {old new : Working S} (letter : Letter S) → Loses letter.conn letter.act old new → Makes old.history (Act letter) new.history
+  loses_makes letter (handling.Loses.not_live lost dead told few) = of.Makes.lost letter dead
+  loses_makes letter (handling.Loses.nothing_drawn dead) = of.Makes.lost letter dead
+  loses_makes {old = old} {new = new} letter (handling.Loses.cut lost word drawn e marked few is marks accepted words) = ⊎_elim
+      (λ (one : e ≡ entry.Cut letter.conn (Some word)). of.Makes.cut letter (Some word) (subst (λ f. AfterCuts (old.history ▷ f) new.history) one (cuts_after accepted.cuts)))
+      (λ (two : e ≡ entry.Cut letter.conn None). of.Makes.cut letter None (subst (λ f. AfterCuts (old.history ▷ f) new.history) two (cuts_after accepted.cuts)))
       is
 
   pub act_makes : (result : Outcome) (l : Letter S) (old new : Acting S) → Handles result (Act l) old new → Makes old.history (Act l) new.history
@@ -69,21 +70,25 @@ module _ {S : Type 0} where
   act_makes Dropped l old new h =
       let a = h.does.acts in
       subst (λ k. Makes old.history (Act l) k) (sym a.0.0) (of.Makes.dropped l a.1)
-  act_makes NoMemory l old new h = loses_makes l refl h.does.acts
+  act_makes NoMemory l old new h = loses_makes l h.does.acts
 
   -- a stop
 
-  one_closing : {i : ℕ} {h l : History} {rows news : List (Row S)} {words lost : List ℕ} (from : History) → AfterClosing from h → ClosesOne i h rows words lost l news → AfterClosing from l
+  one_closing : {i : ℕ} {old new : Standing S} {words lost : List ℕ} (from : History) → AfterClosing from old.history → ClosesOne i old words lost new → AfterClosing from new.history
   one_closing from before (closing.ClosesOne.passed r at dead) = before
-  one_closing {h = h} {l = l} from before (closing.ClosesOne.closed r word drawn at is accepted) = closing_cuts from (h ▷ entry.Closed r.conn word) l (of.AfterClosing.closed r.conn word is before) (cuts_after accepted.cuts)
-  one_closing {h = h} {l = l} from before (closing.ClosesOne.refused r gone word drawn e marked at is cut marks accepted) = ⊎_elim
+  one_closing {old = old} {new = new} from before (closing.ClosesOne.closed r word drawn at is accepted) =
+      closing_cuts from (old.history ▷ entry.Closed r.conn word) new.history (of.AfterClosing.closed r.conn word is before) (cuts_after accepted.cuts)
+  one_closing {old = old} {new = new} from before (closing.ClosesOne.refused r gone word drawn e marked at is cut marks accepted) =
+      let h = old.history in
+      let l = new.history in
+      ⊎_elim
       (λ (one : e ≡ entry.Cut r.conn (Some word)). closing_cuts from (h ▷ entry.Cut r.conn (Some word)) l (of.AfterClosing.cut r.conn (Some word) before) (subst (λ f. AfterCuts (h ▷ f) l) one (cuts_after accepted.cuts)))
       (λ (two : e ≡ entry.Cut r.conn None). closing_cuts from (h ▷ entry.Cut r.conn None) l (of.AfterClosing.cut r.conn None before) (subst (λ f. AfterCuts (h ▷ f) l) two (cuts_after accepted.cuts)))
       cut
 
-  closes_closing : {h : History} {rows : List (Row S)} {i : ℕ} {l : History} {news : List (Row S)} {words lost : List ℕ} → Closes h rows i words lost l news → AfterClosing h l
+  closes_closing : {old : Standing S} {i : ℕ} {new : Standing S} {words lost : List ℕ} → Closes old i words lost new → AfterClosing old.history new.history
   closes_closing closing.Closes.first = of.AfterClosing.none
-  closes_closing {h = h} (closing.Closes.one_more so_far one) = one_closing h (closes_closing so_far) one
+  closes_closing {old = old} (closing.Closes.one_more so_far one) = one_closing old.history (closes_closing so_far) one
 
   pub stop_closing : (result : Outcome) (old new : Acting S) → Handles result Stop old new → AfterClosing old.history new.history
   stop_closing result old new h = closes_closing h.does.closes

@@ -11,7 +11,8 @@ use Rattle.realm.proofs.Lemmas.{clash, none-since, taken-away}
 use Rattle.realm_actor.specs.declared.row.Row.{Row}
 use Rattle.realm_actor.specs.declared.outcome.Outcome.{Outcome}
 use Rattle.realm_actor.specs.declared.outcome.Outcome.TheVariants.{Applied, NoMemory}
-use Rattle.realm_actor.specs.Tables.{Sound}
+use Rattle.realm_actor.specs.Tables.{Sound, Standing}
+use Rattle.realm_actor.specs.ActorView.{Working, standing_in}
 use Rattle.realm_actor.specs.Cuts.{Cuts, none, one_more as one_cut, IsCutOf}
 use Rattle.realm_actor.specs.Handle.{EachUnmarked}
 use Rattle.realm_actor.specs.LastCut.{is_in, named_conns, Names}
@@ -46,61 +47,60 @@ unfolding who
 closed_still h c word x dead = none-since (eqb c x) (who h x) dead
 
 module _ {S : Type 0} where
-  pub cuts_dead : {h l : History} {rows news : List (Row S)} {drawn : List ℕ} (x : ℕ) → Cuts h rows drawn l news → live h x ≡ false → live l x ≡ false
+  pub cuts_dead : {old new : Standing S} {drawn : List ℕ} (x : ℕ) → Cuts old drawn new → live old.history x ≡ false → live new.history x ≡ false
   cuts_dead x none dead = dead
   cuts_dead x (one_cut c word so_far sound least cut is went) dead = subst (λ k. live k x ≡ false) (sym is) (still_dead _ word c _ cut x (cuts_dead x so_far dead))
 
   -- what a stop does for one row
 
-  pub one_moved : {i : ℕ} {h l : History} {rows news : List (Row S)} {words lost : List ℕ} → ClosesOne i h rows words lost l news → EachMoved lost rows news
-  one_moved {rows = rows} (passed r at dead) = moved_went rows rows (EachWent-same rows)
-  one_moved {h = h} {l = l} {rows = rows} {news = news} (closed r word drawn at is accepted) = moved_went rows news (accepted_went h l (Closed r.conn word) rows news drawn accepted)
-  one_moved {h = h} {l = l} {rows = rows} {news = news} (refused r lost word drawn e marked at is cut marks accepted) =
-      moved_on (r.conn ∷ []) [] rows marked news (moved_marked r.conn rows marked marks) (moved_went marked news (accepted_went h l e marked news drawn accepted))
+  pub one_moved : {i : ℕ} {old new : Standing S} {words lost : List ℕ} → ClosesOne i old words lost new → EachMoved lost old.rows new.rows
+  one_moved {old = old} (passed r at dead) = moved_went old.rows old.rows (EachWent-same old.rows)
+  one_moved {old = old} {new = new} (closed r word drawn at is accepted) = moved_went old.rows new.rows (accepted_went accepted)
+  one_moved {old = old} {new = new} (refused r lost word drawn e marked at is cut marks accepted) =
+      moved_on (r.conn ∷ []) [] old.rows marked new.rows (moved_marked r.conn old.rows marked marks) (moved_went marked new.rows (accepted_went accepted))
 
-  pub one_dead : {i : ℕ} {h l : History} {rows news : List (Row S)} {words lost : List ℕ} (x : ℕ) → ClosesOne i h rows words lost l news → live h x ≡ false → live l x ≡ false
+  pub one_dead : {i : ℕ} {old new : Standing S} {words lost : List ℕ} (x : ℕ) → ClosesOne i old words lost new → live old.history x ≡ false → live new.history x ≡ false
   one_dead x (passed r at dead) still = still
-  one_dead {h = h} x (closed r word drawn at is accepted) still = cuts_dead x accepted.cuts (closed_still h r.conn word x still)
-  one_dead {h = h} x (refused r lost word drawn e marked at is cut marks accepted) still = cuts_dead x accepted.cuts (still_dead h word r.conn e cut x still)
+  one_dead {old = old} x (closed r word drawn at is accepted) still = cuts_dead x accepted.cuts (closed_still old.history r.conn word x still)
+  one_dead {old = old} x (refused r lost word drawn e marked at is cut marks accepted) still = cuts_dead x accepted.cuts (still_dead old.history word r.conn e cut x still)
 
-  pub own_dead : {i : ℕ} {h l : History} {rows news : List (Row S)} {words lost : List ℕ} (o : Row S) → slice_get rows i ≡ Some o → ClosesOne i h rows words lost l news → live l o.conn ≡ false
-  own_dead {i = i} {h = h} {rows = rows} o get (passed r at dead) = subst (λ (q : Row S). live h q.conn ≡ false) (same_place rows i r o at get) dead
-  own_dead {i = i} {h = h} {l = l} {rows = rows} o get (closed r word drawn at is accepted) =
-      subst (λ (q : Row S). live l q.conn ≡ false) (same_place rows i r o at get) (cuts_dead r.conn accepted.cuts (closed_dead h r.conn word))
-  own_dead {i = i} {h = h} {l = l} {rows = rows} o get (refused r lost word drawn e marked at is cut marks accepted) =
-      subst (λ (q : Row S). live l q.conn ≡ false) (same_place rows i r o at get) (cuts_dead r.conn accepted.cuts (cut_dead h word r.conn e cut))
+  pub own_dead : {i : ℕ} {old new : Standing S} {words lost : List ℕ} (o : Row S) → slice_get old.rows i ≡ Some o → ClosesOne i old words lost new → live new.history o.conn ≡ false
+  own_dead {i = i} {old = old} o get (passed r at dead) = subst (λ (q : Row S). live old.history q.conn ≡ false) (same_place old.rows i r o at get) dead
+  own_dead {i = i} {old = old} {new = new} o get (closed r word drawn at is accepted) =
+      subst (λ (q : Row S). live new.history q.conn ≡ false) (same_place old.rows i r o at get) (cuts_dead r.conn accepted.cuts (closed_dead old.history r.conn word))
+  own_dead {i = i} {old = old} {new = new} o get (refused r lost word drawn e marked at is cut marks accepted) =
+      subst (λ (q : Row S). live new.history q.conn ≡ false) (same_place old.rows i r o at get) (cuts_dead r.conn accepted.cuts (cut_dead old.history word r.conn e cut))
 
   -- for all rows
 
-  pub closes_moved : {h : History} {rows : List (Row S)} {i : ℕ} {l : History} {news : List (Row S)} {words lost : List ℕ} → Closes h rows i words lost l news → EachMoved lost rows news
-  closes_moved {rows = rows} first = moved_went rows rows (EachWent-same rows)
-  closes_moved {rows = rows} {news = news} (one_more {lost = lost} {gone = more} {mid = mid} so_far one) = moved_on lost more rows mid news (closes_moved so_far) (one_moved one)
+  pub closes_moved : {old : Standing S} {i : ℕ} {new : Standing S} {words lost : List ℕ} → Closes old i words lost new → EachMoved lost old.rows new.rows
+  closes_moved {old = old} first = moved_went old.rows old.rows (EachWent-same old.rows)
+  closes_moved {old = old} {new = new} (one_more {lost = lost} {gone = more} {mid = mid} so_far one) = moved_on lost more old.rows mid.rows new.rows (closes_moved so_far) (one_moved one)
 
   -- the sessions of the rows before the place aren't live
-  pub closes_dead : {h : History} {rows : List (Row S)} {i : ℕ} {l : History} {news : List (Row S)} {words lost : List ℕ} → Closes h rows i words lost l news
-      → (k : ℕ) (r : Row S) → k < i → slice_get news k ≡ Some r → live l r.conn ≡ false
+  pub closes_dead : {old : Standing S} {i : ℕ} {new : Standing S} {words lost : List ℕ} → Closes old i words lost new → (k : ℕ) (r : Row S) → k < i → slice_get new.rows k ≡ Some r → live new.history r.conn ≡ false
   closes_dead first k r less get = absurd (omega (arith, less))
-  closes_dead {l = l} {news = news} (one_more {i} {mid = mid} so_far one) k r less get =
+  closes_dead {new = new} (one_more {i} {mid = mid} so_far one) k r less get =
       let moved = one_moved one in
-      let before : slice_get mid k ≡ Some (get_or mid k r) = beside news mid k r (sym moved.0) get in
-      let conn = (moved.1 k (get_or mid k r) r before get).conn in
-      ap (live l) conn ∙ ⊎_elim
-      (λ (low : k < i). one_dead (get_or mid k r).conn one (closes_dead so_far k (get_or mid k r) low before))
-      (λ (high : i ≤ k). let here : k ≡ i = omega (arith, less, high) in own_dead (get_or mid k r) (sym (ap (slice_get mid) here) ∙ before) one)
+      let before : slice_get mid.rows k ≡ Some (get_or mid.rows k r) = beside new.rows mid.rows k r (sym moved.0) get in
+      let conn = (moved.1 k (get_or mid.rows k r) r before get).conn in
+      ap (live new.history) conn ∙ ⊎_elim
+      (λ (low : k < i). one_dead (get_or mid.rows k r).conn one (closes_dead so_far k (get_or mid.rows k r) low before))
+      (λ (high : i ≤ k). let here : k ≡ i = omega (arith, less, high) in own_dead (get_or mid.rows k r) (sym (ap (slice_get mid.rows) here) ∙ before) one)
       (below_or k i)
 
-  pub none_live : (h l : History) (olds ends : List (Row S)) (words lost : List ℕ) → Closes h olds (length olds) words lost l ends → Sound l ends → (c : ℕ) → live l c ≡ false
-  none_live h l olds ends words lost closes sound c = false_from_ne_true (live l c) (λ is.
+  pub none_live : (old new : Standing S) (words lost : List ℕ) → Closes old (length old.rows) words lost new → Sound new.history new.rows → (c : ℕ) → live new.history c ≡ false
+  none_live old new words lost closes sound c = false_from_ne_true (live new.history c) (λ is.
       let row = sound.has_rows c is in
       let n = (closes_moved closes).0 in
       let inside = row.1.0 in
       let dead = closes_dead closes row.0 row.1.1 (omega (arith, inside, n)) row.1.2 in
-      clash (live l c) is (ap (live l) (sym row.1.3) ∙ dead))
+      clash (live new.history c) is (ap (live new.history) (sym row.1.3) ∙ dead))
 
   -- who is lost has a row
 
-  pub one_lost : {i : ℕ} {h l : History} {rows news : List (Row S)} {words lost : List ℕ} (d : ℕ) → ClosesOne i h rows words lost l news → is_in d lost ≡ true
-      → (k : ℕ) × (r : Row S) × (slice_get rows k ≡ Some r) × (r.conn ≡ d)
+  pub one_lost : {i : ℕ} {old new : Standing S} {words lost : List ℕ} (d : ℕ) → ClosesOne i old words lost new → is_in d lost ≡ true
+      → (k : ℕ) × (r : Row S) × (slice_get old.rows k ≡ Some r) × (r.conn ≡ d)
   one_lost d (passed r at dead) e = absurd (cc e)
   one_lost d (closed r word drawn at is accepted) e = absurd (cc e)
   one_lost {i = i} d (refused r lost word drawn f marked at is cut marks accepted) e = (i, r, at, one_in r.conn d e)
@@ -111,18 +111,21 @@ module _ {S : Type 0} where
       let en = beside olds news t.0 t.1 m.0 t.2 in
       (t.0, get_or news t.0 t.1, en, (m.1 t.0 t.1 (get_or news t.0 t.1) t.2 en).conn ∙ t.3)
 
-  pub all_lost : {h : History} {rows : List (Row S)} {i : ℕ} {l : History} {news : List (Row S)} {words lost : List ℕ} (d : ℕ) → Closes h rows i words lost l news → is_in d lost ≡ true
-      → (k : ℕ) × (r : Row S) × (slice_get news k ≡ Some r) × (r.conn ≡ d)
+  pub all_lost : {old : Standing S} {i : ℕ} {new : Standing S} {words lost : List ℕ} (d : ℕ) → Closes old i words lost new → is_in d lost ≡ true
+      → (k : ℕ) × (r : Row S) × (slice_get new.rows k ≡ Some r) × (r.conn ≡ d)
   all_lost d first e = absurd (cc e)
-  all_lost {news = news} d (one_more {lost = lost} {gone = more} {mid = mid} so_far one) e =
+  all_lost {new = new} d (one_more {lost = lost} {gone = more} {mid = mid} so_far one) e =
       ⊎_elim
-      (λ (f : is_in d lost ≡ true). onto more mid news d (one_moved one) (all_lost d so_far f))
-      (λ (f : is_in d more ≡ true). onto more mid news d (one_moved one) (one_lost d one f))
+      (λ (f : is_in d lost ≡ true). onto more mid.rows new.rows d (one_moved one) (all_lost d so_far f))
+      (λ (f : is_in d more ≡ true). onto more mid.rows new.rows d (one_moved one) (one_lost d one f))
       (or_cases (is_in d lost) (is_in d more) (sym (list_any-append (λ x. eqb x d) lost more) ∙ e))
 
-  pub stops : (result : Outcome) (h l : History) (olds ends news : List (Row S)) (before after words lost named : List ℕ) → Stands h olds → Sound l ends → Closes h olds (length olds) words lost l ends
-      → result ≡ outcome_of lost → EachUnmarked ends news → after ≡ before ++ words → named ≡ named_conns ends → Stops result h olds before l news after named
-  stops result h l olds ends news before after words lost named s sound closes outcome u given is =
+  pub stops : (result : Outcome) (old new : Working S) (ends : List (Row S)) (words lost named : List ℕ) → Stands old.history old.rows → Sound new.history ends
+      → Closes (standing_in old) (length old.rows) words lost (record { history = new.history; rows = ends })
+      → result ≡ outcome_of lost → EachUnmarked ends new.rows → new.words ≡ old.words ++ words → named ≡ named_conns ends → Stops result old new named
+  stops result old new ends words lost named s sound closes outcome u given is =
+      let olds = old.rows in
+      let news = new.rows in
       let w = closes_moved closes in
       let P : ℕ → Type 0 = λ d. is_in d lost ≡ true in
       record {
@@ -137,7 +140,7 @@ module _ {S : Type 0} where
             (λ k r e f. f)
             (λ d e. let t = all_lost d closes e in (t.0, t.1, t.2, t.3, e)));
         held = λ d o e. held_by lost olds ends news w u d o e;
-        none_live = none_live h l olds ends words lost closes sound;
+        none_live = none_live (standing_in old) (record { history = new.history; rows = ends }) words lost closes sound;
       }
 
 -- who is lost, by whether anyone is

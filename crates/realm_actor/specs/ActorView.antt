@@ -6,6 +6,7 @@ use Rattle.ghost_state.specs.GhostList.{items_of}
 use Rattle.realm_inbox.specs.Seats.{said}
 use Rattle.realm_actor.specs.declared.row.Row.{Row}
 use Rattle.realm_actor.specs.declared.state.State.{State}
+use Rattle.realm_actor.specs.Tables.{Standing}
 
 -- the realm's history, the rows of its sessions, the words that were drawn, whom the last post found full, or cut, and the acts
 -- that were handled, each with its connection, the oldest first
@@ -16,6 +17,23 @@ pub record Acting (S : Type 0) : Type 0 where
   pub last_cut : List ℕ
   pub handled : List (ℕ × Act S)
 
--- the same of an actor's fields, where these words were drawn
+-- what the handling of a post works on: the realm's history, the rows of its sessions, and the words that were drawn
+pub record Working (S : Type 0) : Type 0 where
+  pub history : History
+  pub rows : List (Row S)
+  pub words : List ℕ
+
+module _ {S : Type 0} where
+  abbrev pub working_in : Acting S → Working S
+  working_in a = record { history = a.history; rows = a.rows; words = a.words }
+
+  abbrev pub standing_in : Working S → Standing S
+  standing_in w = record { history = w.history; rows = w.rows }
+
+-- what contracts see of an actor's fields, where these words were drawn
 abbrev pub acting : {S W : Type 0} → List ℕ → State S W → Acting S
 acting words s = record { history = s.table.realm; rows = s.table.rows.items; words = words; last_cut = s.last_cut.items; handled = map said (items_of s.handled) }
+
+-- what the handling of a post works on, of the same fields
+abbrev pub working : {S W : Type 0} → List ℕ → State S W → Working S
+working words s = record { history = s.table.realm; rows = s.table.rows.items; words = words }

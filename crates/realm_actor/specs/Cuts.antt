@@ -2,11 +2,11 @@
 use Rattle.std.specs.Prelude.{◌≡◌, ◌⊎◌, ℕ, false, ◌<◌, List, [], ◌∷◌, ◌++◌, Option, Some, None, slice_get}
 use Rattle.realm.specs.declared.entry.Entry.{Entry}
 use Rattle.realm.specs.declared.entry.Entry.TheVariants.{Cut}
-use Rattle.realm.specs.History.{History, ◌▷◌}
+use Rattle.realm.specs.History.{◌▷◌}
 use Rattle.realm_actor.specs.declared.row.Row.{Row}
 use Rattle.realm_actor.specs.OutboxHistory.{Box}
 use Rattle.realm_actor.specs.Rows.{box_in, Each}
-use Rattle.realm_actor.specs.Tables.{EachWent, Sound}
+use Rattle.realm_actor.specs.Tables.{EachWent, Sound, Standing}
 
 -- a Cut of c by this word: with it, or silent where memory was refused
 abbrev pub IsCutOf : ℕ → ℕ → Entry → Type 0
@@ -31,17 +31,17 @@ module _ {S : Type 0} where
     pub full : IsFull (box_in row)
     pub least : (k : ℕ) (r : Row S) → k < place → slice_get rows k ≡ Some r → IsFull (box_in r) → ⊥
 
-  -- from the history h with these rows, the least session found full was cut, and its items added, again and again, with these words
-  pub data Cuts : History → List (Row S) → List ℕ → History → List (Row S) → Type 0 where
-    none : {h : History} {rows : List (Row S)} → Cuts h rows [] h rows
-    one_more : {h k l : History} {rows mid news : List (Row S)} {words : List ℕ} {e : Entry} (c word : ℕ)
-        → Cuts h rows words k mid → Sound k mid → IsLeastFull mid c → IsCutOf c word e → l ≡ k ▷ e → EachWent mid news
-        → Cuts h rows (words ++ word ∷ []) l news
+  -- from `old` on, the least session found full was cut, and its items added, again and again, with these words
+  pub data Cuts (old : Standing S) : List ℕ → Standing S → Type 0 where
+    none : Cuts old [] old
+    one_more : {mid new : Standing S} {words : List ℕ} {e : Entry} (c word : ℕ)
+        → Cuts old words mid → Sound mid.history mid.rows → IsLeastFull mid.rows c → IsCutOf c word e
+        → new.history ≡ mid.history ▷ e → EachWent mid.rows new.rows → Cuts old (words ++ word ∷ []) new
 
-  -- the entry e enters after h, its items are added, and then each session that was found full is cut, until none is left
-  pub record Accepted (h : History) (rows : List (Row S)) (e : Entry) (drawn : List ℕ) (l : History) (news : List (Row S)) : Type 0 where
+  -- the entry e enters, its items are added, and then each session that was found full is cut, until none is left
+  pub record Accepted (old : Standing S) (e : Entry) (drawn : List ℕ) (new : Standing S) : Type 0 where
     pub mid : List (Row S)
-    pub went : EachWent rows mid
-    pub sound : Sound (h ▷ e) mid
-    pub cuts : Cuts (h ▷ e) mid drawn l news
-    pub none_full : NoneFull news
+    pub went : EachWent old.rows mid
+    pub sound : Sound (old.history ▷ e) mid
+    pub cuts : Cuts (record { history = old.history ▷ e; rows = mid }) drawn new
+    pub none_full : NoneFull new.rows

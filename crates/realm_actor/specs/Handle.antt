@@ -9,6 +9,7 @@ use Rattle.realm.specs.Sessions.{live, may_join}
 use Rattle.realm_inbox.specs.declared.joining.Joining.{Joining}
 use Rattle.realm_inbox.specs.declared.act.Act.{Act}
 use Rattle.realm_inbox.specs.declared.act.Act.TheVariants.{Join, Said, Ping, Spoilt, Gone}
+use Rattle.realm_inbox.specs.declared.letter.Letter.{Letter}
 use Rattle.realm_actor.specs.declared.outcome.Outcome.{Outcome}
 use Rattle.realm_actor.specs.declared.outcome.Outcome.TheVariants.{Applied, Dropped, NoMemory}
 use Rattle.realm_actor.specs.declared.row.Row.{Row}
@@ -17,6 +18,7 @@ use Rattle.realm_actor.specs.OutboxHistory.{Box}
 use Rattle.realm_actor.specs.Tables.{Went, EachMarked}
 use Rattle.realm_actor.specs.LastCut.{Names, outbox_of}
 use Rattle.realm_actor.specs.Cuts.{Accepted, IsCutOf}
+use Rattle.realm_actor.specs.ActorView.{Working, standing_in}
 
 abbrev pub MatchOutcome : Outcome → Type 0 → Type 0 → Type 0 → Type 0
 MatchOutcome Applied P Q R = P
@@ -67,24 +69,29 @@ module _ {S : Type 0} where
   WithRow c Spoilt olds rows = rows ≡ olds
   WithRow c Gone olds rows = rows ≡ olds
 
-  -- the act of c enters after h as an entry, then the Cuts; the words before, the entry's where it draws one, and those of the Cuts
-  pub record Applies (c : ℕ) (act : Act S) (h : History) (olds : List (Row S)) (before : List ℕ) (l : History) (news : List (Row S)) (after : List ℕ) : Type 0 where
+  -- the act of c enters as an entry, then the Cuts; the words before, the entry's where it draws one, and those of the Cuts
+  pub record Applies (c : ℕ) (act : Act S) (old new : Working S) : Type 0 where
     pub word : ℕ
     pub drawn : List ℕ
     pub rows : List (Row S)
-    pub brought : WithRow c act olds rows
-    pub accepted : Accepted h rows (entry_of c act word) drawn l news
-    pub words : after ≡ before ++ cond (draws act) (word ∷ drawn) drawn
+    pub brought : WithRow c act old.rows rows
+    pub accepted : Accepted (record { history = old.history; rows = rows }) (entry_of c act word) drawn (standing_in new)
+    pub words : new.words ≡ old.words ++ cond (draws act) (word ∷ drawn) drawn
 
   -- for want of memory the session of c is cut instead of the act, if it is live, and then who is found full; the words before,
   -- the act's own, which is lost, and those of the Cuts. A word is lost only where the act draws one, and always where c is live
-  pub data Loses (act : Act S) : ℕ → History → List (Row S) → List ℕ → History → List (Row S) → List ℕ → Type 0 where
-    not_live : {c : ℕ} {h : History} {rows : List (Row S)} {before : List ℕ} (lost : List ℕ)
-        → live h c ≡ false → draws act ≡ true → length lost ≡ 1 → Loses act c h rows before h rows (before ++ lost)
-    nothing_drawn : {c : ℕ} {h : History} {rows : List (Row S)} {before : List ℕ} → live h c ≡ false → Loses act c h rows before h rows before
-    cut : {c : ℕ} {h l : History} {rows news : List (Row S)} {before after : List ℕ} (lost : List ℕ) (word : ℕ) (drawn : List ℕ) (e : Entry) (marked : List (Row S))
-        → length lost ≡ cond (draws act) 1 0 → IsCutOf c word e → EachMarked c rows marked → Accepted h marked e drawn l news
-        → after ≡ (before ++ lost) ++ word ∷ drawn → Loses act c h rows before l news after
+  pub data Loses (c : ℕ) (act : Act S) (old : Working S) : Working S → Type 0 where
+    not_live : (lost : List ℕ) → live old.history c ≡ false → draws act ≡ true → length lost ≡ 1
+        → Loses c act old (record old { words = old.words ++ lost })
+    nothing_drawn : live old.history c ≡ false → Loses c act old old
+    cut : {new : Working S} (lost : List ℕ) (word : ℕ) (drawn : List ℕ) (e : Entry) (marked : List (Row S))
+        → length lost ≡ cond (draws act) 1 0 → IsCutOf c word e → EachMarked c old.rows marked
+        → Accepted (record { history = old.history; rows = marked }) e drawn (standing_in new)
+        → new.words ≡ (old.words ++ lost) ++ word ∷ drawn → Loses c act old new
+
+  -- nothing changed
+  abbrev pub Stays : Working S → Working S → Type 0
+  Stays old new = (new.history ≡ old.history) × (new.rows ≡ old.rows) × (new.words ≡ old.words)
 
   -- p is o without its marks
   pub record Unmarked (o p : Row S) : Type 0 where
@@ -99,16 +106,17 @@ module _ {S : Type 0} where
       × ((k : ℕ) (o p : Row S) → slice_get olds k ≡ Some o → slice_get news k ≡ Some p → Unmarked o p)
 
   -- what an act of c does, by its outcome
-  abbrev pub Acts : Outcome → Type 0 → ℕ → Act S → History → List (Row S) → List ℕ → History → List (Row S) → List ℕ → Type 0
-  Acts result same c act h rows before l news after =
-      MatchOutcome result (Applies c act h rows before l news after) (same × (is_dropped h c act ≡ true)) (Loses act c h rows before l news after)
+  abbrev pub Acts : Outcome → ℕ → Act S → Working S → Working S → Type 0
+  Acts result c act old new =
+      MatchOutcome result (Applies c act old new) (Stays old new × (is_dropped old.history c act ≡ true)) (Loses c act old new)
 
 module _ {S : Type 0} where
-  -- what the handling of an act of c does, by its outcome, and whom it names: `ends` are the rows with the marks that it made
-  pub record Does (result : Outcome) (c : ℕ) (act : Act S) (h : History) (olds : List (Row S)) (before : List ℕ) (l : History) (news : List (Row S)) (after named : List ℕ) : Type 0 where
+  -- what the handling of a letter does, by its outcome, and whom it names: `ends` are the rows with the marks that it made
+  pub record Does (result : Outcome) (l : Letter S) (old new : Working S) (named : List ℕ) : Type 0 where
     pub ends : List (Row S)
-    pub acts : Acts result ((l ≡ h) × (ends ≡ olds) × (after ≡ before)) c act h olds before l ends after
-    pub unmarked : EachUnmarked ends news
-    pub names : Names (λ d. (result ≡ NoMemory) × (live h d ≡ true) × (d ≡ c)) olds news named
-    pub held : (d : ℕ) (o : Box) → outbox_of olds d ≡ Some o → (p : Box) × (outbox_of news d ≡ Some p) × Went o p
-    pub joined : (joining : Joining S) → act ≡ Join joining → result ≡ Applied → (p : Box) × (outbox_of news c ≡ Some p) × Went joining.outbox p
+    pub acts : Acts result l.conn l.act old (record new { rows = ends })
+    pub unmarked : EachUnmarked ends new.rows
+    pub names : Names (λ d. (result ≡ NoMemory) × (live old.history d ≡ true) × (d ≡ l.conn)) old.rows new.rows named
+    pub held : (d : ℕ) (o : Box) → outbox_of old.rows d ≡ Some o → (p : Box) × (outbox_of new.rows d ≡ Some p) × Went o p
+    pub joined : (joining : Joining S) → l.act ≡ Join joining → result ≡ Applied
+        → (p : Box) × (outbox_of new.rows l.conn ≡ Some p) × Went joining.outbox p

@@ -10,7 +10,7 @@ use Rattle.realm_inbox.specs.declared.act.Act.{Act}
 use Rattle.realm_inbox.specs.Seats.{seat_of_letter, before, at_seat}
 use Rattle.realm_actor.specs.declared.outcome.Outcome.{Outcome}
 use Rattle.realm_actor.specs.declared.outcome.Outcome.TheVariants.{Dropped}
-use Rattle.realm_actor.specs.ActorView.{Acting}
+use Rattle.realm_actor.specs.ActorView.{Acting, working_in}
 use Rattle.realm_actor.specs.Handle.{is_dropped, Does}
 use Rattle.realm_actor.specs.Stop.{Stops}
 use Rattle.realm_actor.specs.Settle.{Sweeps}
@@ -24,8 +24,8 @@ module _ {S : Type 0} where
   is_dropped_post h post.Stop = false
 
   abbrev pub DoesPost : Outcome → Post S → Acting S → Acting S → Type 0
-  DoesPost result (post.Act l) old new = Does result l.conn l.act old.history old.rows old.words new.history new.rows new.words new.last_cut
-  DoesPost result post.Stop old new = Stops result old.history old.rows old.words new.history new.rows new.words new.last_cut
+  DoesPost result (post.Act l) old new = Does result l (working_in old) (working_in new) new.last_cut
+  DoesPost result post.Stop old new = Stops result (working_in old) (working_in new) new.last_cut
 
   -- the acts at the seat k
   abbrev pub stands_at : ℕ → List (ℕ × Act S) → List (ℕ × Act S)

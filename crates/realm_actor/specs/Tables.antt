@@ -6,8 +6,18 @@ use Rattle.realm.specs.declared.entry.Entry.{Entry}
 use Rattle.realm.specs.History.{History}
 use Rattle.realm.specs.Sessions.{live, joined, conn_of, IsHistory}
 use Rattle.realm_actor.specs.declared.row.Row.{Row}
+use Rattle.realm_actor.specs.declared.table.Table.{Table}
 use Rattle.realm_actor.specs.OutboxHistory.{Box}
 use Rattle.realm_actor.specs.Rows.{Rose, box_in, RowDue, Each, Ascending, StandsAt}
+
+-- how a realm stands: its history, and the rows of its sessions
+pub record Standing (S : Type 0) : Type 0 where
+  pub history : History
+  pub rows : List (Row S)
+
+-- the same of a table's fields
+abbrev pub standing : {S : Type 0} → Table S → Standing S
+standing t = record { history = t.realm; rows = t.rows.items }
 
 abbrev pub has_joined : History → ℕ → Bool
 has_joined h c = list_any (λ x. x == c) (joined h)

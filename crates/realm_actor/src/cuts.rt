@@ -3,7 +3,7 @@ ghost use Rattle.std.specs.Prelude.{◌≡◌, ◌<◌, true, false, [], ◌∷�
 ghost use Rattle.realm.specs.History.{◌▷◌};
 ghost use Rattle.realm.specs.Sessions.{conn_of, live, may_come};
 ghost use Rattle.realm_actor.specs.Rows.{Ascending, box_in};
-ghost use Rattle.realm_actor.specs.Tables.{EachMarked, EachWent, Ready, Sound};
+ghost use Rattle.realm_actor.specs.Tables.{standing, EachMarked, EachWent, Ready, Sound};
 ghost use Rattle.realm_actor.specs.Cuts.{Accepted, Cuts, IsCutOf, IsFull, IsLeastFull, NoneFull};
 ghost use Rattle.realm_actor.specs.Invariant.{Knows};
 ghost use Rattle.realm_actor.specs.declared.row.Row.{Row as ARow};
@@ -123,8 +123,8 @@ impl<S: Shut> Table<S> {
     /// what the Cuts give.
     pub fn cut_full<W: IdSource, R: Wait>(&mut self, rt: &R, alloc: Global, words: &mut W)
         requires { Sound self.old.realm self.old.rows.items }
-        ensures cuts { (drawn : List ℕ) × Cuts self.old.realm self.old.rows.items drawn
-            self.new.realm self.new.rows.items × (W.given words.new ≡ W.given words.old ++ drawn) }
+        ensures cuts { (drawn : List ℕ) × Cuts (standing self.old) drawn (standing self.new)
+            × (W.given words.new ≡ W.given words.old ++ drawn) }
         ensures none { NoneFull self.new.rows.items }
         ensures sound { Sound self.new.realm self.new.rows.items }
         ensures knows { Knows self.old → Knows self.new }
@@ -150,8 +150,8 @@ impl<S: Shut> Table<S> {
     )
         requires sound { Sound self.old.realm self.old.rows.items }
         requires none { is_full ≡ false → NoneFull self.old.rows.items }
-        ensures cuts { (drawn : List ℕ) × Cuts self.old.realm self.old.rows.items drawn
-            self.new.realm self.new.rows.items × (W.given words.new ≡ W.given words.old ++ drawn) }
+        ensures cuts { (drawn : List ℕ) × Cuts (standing self.old) drawn (standing self.new)
+            × (W.given words.new ≡ W.given words.old ++ drawn) }
         ensures none { NoneFull self.new.rows.items }
         ensures sound { Sound self.new.realm self.new.rows.items }
         ensures knows { Knows self.old → Knows self.new }
@@ -175,8 +175,8 @@ impl<S: Shut> Table<S> {
         requires comes { may_come self.old.realm entry ≡ true }
         requires own { conn_of entry ≡ conn }
         ensures ok { OnOk result ((drawn : List ℕ)
-            × Accepted self.old.realm self.old.rows.items entry drawn self.new.realm
-            self.new.rows.items × (W.given words.new ≡ W.given words.old ++ drawn)) }
+            × Accepted (standing self.old) entry drawn (standing self.new)
+            × (W.given words.new ≡ W.given words.old ++ drawn)) }
         ensures sound { OnOk result (Sound self.new.realm self.new.rows.items) }
         ensures knows { OnOk result (Knows self.old → Knows self.new) }
         ensures err { OnErr result (self.new ≡ self.old) }
@@ -193,7 +193,7 @@ impl<S: Shut> Table<S> {
         requires live { live self.old.realm conn ≡ true }
         ensures lost { (word : ℕ) × (drawn : List ℕ) × (e : AnEntry) × (marked : List (ARow _))
             × IsCutOf conn word e × EachMarked conn self.old.rows.items marked
-            × Accepted self.old.realm marked e drawn self.new.realm self.new.rows.items
+            × Accepted (record (standing self.old) { rows = marked }) e drawn (standing self.new)
             × (W.given words.new ≡ W.given words.old ++ word ∷ drawn) }
         ensures sound { Sound self.new.realm self.new.rows.items }
         ensures knows { Knows self.old → Knows self.new }

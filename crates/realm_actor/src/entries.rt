@@ -6,6 +6,7 @@ ghost use Rattle.realm_inbox.specs.Joins.{is_join};
 ghost use Rattle.realm_actor.specs.declared.outcome.Outcome.TheVariants.{Dropped};
 ghost use Rattle.realm_actor.specs.Tables.{Sound};
 ghost use Rattle.realm_actor.specs.Invariant.{IsRoomy, Knows};
+ghost use Rattle.realm_actor.specs.ActorView.{working};
 ghost use Rattle.realm_actor.specs.Cuts.{NoneFull};
 ghost use Rattle.realm_actor.specs.Handle.{Acts, draws, entry_of, is_dropped};
 
@@ -58,9 +59,9 @@ impl<S: Shut, W: IdSource> State<S, W> {
         requires other { is_join act ≡ false }
         requires sound { Sound self.old.table.realm self.old.table.rows.items }
         requires none { NoneFull self.old.table.rows.items }
-        ensures outcome { Acts result (self.new ≡ self.old) conn act self.old.table.realm
-            self.old.table.rows.items (W.given self.old.words) self.new.table.realm
-            self.new.table.rows.items (W.given self.new.words) }
+        ensures outcome { Acts result conn act (working (W.given self.old.words) self.old)
+            (working (W.given self.new.words) self.new) }
+        ensures same { result ≡ Dropped → self.new ≡ self.old }
         ensures exact { is_dropped self.old.table.realm conn act ≡ true → result ≡ Dropped }
         ensures last_cut { self.new.last_cut ≡ self.old.last_cut }
         ensures room { IsRoomy self.old → IsRoomy self.new }
@@ -89,9 +90,10 @@ impl<S: Shut, W: IdSource> State<S, W> {
         requires sound { Sound self.old.table.realm self.old.table.rows.items }
         requires none { NoneFull self.old.table.rows.items }
         requires own { joining.outbox.conn ≡ conn }
-        ensures outcome { Acts result (self.new ≡ self.old) conn (AJoin joining)
-            self.old.table.realm self.old.table.rows.items (W.given self.old.words)
-            self.new.table.realm self.new.table.rows.items (W.given self.new.words) }
+        ensures outcome { Acts result conn (AJoin joining)
+            (working (W.given self.old.words) self.old)
+            (working (W.given self.new.words) self.new) }
+        ensures same { result ≡ Dropped → self.new ≡ self.old }
         ensures exact { may_join self.old.table.realm conn ≡ false → result ≡ Dropped }
         ensures last_cut { self.new.last_cut.items ≡ self.old.last_cut.items }
         ensures room { IsRoomy self.old → IsRoomy self.new }

@@ -4,7 +4,7 @@ ghost use Rattle.realm_actor.specs.declared.outcome.Outcome.TheVariants.{Dropped
 ghost use Rattle.realm_actor.specs.Tables.{Sound};
 ghost use Rattle.realm_actor.specs.Cuts.{NoneFull};
 ghost use Rattle.realm_actor.specs.Handle.{is_dropped, Acts, Does};
-ghost use Rattle.realm_actor.specs.ActorView.{acting};
+ghost use Rattle.realm_actor.specs.ActorView.{acting, working};
 ghost use Rattle.realm_actor.specs.Run.{Handles};
 ghost use Rattle.realm_actor.specs.Invariant.{IsRoomy, Knows, Stands};
 
@@ -23,9 +23,10 @@ impl<S: Shut, W: IdSource> State<S, W> {
     fn act<R: Wait>(&mut self, rt: &R, alloc: Global, letter: Letter<S>) -> Outcome
         requires sound { Sound self.old.table.realm self.old.table.rows.items }
         requires none { NoneFull self.old.table.rows.items }
-        ensures outcome { Acts result (self.new ≡ self.old) letter.conn letter.act
-            self.old.table.realm self.old.table.rows.items (W.given self.old.words)
-            self.new.table.realm self.new.table.rows.items (W.given self.new.words) }
+        ensures outcome { Acts result letter.conn letter.act
+            (working (W.given self.old.words) self.old)
+            (working (W.given self.new.words) self.new) }
+        ensures same { result ≡ Dropped → self.new ≡ self.old }
         ensures exact { is_dropped self.old.table.realm letter.conn letter.act ≡ true
             → result ≡ Dropped }
         ensures sound { Sound self.new.table.realm self.new.table.rows.items }
@@ -50,9 +51,8 @@ impl<S: Shut, W: IdSource> State<S, W> {
         requires stands { Stands self.old.table.realm self.old.table.rows.items }
         requires knows { Knows self.old.table }
         requires room { IsRoomy self.old }
-        ensures does { Does result letter.conn letter.act self.old.table.realm
-            self.old.table.rows.items (W.given self.old.words) self.new.table.realm
-            self.new.table.rows.items (W.given self.new.words) self.new.last_cut.items }
+        ensures does { Does result letter (working (W.given self.old.words) self.old)
+            (working (W.given self.new.words) self.new) self.new.last_cut.items }
         ensures exact { is_dropped self.old.table.realm letter.conn letter.act ≡ true
             → result ≡ Dropped }
         ensures handled { self.new.handled ≡ self.old.handled }

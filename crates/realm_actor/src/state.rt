@@ -6,7 +6,7 @@ ghost use Rattle.realm.specs.Sessions.{conn_of, live, may_come};
 ghost use Rattle.realm.specs.declared.entry.Entry.{Entry as AnEntry};
 ghost use Rattle.ghost_state.specs.GhostList.{items_of};
 ghost use Rattle.realm_actor.specs.declared.row.Row.{Row as ARow};
-ghost use Rattle.realm_actor.specs.Tables.{EachMarked, Sound};
+ghost use Rattle.realm_actor.specs.Tables.{standing, EachMarked, Sound};
 ghost use Rattle.realm_actor.specs.Cuts.{Accepted, IsCutOf, NoneFull};
 ghost use Rattle.realm_actor.specs.Handle.{MatchOutcome};
 ghost use Rattle.realm_actor.specs.Invariant.{Knows};
@@ -87,14 +87,14 @@ impl<S: Shut, W: IdSource> State<S, W> {
         requires comes { may_come self.old.table.realm entry ≡ true }
         requires live { live self.old.table.realm conn ≡ true }
         ensures outcome { MatchOutcome result
-            ((drawn : List ℕ) × Accepted self.old.table.realm self.old.table.rows.items entry drawn
-            self.new.table.realm self.new.table.rows.items
+            ((drawn : List ℕ)
+            × Accepted (standing self.old.table) entry drawn (standing self.new.table)
             × (W.given self.new.words ≡ W.given self.old.words ++ drawn))
             ⊥
             ((word : ℕ) × (drawn : List ℕ) × (e : AnEntry) × (marked : List (ARow _))
             × IsCutOf conn word e × EachMarked conn self.old.table.rows.items marked
-            × Accepted self.old.table.realm marked e drawn self.new.table.realm
-            self.new.table.rows.items
+            × Accepted (record (standing self.old.table) { rows = marked }) e drawn
+            (standing self.new.table)
             × (W.given self.new.words ≡ W.given self.old.words ++ word ∷ drawn)) }
         ensures last_cut { self.new.last_cut ≡ self.old.last_cut }
         ensures handled { self.new.handled ≡ self.old.handled }

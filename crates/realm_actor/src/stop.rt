@@ -1,6 +1,7 @@
 //! A stop closes each live session.
 ghost use Rattle.std.specs.Prelude.{◌≡◌, ◌&&◌, ◌++◌, ◌<◌, List, ℕ, length};
-ghost use Rattle.realm_actor.specs.Tables.{Sound};
+ghost use Rattle.realm_actor.specs.ActorView.{working};
+ghost use Rattle.realm_actor.specs.Tables.{standing, Sound};
 ghost use Rattle.realm_actor.specs.Cuts.{NoneFull};
 ghost use Rattle.realm_actor.specs.Stop.{Closes, ClosesOne, Stops, is_nil};
 ghost use Rattle.realm_actor.specs.Invariant.{IsRoomy, Knows, Stands};
@@ -26,8 +27,8 @@ impl<S: Shut> Table<S> {
         requires none { NoneFull self.old.rows.items }
         requires inside { place < length self.old.rows.items }
         ensures closes { (drawn : List ℕ) × (lost : List ℕ)
-            × ClosesOne place self.old.realm self.old.rows.items drawn lost self.new.realm
-            self.new.rows.items × (W.given words.new ≡ W.given words.old ++ drawn)
+            × ClosesOne place (standing self.old) drawn lost (standing self.new)
+            × (W.given words.new ≡ W.given words.old ++ drawn)
             × (result ≡ is_nil lost) }
         ensures sound { Sound self.new.realm self.new.rows.items }
         ensures none { NoneFull self.new.rows.items }
@@ -52,8 +53,8 @@ impl<S: Shut> Table<S> {
         requires sound { Sound self.old.realm self.old.rows.items }
         requires none { NoneFull self.old.rows.items }
         ensures closes { (drawn : List ℕ) × (lost : List ℕ)
-            × Closes self.old.realm self.old.rows.items (length self.old.rows.items) drawn lost
-            self.new.realm self.new.rows.items × (W.given words.new ≡ W.given words.old ++ drawn)
+            × Closes (standing self.old) (length self.old.rows.items) drawn lost
+            (standing self.new) × (W.given words.new ≡ W.given words.old ++ drawn)
             × (result ≡ is_nil lost) }
         ensures sound { Sound self.new.realm self.new.rows.items }
         ensures none { NoneFull self.new.rows.items }
@@ -80,9 +81,8 @@ impl<S: Shut, W: IdSource> State<S, W> {
         requires stands { Stands self.old.table.realm self.old.table.rows.items }
         requires knows { Knows self.old.table }
         requires room { IsRoomy self.old }
-        ensures stops { Stops result self.old.table.realm
-            self.old.table.rows.items (W.given self.old.words) self.new.table.realm
-            self.new.table.rows.items (W.given self.new.words) self.new.last_cut.items }
+        ensures stops { Stops result (working (W.given self.old.words) self.old)
+            (working (W.given self.new.words) self.new) self.new.last_cut.items }
         ensures handled { self.new.handled ≡ self.old.handled }
         ensures stands { Stands self.new.table.realm self.new.table.rows.items }
         ensures knows { Knows self.new.table }

@@ -4,7 +4,8 @@ use Rattle.realm.specs.declared.entry.Entry.TheVariants.{Join}
 use Rattle.std.specs.Prelude.{vec_capacity}
 use Rattle.realm_actor.proofs.FoundFull.{not_err}
 use Rattle.realm.specs.Sessions.{may_join}
-use Rattle.realm_actor.specs.Tables.{Sound}
+use Rattle.realm_actor.specs.ActorView.{working}
+use Rattle.realm_actor.specs.Tables.{standing, Sound}
 use Rattle.realm_actor.specs.Cuts.{NoneFull}
 use Rattle.realm_actor.proofs.AppliedActs.{loses_early, loses_join, applies_join}
 use Rattle.realm_actor.proofs.LastCutLemmas.{insert_length, length_all}
@@ -17,30 +18,31 @@ admit-requires-clause-sound g c =
 
 pub returns-then-is_err-clause-outcome : goal.returns-then-is_err-clause-outcome
 returns-then-is_err-clause-outcome g c =
-    let a = c.args.self.now in
-    let b = c.make_room.new.self in
+    let old = working (g.W.IdSource.given c.args.self.now.words) c.args.self.now in
+    let new = working (g.W.IdSource.given c.make_room.new.self.words) c.make_room.new.self in
     let m = c.make_room.ensures in
-    let may : may_join a.table.realm c.args.conn ≡ true = sym c.may_join.ensures ∙ c.if-not-may_join.false in
-    loses_early c.args.conn a.table.realm c.args.joining b.table.realm a.table.rows.items b.table.rows.items (g.W.IdSource.given a.words) (g.W.IdSource.given b.words) may m.realm m.rows (ap (g.W.IdSource.given) m.words)
+    let may : may_join old.history c.args.conn ≡ true = sym c.may_join.ensures ∙ c.if-not-may_join.false in
+    loses_early c.args.conn c.args.joining old new may m.realm m.rows (ap (g.W.IdSource.given) m.words)
 
 pub returns-in-Err-clause-outcome : goal.returns-in-Err-clause-outcome
 returns-in-Err-clause-outcome g c =
-    let a = c.args.self.now in
+    let old = working (g.W.IdSource.given c.args.self.now.words) c.args.self.now in
+    let admit = c.admit.new.self in
     let m = c.make_room.ensures in
-    let may : may_join a.table.realm c.args.conn ≡ true = sym c.may_join.ensures ∙ c.if-not-may_join.false in
+    let may : may_join old.history c.args.conn ≡ true = sym c.may_join.ensures ∙ c.if-not-may_join.false in
     let same = c.in-Err.ensures.err in
-    loses_join c.args.conn a.table.realm c.args.joining c.admit.new.self.realm a.table.rows.items c.admit.new.self.rows.items (g.W.IdSource.given a.words) (g.W.IdSource.given c.next_word-word.new.self) c.next_word-word.result may
+    loses_join c.args.conn c.args.joining old (record { history = admit.realm; rows = admit.rows.items; words = g.W.IdSource.given c.next_word-word.new.self }) c.next_word-word.result may
     (ap (λ t. t.realm) same ∙ m.realm) (ap (λ t. t.rows.items) same ∙ m.rows) (c.next_word-word.ensures ∙ ap (λ w. g.W.IdSource.given w ++ c.next_word-word.result ∷ []) m.words)
 
 pub returns-in-Ok-clause-outcome : goal.returns-in-Ok-clause-outcome
 returns-in-Ok-clause-outcome g c =
-    let a = c.args.self.now in
-    let b = c.make_room.new.self in
+    let old = working (g.W.IdSource.given c.args.self.now.words) c.args.self.now in
+    let cut = c.cut_found.new.self in
     let m = c.make_room.ensures in
     let admitted = c.in-Ok.ensures in
     let cuts = c.cut_found.ensures.cuts in
-    applies_join c.args.conn a.table.realm c.args.joining c.admit.new.self.realm c.cut_found.new.self.realm a.table.rows.items b.table.rows.items c.admit.new.self.rows.items c.cut_found.new.self.rows.items
-    c.new-row.result admitted.rows.0 (g.W.IdSource.given a.words) (g.W.IdSource.given c.next_word-word.new.self) (g.W.IdSource.given c.cut_found.new.words) cuts.0 c.next_word-word.result
+    applies_join c.args.conn c.args.joining old (record { history = cut.realm; rows = cut.rows.items; words = g.W.IdSource.given c.cut_found.new.words }) c.make_room.new.self.table.rows.items (standing c.admit.new.self)
+    c.new-row.result admitted.rows.0 c.next_word-word.result (g.W.IdSource.given c.next_word-word.new.self) cuts.0
     m.rows admitted.rows.1 (admitted.history ∙ ap (λ h. h ▷ Join c.args.conn c.next_word-word.result c.args.joining.authid) m.realm) admitted.sound cuts.1 c.cut_found.ensures.none (c.next_word-word.ensures ∙ ap (λ w. g.W.IdSource.given w ++ c.next_word-word.result ∷ []) m.words) cuts.2 c.new-row.ensures.conn c.new-row.ensures.outbox c.new-row.ensures.is_cut c.new-row.ensures.is_lost (c.shows.ensures.finds c.args.joining.empty)
 
 pub returns-in-Err-clause-room : goal.returns-in-Err-clause-room

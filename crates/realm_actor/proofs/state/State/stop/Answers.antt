@@ -1,4 +1,5 @@
 use Rattle.std.proofs.Common.{sym, ◌∙◌, subst, arith}
+use Rattle.realm_actor.specs.ActorView.{working}
 use Rattle.realm_actor.specs.Stop.{Stops}
 use Rattle.realm_actor.specs.Invariant.{Stands}
 use Rattle.realm_actor.proofs.StopLemmas.{stops, closes_moved, outcome_applied, outcome_refused}
@@ -7,24 +8,28 @@ use Rattle.realm_actor.proofs.state.State.stop.Goals as goal
 
 pub returns-then-all_closed-clause-stops : goal.returns-then-all_closed-clause-stops
 returns-then-all_closed-clause-stops g c =
-    let a = c.args.self.now in
+    let old = working (g.W.IdSource.given c.args.self.now.words) c.args.self.now in
     let b = c.close_all-all_closed.new.self in
+    let words = g.W.IdSource.given c.close_all-all_closed.new.words in
     let t = c.close_all-all_closed.ensures.closes in
     let n = c.name.ensures in
-    let news = c.name.new.self in
-    subst (λ h. Stops _ a.table.realm a.table.rows.items (g.W.IdSource.given a.words) h news.rows.items (g.W.IdSource.given c.close_all-all_closed.new.words) c.name.new.last_cut.items) (sym n.realm)
-    (stops _ a.table.realm b.realm a.table.rows.items b.rows.items news.rows.items (g.W.IdSource.given a.words) (g.W.IdSource.given c.close_all-all_closed.new.words) t.0 t.1 c.name.new.last_cut.items
+    let news = c.name.new.self.rows.items in
+    let named = c.name.new.last_cut.items in
+    subst (λ h. Stops _ old (record { history = h; rows = news; words = words }) named) (sym n.realm)
+    (stops _ old (record { history = b.realm; rows = news; words = words }) b.rows.items t.0 t.1 named
     c.requires.stands c.close_all-all_closed.ensures.sound t.2 (sym (outcome_applied t.1 (sym t.4 ∙ c.if-all_closed.true))) n.rows t.3 n.named)
 
 pub returns-else-all_closed-clause-stops : goal.returns-else-all_closed-clause-stops
 returns-else-all_closed-clause-stops g c =
-    let a = c.args.self.now in
+    let old = working (g.W.IdSource.given c.args.self.now.words) c.args.self.now in
     let b = c.close_all-all_closed.new.self in
+    let words = g.W.IdSource.given c.close_all-all_closed.new.words in
     let t = c.close_all-all_closed.ensures.closes in
     let n = c.name.ensures in
-    let news = c.name.new.self in
-    subst (λ h. Stops _ a.table.realm a.table.rows.items (g.W.IdSource.given a.words) h news.rows.items (g.W.IdSource.given c.close_all-all_closed.new.words) c.name.new.last_cut.items) (sym n.realm)
-    (stops _ a.table.realm b.realm a.table.rows.items b.rows.items news.rows.items (g.W.IdSource.given a.words) (g.W.IdSource.given c.close_all-all_closed.new.words) t.0 t.1 c.name.new.last_cut.items
+    let news = c.name.new.self.rows.items in
+    let named = c.name.new.last_cut.items in
+    subst (λ h. Stops _ old (record { history = h; rows = news; words = words }) named) (sym n.realm)
+    (stops _ old (record { history = b.realm; rows = news; words = words }) b.rows.items t.0 t.1 named
     c.requires.stands c.close_all-all_closed.ensures.sound t.2 (sym (outcome_refused t.1 (sym t.4 ∙ c.if-all_closed.false))) n.rows t.3 n.named)
 
 pub name-requires-clause-room : goal.name-requires-clause-room

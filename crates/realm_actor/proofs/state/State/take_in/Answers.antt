@@ -1,5 +1,5 @@
 use Rattle.std.proofs.Common.{ap, ◌∙◌, subst, ◌++◌, ◌∷◌}
-use Rattle.realm_actor.specs.Tables.{EachMarked}
+use Rattle.realm_actor.specs.Tables.{standing, EachMarked}
 use Rattle.realm_actor.specs.Cuts.{Accepted}
 use Rattle.realm_actor.proofs.FoundFull.{ready_live}
 use Rattle.realm_actor.proofs.state.State.take_in.Goals as goal
@@ -18,6 +18,6 @@ returns-in-Err-clause-outcome g c =
       t.3,
       t.4,
       subst (λ x. EachMarked c.args.conn x.rows.items t.3) same t.5,
-      subst (λ x. Accepted x.realm t.3 t.2 t.1 c.lose.new.self.realm c.lose.new.self.rows.items) same t.6,
+      subst (λ x. Accepted (record (standing x) { rows = t.3 }) t.2 t.1 (standing c.lose.new.self)) same t.6,
       t.7 ∙ ap (λ w. g.W.IdSource.given w ++ t.0 ∷ t.1) c.in-Err.ensures.words,
     )

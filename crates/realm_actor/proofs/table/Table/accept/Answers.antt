@@ -1,5 +1,5 @@
 use Rattle.std.proofs.Common.{subst}
-use Rattle.realm_actor.specs.Tables.{Sound}
+use Rattle.realm_actor.specs.Tables.{standing, Sound}
 use Rattle.realm_actor.specs.Cuts.{Cuts}
 use Rattle.realm_actor.proofs.table.Table.accept.Goals as goal
 
@@ -16,7 +16,7 @@ returns-clause-ok g c =
         mid = before.rows.items;
         went = c.in_ok-is_full.ensures.rows;
         sound = subst (λ h. Sound h before.rows.items) is c.in_ok-is_full.ensures.sound;
-        cuts = subst (λ h. Cuts h before.rows.items cuts.0 c.cut_found.new.self.realm c.cut_found.new.self.rows.items) is cuts.1;
+        cuts = subst (λ h. Cuts (record { history = h; rows = before.rows.items }) cuts.0 (standing c.cut_found.new.self)) is cuts.1;
         none_full = c.cut_found.ensures.none;
       },
       cuts.2,

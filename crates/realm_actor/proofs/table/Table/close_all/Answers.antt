@@ -1,4 +1,5 @@
 use Rattle.std.proofs.Common.{refl, sym, ap, ◌∙◌, subst, [], ◌++◌, append-nil, append_assoc, add-one, arith}
+use Rattle.realm_actor.specs.Tables.{standing}
 use Rattle.realm_actor.specs.Stop.{Closes, first, one_more}
 use Rattle.realm_actor.proofs.StopLemmas.{nil_append, closes_moved}
 use Rattle.realm_actor.proofs.table.Table.close_all.Goals as goal
@@ -22,7 +23,7 @@ loop-place-preserved g c =
       closes = (
         t.0 ++ u.0,
         t.1 ++ u.1,
-        subst (λ k. Closes a.realm a.rows.items k (t.0 ++ u.0) (t.1 ++ u.1) b.realm b.rows.items) (sym (add-one c.loop-place.place)) (one_more t.2 u.2),
+        subst (λ k. Closes (standing a) k (t.0 ++ u.0) (t.1 ++ u.1) (standing b)) (sym (add-one c.loop-place.place)) (one_more t.2 u.2),
         u.3 ∙ ap (λ l. l ++ u.0) t.3 ∙ append_assoc (g.W.IdSource.given c.args.words.now) t.0 u.0,
         c.both-all_closed.ensures ∙ nil_append t.1 u.1 c.loop-place.all_closed c.close_at-is_closed.result t.4 u.4,
       );

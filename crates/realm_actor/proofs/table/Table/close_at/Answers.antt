@@ -1,6 +1,6 @@
 use Rattle.std.proofs.Common.{refl, sym, ap, ◌∙◌, subst, [], ◌∷◌, ◌++◌, append-nil, append_assoc, length}
 use Rattle.std.proofs.lemmas.Option.{slice_get_read}
-use Rattle.realm_actor.specs.Tables.{EachMarked}
+use Rattle.realm_actor.specs.Tables.{standing, EachMarked}
 use Rattle.realm_actor.specs.Cuts.{Accepted}
 use Rattle.realm_actor.specs.Stop.{passed, closed, refused}
 use Rattle.realm_actor.proofs.FoundFull.{ready_live}
@@ -40,7 +40,7 @@ returns-in-Err-clause-closes g c =
       r.conn ∷ [],
       refused r gone t.0 t.1 t.2 t.3 at (sym c.is_live.ensures ∙ c.if-not-is_live.false) t.4
           (subst (λ x. EachMarked r.conn x.rows.items t.3) same t.5)
-          (subst (λ x. Accepted x.realm t.3 t.2 t.1 news.realm news.rows.items) same t.6),
+          (subst (λ x. Accepted (record (standing x) { rows = t.3 }) t.2 t.1 (standing news)) same t.6),
       t.7 ∙ ap (λ w. g.W.IdSource.given w ++ t.0 ∷ t.1) c.in-Err.ensures.words ∙ ap (λ l. l ++ t.0 ∷ t.1) c.next_word-word.ensures ∙ append_assoc before (gone ∷ []) (t.0 ∷ t.1),
       refl,
     )

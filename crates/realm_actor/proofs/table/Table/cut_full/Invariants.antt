@@ -1,6 +1,6 @@
 use Rattle.std.proofs.Common.{◌≡◌, ◌++◌}
 use Rattle.std.specs.Prelude.{List, ℕ}
-use Rattle.realm_actor.specs.Tables.{Sound}
+use Rattle.realm_actor.specs.Tables.{standing, Sound}
 use Rattle.realm_actor.specs.Cuts.{Cuts}
 use Rattle.realm_actor.specs.Invariant.{Knows}
 use Rattle.realm_actor.proofs.table.Table.cut_full.Given as goal
@@ -8,6 +8,6 @@ use Rattle.realm_actor.proofs.table.Table.cut_full.Given as goal
 abbrev pub invariant-loop : goal.invariant-loop
 invariant-loop g l =
     ((goal.iterator-loop g).can_next l.iterator' × (goal.iterator-loop g).is_finite l.iterator')
-    × ((drawn : List ℕ) × Cuts l.initial.self.realm l.initial.self.rows.items drawn l.self.realm l.self.rows.items × (g.W.IdSource.given l.words ≡ g.W.IdSource.given l.initial.words ++ drawn))
+    × ((drawn : List ℕ) × Cuts (standing l.initial.self) drawn (standing l.self) × (g.W.IdSource.given l.words ≡ g.W.IdSource.given l.initial.words ++ drawn))
     × Sound l.self.realm l.self.rows.items
     × (Knows l.initial.self → Knows l.self)

@@ -1,7 +1,7 @@
 use Rattle.std.proofs.Common.{sym, ap, ◌∙◌, subst, ◌++◌, ◌∷◌, [], append_assoc}
 use Rattle.realm.specs.History.{◌▷◌}
 use Rattle.realm_actor.specs.Rows.{Ascending}
-use Rattle.realm_actor.specs.Tables.{Sound}
+use Rattle.realm_actor.specs.Tables.{standing, Sound}
 use Rattle.realm_actor.specs.Cuts.{Cuts}
 use Rattle.realm_actor.proofs.HandleLemmas.{sound_same, same_marked}
 use Rattle.realm_actor.proofs.table.Table.lose.Goals as goal
@@ -33,7 +33,7 @@ returns-clause-lost g c =
         mid = c.cut.new.self.rows.items;
         went = c.cut.ensures.rows;
         sound = subst (λ h. Sound h c.cut.new.self.rows.items) is c.cut.ensures.sound;
-        cuts = subst (λ h. Cuts h c.cut.new.self.rows.items cuts.0 news.realm news.rows.items) is cuts.1;
+        cuts = subst (λ h. Cuts (record { history = h; rows = c.cut.new.self.rows.items }) cuts.0 (standing news)) is cuts.1;
         none_full = c.cut_full.ensures.none;
       },
       cuts.2 ∙ ap (λ l. l ++ cuts.0) c.next_word-word.ensures ∙ append_assoc (g.W.IdSource.given c.args.words.now) (word ∷ []) cuts.0,
