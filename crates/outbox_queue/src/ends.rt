@@ -40,11 +40,10 @@ pub struct Producer<T, H: Owed<T>> {
 }
 
 impl<T, H: Owed<T>> Model for Producer<T, H> {
-    ghost use Rattle.std.specs.Prelude.{◌≡◌, ◌<◌, [], None, length};
     ghost use Rattle.std.specs.Arc.{arc_value};
-    ghost use Rattle.crossbeam_queue.specs.Passes.{view as shown, IsPassOf, ruled_capacity};
-    ghost use Rattle.outbox_queue.specs.Rule.{adding};
-    ghost use Rattle.outbox_queue.specs.Ends.{Adding, Owes};
+    ghost use Rattle.crossbeam_queue.specs.Passes.{view as shown, ruled_capacity};
+    ghost use Rattle.outbox_queue.specs.Ends.{Adding};
+    ghost use Rattle.outbox_queue.specs.body.EndInvariants.{IsAdding};
 
     ghost Value = { Adding T H };
 
@@ -58,16 +57,7 @@ impl<T, H: Owed<T>> Model for Producer<T, H> {
       added_at_find = e.added_at_find.value;
     } };
 
-    ghost invariant = { λ e. IsPassOf (arc_value e.queue) e.place.pass
-        × (shown e.place.pass ≡ adding (shown e.place.pass).conn (shown e.place.pass).history
-        (shown e.place.pass).added)
-        × (0 < ruled_capacity (arc_value e.queue))
-        × ((shown e.place.pass).added ≡ [] → (e.place.finds ≡ 0)
-        × ((shown e.place.pass).history ≡ None))
-        × Owes H.owed (shown e.place.pass).history (shown e.place.pass).conn
-        (shown e.place.pass).added
-        × (e.conn ≡ (shown e.place.pass).conn)
-        × (e.added ≡ length (shown e.place.pass).added) };
+    ghost invariant = { IsAdding H.owed };
 }
 
 impl<T: Drop, H: Owed<T>> Producer<T, H> {
@@ -151,11 +141,10 @@ pub struct Consumer<T, H: Owed<T>> {
 }
 
 impl<T, H: Owed<T>> Model for Consumer<T, H> {
-    ghost use Rattle.std.specs.Prelude.{◌≡◌, ◌<◌};
     ghost use Rattle.std.specs.Arc.{arc_value};
-    ghost use Rattle.crossbeam_queue.specs.Passes.{view as shown, IsPassOf, ruled_capacity};
-    ghost use Rattle.outbox_queue.specs.Rule.{taking};
-    ghost use Rattle.outbox_queue.specs.Ends.{Taking, Owes};
+    ghost use Rattle.crossbeam_queue.specs.Passes.{view as shown, ruled_capacity};
+    ghost use Rattle.outbox_queue.specs.Ends.{Taking};
+    ghost use Rattle.outbox_queue.specs.body.EndInvariants.{IsTaking};
 
     ghost Value = { Taking T H };
 
@@ -168,13 +157,7 @@ impl<T, H: Owed<T>> Model for Consumer<T, H> {
       empty_finds = e.place.finds;
     } };
 
-    ghost invariant = { λ e. IsPassOf (arc_value e.queue) e.place.pass
-        × (shown e.place.pass ≡ taking (shown e.place.pass).conn (shown e.place.pass).seen
-        (shown e.place.pass).taken)
-        × (0 < ruled_capacity (arc_value e.queue))
-        × Owes H.owed (shown e.place.pass).seen (shown e.place.pass).conn
-        (shown e.place.pass).taken
-        × (e.conn ≡ (shown e.place.pass).conn) };
+    ghost invariant = { IsTaking H.owed };
 }
 
 impl<T: Drop, H: Owed<T>> Consumer<T, H> {

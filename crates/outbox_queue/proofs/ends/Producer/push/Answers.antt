@@ -10,7 +10,7 @@ use Rattle.outbox_queue.proofs.ends.Producer.push.Goals as goal
 
 pub push_counted-requires-clause-rule : goal.push_counted-requires-clause-rule
 push_counted-requires-clause-rule g c =
-    let o = g.H.Owed in let is = sym c.self.view_is in let may = ap (λ v. v.adds) c.self.invariant.1 in let x = c.args.item in (
+    let o = g.H.Owed in let is = sym c.self.view_is in let may = ap (λ v. v.adds) c.self.invariant.adds in let x = c.args.item in (
       adds o.begins o.begins_itself o.begins_on _ _ _ _ may (c.requires.conn ∙ ap (λ a. a.conn) is) (c.requires.place ∙ ap (λ a. length a.added) is) (subst (λ h. Grows o.begins h (Some x.history)) (ap (λ a. a.history) is) c.requires.history),
       learns_full o.begins o.begins_itself o.begins_on _ _ may,
     )
@@ -23,12 +23,13 @@ invariant_of-self g c =
     let place : x.place ≡ length v.added = c.requires.place ∙ ap (λ a. length a.added) is in
     let owes : slice_get (o.owed x.history v.conn) (length v.added) ≡ Some x.item = subst (λ (y : ℕ × ℕ). slice_get (o.owed x.history y.0) y.1 ≡ Some x.item) (λ i. (conn i, place i)) c.shows.ensures in
     let P : View g.row.T.Denot g.row.H.Denot → Type 0 = λ u. u ≡ adding u.conn u.history u.added in
-    let Q : View g.row.T.Denot g.row.H.Denot → Type 0 = λ u. Owes o.owed u.history u.conn u.added in (
-      (same.0 ∙ old.0.0, same.2 ∙ old.0.1),
-      subst P (sym eq) (ap (λ u. with_added u x) old.1),
-      old.2,
-      (λ none. absurd (omega (arith, ap length (sym (ap (λ u. u.added) eq) ∙ none), length-append v.added (x.item ∷ [])))),
-      subst Q (sym eq) (owes_next o.begins o.owed o.owes_on v.history v.conn v.added x.history x.item old.4 (subst (λ h. Grows o.begins h (Some x.history)) (ap (λ a. a.history) is) c.requires.history) owes),
-      old.5 ∙ sym (ap (λ u. u.conn) eq),
-      c.tick.ensures ∙ ap (λ k. k + 1) old.6 ∙ sym (length-append v.added (x.item ∷ [])) ∙ sym (ap (λ u. length u.added) eq),
-    )
+    let Q : View g.row.T.Denot g.row.H.Denot → Type 0 = λ u. Owes o.owed u.history u.conn u.added in
+    record {
+      is_pass = (same.0 ∙ old.is_pass.0, same.2 ∙ old.is_pass.1);
+      adds = subst P (sym eq) (ap (λ u. with_added u x) old.adds);
+      capacity = old.capacity;
+      nothing_yet = λ none. absurd (omega (arith, ap length (sym (ap (λ u. u.added) eq) ∙ none), length-append v.added (x.item ∷ [])));
+      owes = subst Q (sym eq) (owes_next o.begins o.owed o.owes_on v.history v.conn v.added x.history x.item old.owes (subst (λ h. Grows o.begins h (Some x.history)) (ap (λ a. a.history) is) c.requires.history) owes);
+      conn = old.conn ∙ sym (ap (λ u. u.conn) eq);
+      added = c.tick.ensures ∙ ap (λ k. k + 1) old.added ∙ sym (length-append v.added (x.item ∷ [])) ∙ sym (ap (λ u. length u.added) eq);
+    }
