@@ -101,7 +101,7 @@ admission-same h s c word authid agrees =
     ∙ ap (λ g. admission_by (id_in_use h (id_of_word word)) c word (name_for authid) (role_for g authid)) agrees.grants
 
 turned-joined : (h : History) (s t : State) (c word : ℕ) (authid : Option (List ℕ)) (given : List (ℕ × Item)) (r : Result Who Reason)
-    → Agrees h s → may_join h c ≡ true → admission h c word authid ≡ r → IsJoined s c word r t given → Turned h (Join c word authid) s t given
+    → Agrees h s → may_join h c ≡ true → admission h c word authid ≡ r → IsJoined (record { old = s; new = t; given = given }) c word r → Turned h (Join c word authid) s t given
 turned-joined h s t c word authid given (Err reason) agrees come answer is = record {
   gives = gives-reply h (Join c word authid) given (is.0 ∙ ap (λ r. all_for c (welcome r)) (sym answer)) (λ d. rw answer refl);
   agrees = rw is.1 (agrees-joined h c word authid s (Err reason) agrees come answer);
@@ -115,7 +115,7 @@ turned-joined h s t c word authid given (Ok w) agrees come answer is = record {
   shrunk = λ silent. absurd (cc);
 }
 
-pub turns-joined : (s t : State) (c word : ℕ) (authid : Option (List ℕ)) (given : List (ℕ × Item)) → IsJoined s c word (admitted s c word authid) t given → Turns s (Join c word authid) t given
+pub turns-joined : (s t : State) (c word : ℕ) (authid : Option (List ℕ)) (given : List (ℕ × Item)) → IsJoined (record { old = s; new = t; given = given }) c word (admitted s c word authid) → Turns s (Join c word authid) t given
 turns-joined s t c word authid given is h agrees come =
     turned-joined h s t c word authid given (admitted s c word authid) agrees come (sym (admission-same h s c word authid agrees)) is
 
@@ -123,7 +123,7 @@ turns-joined s t c word authid given is h agrees come =
 turned-left : (h : History) (s t : State) (e : Entry) (word : ℕ) (last : Option Item) (given : List (ℕ × Item))
     → Agrees h s → may_come h e ≡ true → live h (conn_of e) ≡ true → grants_of (h ▷ e) ≡ grants_of h → IsEnding h e (conn_of e) → is_silent e ≡ false
     → reply h e ≡ option_to_list last → ((d : ℕ) → events h e d ≡ sent_events (option_map (departure word) (who h (conn_of e))) (who h d) (held h d))
-    → HasLeft s (conn_of e) word last t given → Turned h e s t given
+    → HasLeft (record { old = s; new = t; given = given }) (conn_of e) word last → Turned h e s t given
 turned-left h s t e word last given agrees come lives grants ending loud replies sends is =
     let session = session-lives h s (conn_of e) agrees lives in
     record {
@@ -135,13 +135,13 @@ turned-left h s t e word last given agrees come lives grants ending loud replies
       shrunk = λ silent. absurd (let clash = sym loud ∙ silent in cc);
     }
 
-pub turns-spoilt : (s t : State) (c w : ℕ) (given : List (ℕ × Item)) → HasLeft s c w (Some (Abort ProtocolViolation)) t given → Turns s (Spoilt c w) t given
+pub turns-spoilt : (s t : State) (c w : ℕ) (given : List (ℕ × Item)) → HasLeft (record { old = s; new = t; given = given }) c w (Some (Abort ProtocolViolation)) → Turns s (Spoilt c w) t given
 turns-spoilt s t c w given is h agrees come = turned-left h s t (Spoilt c w) w (Some (Abort ProtocolViolation)) given agrees come come refl (spoilt h c w) refl refl (λ d. refl) is
 
-pub turns-gone : (s t : State) (c w : ℕ) (given : List (ℕ × Item)) → HasLeft s c w None t given → Turns s (Gone c w) t given
+pub turns-gone : (s t : State) (c w : ℕ) (given : List (ℕ × Item)) → HasLeft (record { old = s; new = t; given = given }) c w None → Turns s (Gone c w) t given
 turns-gone s t c w given is h agrees come = turned-left h s t (Gone c w) w None given agrees come come refl (gone h c w) refl refl (λ d. refl) is
 
-pub turns-cut : (s t : State) (c : ℕ) (word : Option ℕ) (given : List (ℕ × Item)) → HasBeenCut s c word t given → Turns s (Cut c word) t given
+pub turns-cut : (s t : State) (c : ℕ) (word : Option ℕ) (given : List (ℕ × Item)) → HasBeenCut (record { old = s; new = t; given = given }) c word → Turns s (Cut c word) t given
 turns-cut s t c (Some w) given is h agrees come = turned-left h s t (Cut c (Some w)) w None given agrees come come refl (cut h c (Some w)) refl refl (λ d. refl) is
 turns-cut s t c None given is h agrees come = record {
   gives = gives-reply h (Cut c None) given is.0 (λ d. refl);
@@ -150,18 +150,18 @@ turns-cut s t c None given is h agrees come = record {
   shrunk = λ silent. let session = session-lives h s c agrees come in rw is.1 (others-one-fewer c s.sessions session.0 (agrees.sessions c ∙ session.1));
 }
 
-pub turns-closed : (s t : State) (c w : ℕ) (given : List (ℕ × Item)) → HasLeft s c w (Some (Goodbye SystemShutdown)) t given → Turns s (Closed c w) t given
+pub turns-closed : (s t : State) (c w : ℕ) (given : List (ℕ × Item)) → HasLeft (record { old = s; new = t; given = given }) c w (Some (Goodbye SystemShutdown)) → Turns s (Closed c w) t given
 turns-closed s t c w given is h agrees come = turned-left h s t (Closed c w) w (Some (Goodbye SystemShutdown)) given agrees come come refl (closed h c w) refl refl (λ d. refl) is
 
-pub turns-hello : (s t : State) (c w : ℕ) (realm : List ℕ) (authid : Option (List ℕ)) (given : List (ℕ × Item)) → HasLeft s c w (Some (Abort ProtocolViolation)) t given
+pub turns-hello : (s t : State) (c w : ℕ) (realm : List ℕ) (authid : Option (List ℕ)) (given : List (ℕ × Item)) → HasLeft (record { old = s; new = t; given = given }) c w (Some (Abort ProtocolViolation))
     → Turns s (Said c w (Hello realm authid)) t given
 turns-hello s t c w realm authid given is h agrees come =
     turned-left h s t (Said c w (Hello realm authid)) w (Some (Abort ProtocolViolation)) given agrees come come refl (hello h c w realm authid) refl refl (λ d. refl) is
 
-pub turns-abort : (s t : State) (c w : ℕ) (given : List (ℕ × Item)) → HasLeft s c w None t given → Turns s (Said c w say.Abort) t given
+pub turns-abort : (s t : State) (c w : ℕ) (given : List (ℕ × Item)) → HasLeft (record { old = s; new = t; given = given }) c w None → Turns s (Said c w say.Abort) t given
 turns-abort s t c w given is h agrees come = turned-left h s t (Said c w say.Abort) w None given agrees come come refl (abort h c w) refl refl (λ d. refl) is
 
-pub turns-goodbye : (s t : State) (c w : ℕ) (given : List (ℕ × Item)) → HasLeft s c w (Some (Goodbye GoodbyeAndOut)) t given → Turns s (Said c w say.Goodbye) t given
+pub turns-goodbye : (s t : State) (c w : ℕ) (given : List (ℕ × Item)) → HasLeft (record { old = s; new = t; given = given }) c w (Some (Goodbye GoodbyeAndOut)) → Turns s (Said c w say.Goodbye) t given
 turns-goodbye s t c w given is h agrees come =
     turned-left h s t (Said c w say.Goodbye) w (Some (Goodbye GoodbyeAndOut)) given agrees come come refl (goodbye h c w) refl refl (λ d. refl) is
 
@@ -222,7 +222,7 @@ published-same h s c word options topic args w agrees is =
     rw (is, room_is) refl
 
 turned-published : (h : History) (s t : State) (c word request : ℕ) (options : Entries) (topic : List ℕ) (args : Arguments) (given : List (ℕ × Item)) (r : Result Made Reason)
-    → Agrees h s → live h c ≡ true → published h c word options topic args ≡ r → IsPublished s c request (acknowledge_of options) r t given
+    → Agrees h s → live h c ≡ true → published h c word options topic args ≡ r → IsPublished (record { old = s; new = t; given = given }) (record { conn = c; request = request }) (acknowledge_of options) r
     → Turned h (Said c word (Publish request options topic args)) s t given
 turned-published h s t c word request options topic args given (Err reason) agrees come answer is =
     let e = Said c word (Publish request options topic args) in
@@ -248,7 +248,7 @@ turned-published h s t c word request options topic args given (Ok made) agrees 
     at false = sym agrees.store
 
 pub turns-published : (s t : State) (c word request : ℕ) (options : Entries) (topic : List ℕ) (args : Arguments) (given : List (ℕ × Item))
-    → ((w : Who) → session_of s.sessions c ≡ Some w → IsPublished s c request (acknowledge_of options) (made_of s c word options topic args w) t given)
+    → ((w : Who) → session_of s.sessions c ≡ Some w → IsPublished (record { old = s; new = t; given = given }) (record { conn = c; request = request }) (acknowledge_of options) (made_of s c word options topic args w))
     → Turns s (Said c word (Publish request options topic args)) t given
 turns-published s t c word request options topic args given is h agrees come =
     let lives = session-lives h s c agrees come in
@@ -293,7 +293,7 @@ turned-refused h s t c word request options topic given reason agrees come answe
 
 turned-held : (h : History) (s t : State) (c word request : ℕ) (options : Entries) (topic : List ℕ) (given : List (ℕ × Item)) (w : Who) (p : PatternText) (a : Option (ℕ × Held))
     → Agrees h s → live h c ≡ true → who h c ≡ Some w → pattern_of options topic ≡ Ok p → answered s.index c p ≡ a
-    → held_by s c request p (wanted s.store (get_retained_of options) p w) a t given
+    → held_by (record { old = s; new = t; given = given }) (record { conn = c; request = request }) p (wanted s.store (get_retained_of options) p w) a
     → Turned h (Said c word (Subscribe request options topic)) s t given
 turned-held h s t c word request options topic given w p None agrees come who_is asked answer is =
     let full : has_place (holds h) (opened h) (joined h) c p ≡ false = room h s.index (ties h s agrees) c p ∙ ap is_some answer in
@@ -335,13 +335,13 @@ turned-held h s t c word request options topic given w p (Some answered_as) agre
     elsewhere d false own = refl
 
 pub turns-subscribed : (s t : State) (c word request : ℕ) (options : Entries) (topic : List ℕ) (given : List (ℕ × Item))
-    → ((w : Who) → session_of s.sessions c ≡ Some w → IsSubscribed s c request (get_retained_of options) w (pattern_of options topic) t given)
+    → ((w : Who) → session_of s.sessions c ≡ Some w → IsSubscribed (record { old = s; new = t; given = given }) (record { conn = c; request = request }) (get_retained_of options) w (pattern_of options topic))
     → Turns s (Said c word (Subscribe request options topic)) t given
 turns-subscribed s t c word request options topic given is h agrees come =
     let lives = session-lives h s c agrees come in
     at (pattern_of options topic) refl lives.0 lives.1 (is lives.0 (agrees.sessions c ∙ lives.1))
   where
-    at : (r : Result PatternText Reason) → pattern_of options topic ≡ r → (w : Who) → who h c ≡ Some w → IsSubscribed s c request (get_retained_of options) w r t given
+    at : (r : Result PatternText Reason) → pattern_of options topic ≡ r → (w : Who) → who h c ≡ Some w → IsSubscribed (record { old = s; new = t; given = given }) (record { conn = c; request = request }) (get_retained_of options) w r
         → Turned h (Said c word (Subscribe request options topic)) s t given
     at (Err reason) asked w who_is answer = turned-refused h s t c word request options topic given reason agrees come (rw asked refl) answer.0 answer.1
     at (Ok p) asked w who_is answer = turned-held h s t c word request options topic given w p (answered s.index c p) agrees come who_is asked refl answer
@@ -399,7 +399,7 @@ turned-unsubscribed h s c word request n agrees come =
         store_same true = agrees.store
         store_same false = agrees.store
 
-pub turns-unsubscribed : (s t : State) (c word request n : ℕ) (given : List (ℕ × Item)) → IsUnsubscribed s c request n t given → Turns s (Said c word (Unsubscribe request n)) t given
+pub turns-unsubscribed : (s t : State) (c word request n : ℕ) (given : List (ℕ × Item)) → IsUnsubscribed (record { old = s; new = t; given = given }) (record { conn = c; request = request }) n → Turns s (Said c word (Unsubscribe request n)) t given
 turns-unsubscribed s t c word request n given is h agrees come =
     let e = Said c word (Unsubscribe request n) in
     record {

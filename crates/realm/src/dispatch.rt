@@ -35,7 +35,8 @@ fn leave(
     last: Option<Item>,
 ) -> Result<Given, Fault>
     requires { is_some (session_of state.old.sessions conn) ≡ true }
-    ensures ok { IfOk result (λ given. HasLeft state.old conn word last state.new given.items) }
+    ensures ok { IfOk result (λ given.
+        HasLeft (record { old = state.old; new = state.new; given = given.items }) conn word last) }
     ensures unchanged { OnErr result (state.new ≡ state.old) }
 {
     let Some(who) = state.sessions.find(conn) else {
@@ -50,7 +51,8 @@ fn leave(
 /// Cuts the session of the connection; without a word the others aren't told.
 fn cut(alloc: Global, state: &mut State, conn: Conn, word: Option<u64>) -> Result<Given, Fault>
     requires { is_some (session_of state.old.sessions conn) ≡ true }
-    ensures ok { IfOk result (λ given. HasBeenCut state.old conn word state.new given.items) }
+    ensures ok { IfOk result (λ given.
+        HasBeenCut (record { old = state.old; new = state.new; given = given.items }) conn word) }
     ensures unchanged { OnErr result (state.new ≡ state.old) }
     ensures silent { is_silent (entries.Cut conn word) ≡ true → IsOk result }
 {

@@ -78,8 +78,8 @@ pub fn join(
 ) -> Result<Given, Fault>
     requires { session_of state.old.sessions conn ≡ None }
     ensures ok { IfOk result (λ given.
-        IsJoined state.old conn word (admitted state.old conn word authid.now) state.new
-        given.items) }
+        IsJoined (record { old = state.old; new = state.new; given = given.items }) conn word
+        (admitted state.old conn word authid.now)) }
     ensures unchanged { OnErr result (state.new ≡ state.old) }
 {
     match admission(alloc, state, conn, word, authid)? {

@@ -219,9 +219,10 @@ fn retain(alloc: Global, store: &mut Store, made: Shared<Publication>) -> Result
 pub fn publish(alloc: Global, state: &mut State, asked: PublishRequest) -> Result<Given, Fault>
     requires { is_some (session_of state.old.sessions asked.conn) ≡ true }
     ensures ok { IfOk result (λ given. (w : Who) → session_of state.old.sessions asked.conn ≡ Some w
-        → IsPublished state.old asked.conn asked.request (acknowledge_of asked.options)
+        → IsPublished (record { old = state.old; new = state.new; given = given.items })
+        (record { conn = asked.conn; request = asked.request }) (acknowledge_of asked.options)
         (published_by (has_room state.old.store asked.topic) asked.word w asked.topic asked.args
-        (publish_options_of asked.options)) state.new given.items) }
+        (publish_options_of asked.options))) }
     ensures unchanged { OnErr result (state.new ≡ state.old) }
 {
     let PublishRequest {

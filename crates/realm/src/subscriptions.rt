@@ -156,9 +156,10 @@ pub fn subscribe(
     requires { is_some (session_of state.old.sessions asked.now.conn) ≡ true }
     ensures ok { IfOk result (λ given. (w : Who)
         → session_of state.old.sessions asked.now.conn ≡ Some w
-        → IsSubscribed state.old asked.now.conn asked.now.request
-        (get_retained_of asked.now.options.now) w (pattern_of asked.now.options.now
-        asked.now.topic.now) state.new given.items) }
+        → IsSubscribed (record { old = state.old; new = state.new; given = given.items })
+        (record { conn = asked.now.conn; request = asked.now.request })
+        (get_retained_of asked.now.options.now) w
+        (pattern_of asked.now.options.now asked.now.topic.now)) }
     ensures unchanged { OnErr result (state.new ≡ state.old) }
 {
     let pattern = match pattern_of(alloc, asked.options, asked.topic)? {
@@ -184,8 +185,8 @@ fn hold(
     retained: Vec<Shared<Publication>>,
 ) -> Result<Given, Fault>
     ensures ok { IfOk result (λ given.
-        IsHeld state.old asked.now.conn asked.now.request pattern retained.items state.new
-        given.items) }
+        IsHeld (record { old = state.old; new = state.new; given = given.items })
+        (record { conn = asked.now.conn; request = asked.now.request }) pattern retained.items) }
     ensures unchanged { OnErr result (state.new ≡ state.old) }
 {
     let policy = pattern.policy();
@@ -219,7 +220,8 @@ pub fn unsubscribe(
     subscription: Id,
 ) -> Result<Given, Fault>
     ensures ok { IfOk result (λ given.
-        IsUnsubscribed state.old conn request subscription state.new given.items) }
+        IsUnsubscribed (record { old = state.old; new = state.new; given = given.items })
+        (record { conn = conn; request = request }) subscription) }
     ensures unchanged { OnErr result (state.new ≡ state.old) }
 {
     let mut given = Vec::with_capacity(alloc, 1)?;

@@ -24,6 +24,17 @@ use Rattle.realm.specs.Yield.{names_topic, unsubscribe_reply}
 use Rattle.realm.specs.body.Outputs.{all_for, all_events, put_before, put_first}
 use Rattle.realm.specs.body.LiveSessions.{session_of, others, added}
 
+-- what is kept before an entry and after it, and what it gives
+pub record Turn : Type 0 where
+  pub old : State
+  pub new : State
+  pub given : List (ℕ × Item)
+
+-- who asks, and by which request
+pub record Asking : Type 0 where
+  pub conn : ℕ
+  pub request : ℕ
+
 -- after the session of c ended
 abbrev pub ended : State → ℕ → State
 ended s c = record s {
@@ -63,9 +74,9 @@ abbrev pub stored : State → Made → List Publication
 stored s made = cond made.retained (set_topic made.publication s.store) s.store
 
 -- the answer to a PUBLISH, and what is kept after it
-abbrev pub IsPublished : State → ℕ → ℕ → Option Bool → Result Made Reason → State → List (ℕ × Item) → Type 0
-IsPublished s c request acknowledge (Err reason) t given = (given ≡ refused c request acknowledge reason) × (t ≡ s)
-IsPublished s c request acknowledge (Ok made) t given = (given ≡ told s c request acknowledge made.publication) × (t ≡ record s { store = stored s made })
+abbrev pub IsPublished : Turn → Asking → Option Bool → Result Made Reason → Type 0
+IsPublished t a acknowledge (Err reason) = (t.given ≡ refused a.conn a.request acknowledge reason) × (t.new ≡ t.old)
+IsPublished t a acknowledge (Ok made) = (t.given ≡ told t.old a.conn a.request acknowledge made.publication) × (t.new ≡ record t.old { store = stored t.old made })
 
 -- the EVENT of what is retained
 abbrev pub retained_event : ℕ → Policy → Publication → Item
@@ -76,28 +87,29 @@ abbrev pub wanted : List Publication → Option Bool → PatternText → Who →
 wanted store (Some true) pattern w = filter (λ p. admits p w) (filter (λ p. matches pattern p.topic) store)
 wanted store _ pattern w = []
 
-abbrev pub held_by : State → ℕ → ℕ → PatternText → List Publication → Option (ℕ × Held) → State → List (ℕ × Item) → Type 0
-held_by s c request pattern retained None t given = (given ≡ all_for c (Error kind.Subscribe request TooManySubscriptions ∷ [])) × (t ≡ s)
-held_by s c request pattern retained (Some held) t given =
-    (given ≡ all_for c (Subscribed request held.0 ∷ map (retained_event held.0 pattern.policy) retained)) × (t ≡ record s { index = held.1 })
+abbrev pub held_by : Turn → Asking → PatternText → List Publication → Option (ℕ × Held) → Type 0
+held_by t a pattern retained None = (t.given ≡ all_for a.conn (Error kind.Subscribe a.request TooManySubscriptions ∷ [])) × (t.new ≡ t.old)
+held_by t a pattern retained (Some held) =
+    (t.given ≡ all_for a.conn (Subscribed a.request held.0 ∷ map (retained_event held.0 pattern.policy) retained)) × (t.new ≡ record t.old { index = held.1 })
 
 -- the answer to a SUBSCRIBE of the pattern, with these retained publications, and what is kept after it
-abbrev pub IsHeld : State → ℕ → ℕ → PatternText → List Publication → State → List (ℕ × Item) → Type 0
-IsHeld s c request pattern retained t given = held_by s c request pattern retained (subscribed s.index c pattern) t given
+abbrev pub IsHeld : Turn → Asking → PatternText → List Publication → Type 0
+IsHeld t a pattern retained = held_by t a pattern retained (subscribed t.old.index a.conn pattern)
 
 -- the answer to a SUBSCRIBE, and what is kept after it
-abbrev pub IsSubscribed : State → ℕ → ℕ → Option Bool → Who → Result PatternText Reason → State → List (ℕ × Item) → Type 0
-IsSubscribed s c request get_retained w (Err reason) t given = (given ≡ all_for c (Error kind.Subscribe request reason ∷ [])) × (t ≡ s)
-IsSubscribed s c request get_retained w (Ok pattern) t given = IsHeld s c request pattern (wanted s.store get_retained pattern w) t given
+abbrev pub IsSubscribed : Turn → Asking → Option Bool → Who → Result PatternText Reason → Type 0
+IsSubscribed t a get_retained w (Err reason) = (t.given ≡ all_for a.conn (Error kind.Subscribe a.request reason ∷ [])) × (t.new ≡ t.old)
+IsSubscribed t a get_retained w (Ok pattern) = IsHeld t a pattern (wanted t.old.store get_retained pattern w)
 
 abbrev pub released : State → ℕ → ℕ → Bool → State
 released s c n true = record s { index = record { rows = without s.index.rows c n; opened = s.index.opened } }
 released s c n false = s
 
 -- the answer to an UNSUBSCRIBE, and what is kept after it
-abbrev pub IsUnsubscribed : State → ℕ → ℕ → ℕ → State → List (ℕ × Item) → Type 0
-IsUnsubscribed s c request n t given =
-    (given ≡ all_for c (unsubscribe_reply request (holds_number s.index.rows c n) ∷ [])) × (t ≡ released s c n (holds_number s.index.rows c n))
+abbrev pub IsUnsubscribed : Turn → Asking → ℕ → Type 0
+IsUnsubscribed t a n =
+    (t.given ≡ all_for a.conn (unsubscribe_reply a.request (holds_number t.old.index.rows a.conn n) ∷ []))
+    × (t.new ≡ released t.old a.conn n (holds_number t.old.index.rows a.conn n))
 
 -- ABORT, or WELCOME and what the others are given for the arrival
 abbrev pub welcomed : State → ℕ → ℕ → Result Who Reason → List (ℕ × Item)
@@ -105,15 +117,16 @@ welcomed s c word (Err reason) = all_for c (Abort reason ∷ [])
 welcomed s c word (Ok w) = put_before c (Welcome w) (all_events s.sessions s.index.rows (arrival word w))
 
 -- the answer to a Join, and what is kept after it
-abbrev pub IsJoined : State → ℕ → ℕ → Result Who Reason → State → List (ℕ × Item) → Type 0
-IsJoined s c word r t given = (given ≡ welcomed s c word r) × (t ≡ joined_by s c r)
+abbrev pub IsJoined : Turn → ℕ → ℕ → Result Who Reason → Type 0
+IsJoined t c word r = (t.given ≡ welcomed t.old c word r) × (t.new ≡ joined_by t.old c r)
 
 -- the session of c has ended: what c is given last, what the others are given for the departure, and what is kept after it
-abbrev pub HasLeft : State → ℕ → ℕ → Option Item → State → List (ℕ × Item) → Type 0
-HasLeft s c word last t given =
-    ((w : Who) → session_of s.sessions c ≡ Some w → given ≡ put_first c last (all_events s.sessions s.index.rows (departure word w))) × (t ≡ ended s c)
+abbrev pub HasLeft : Turn → ℕ → ℕ → Option Item → Type 0
+HasLeft t c word last =
+    ((w : Who) → session_of t.old.sessions c ≡ Some w → t.given ≡ put_first c last (all_events t.old.sessions t.old.index.rows (departure word w)))
+    × (t.new ≡ ended t.old c)
 
 -- the session of c was cut: as one that has left, or, without a word, so that nobody is told
-abbrev pub HasBeenCut : State → ℕ → Option ℕ → State → List (ℕ × Item) → Type 0
-HasBeenCut s c None t given = (given ≡ []) × (t ≡ ended s c)
-HasBeenCut s c (Some word) t given = HasLeft s c word None t given
+abbrev pub HasBeenCut : Turn → ℕ → Option ℕ → Type 0
+HasBeenCut t c None = (t.given ≡ []) × (t.new ≡ ended t.old c)
+HasBeenCut t c (Some word) = HasLeft t c word None
