@@ -5,7 +5,7 @@ use Rattle.rawsocket.proofs.Lemmas.{nothing_grown, grown_further}
 use Rattle.broker_server.specs.Lines.{joined, lines_of}
 use Rattle.broker_server.specs.Progress.{Completes, Goes, IsAllTold, IsBadAt, IsToldOf, IsWhole, Stops, ReplayInput}
 use Rattle.realm.specs.Grants.{Grants}
-use Rattle.broker_server.specs.Outcome.{BeginsReplay, FromRealm, IsFresh, IsReplayed, StopsAt}
+use Rattle.broker_server.specs.Outcome.{BeginsReplay, FromRealm, IsFresh, IsReplayed, StopsAt, Streams}
 use Rattle.broker_server.specs.Transcript.{IsTranscript, Replay, nothing, starting}
 use Rattle.broker_server.proofs.TranscriptSteps.{count-le}
 
@@ -81,7 +81,7 @@ module _ (t u : ReplayInput) (given_before given taken_before taken : List ℕ) 
     bound = midst.bound;
   })
 
-  pub Midst-all : (v : ReplayInput) → Completes u v → IsReplayed t.replay given_before given taken_before taken v.out
+  pub Midst-all : (v : ReplayInput) → Completes u v → IsReplayed t.replay (record { given_before = given_before; given = given; taken_before = taken_before; taken = taken }) v.out
   Midst-all v completes = record {
     input = midst.input;
     written = midst.written;
@@ -90,7 +90,7 @@ module _ (t u : ReplayInput) (given_before given taken_before taken : List ℕ) 
     told = completes t.replay midst.input midst.written midst.told;
   }
 
-  pub Midst-stops : (v : ReplayInput) (piece given_after : List ℕ) (ended : Bool) (k : ℕ) → given_after ≡ given ++ piece → Stops u piece ended k v → StopsAt t.replay given_before given_after ended taken_before taken v.out k
+  pub Midst-stops : (v : ReplayInput) (piece given_after : List ℕ) (ended : Bool) (k : ℕ) → given_after ≡ given ++ piece → Stops u piece ended k v → StopsAt t.replay (record { given_before = given_before; given = given_after; taken_before = taken_before; taken = taken }) ended v.out k
   Midst-stops v piece given_after ended k more stops = record {
     input = midst.input ++ piece;
     written = midst.written;
@@ -101,7 +101,7 @@ module _ (t u : ReplayInput) (given_before given taken_before taken : List ℕ) 
 
   -- of what the lines give that were told a beginning was written, and more octets were read
   pub Midst-begun : (piece given_after taken_after : List ℕ) (ended : Bool) → given_after ≡ given ++ piece → GrowsByBeginning taken taken_after u.out
-      → BeginsReplay t.replay given_before given_after ended taken_before taken_after
+      → BeginsReplay t.replay (record { given_before = given_before; given = given_after; taken_before = taken_before; taken = taken_after }) ended
   Midst-begun piece given_after taken_after ended more grown = record {
     input = midst.input ++ piece;
     lines = midst.told.lines;
@@ -123,9 +123,8 @@ whole-weaker bad [] ended (inr never) = absurd (cc)
 whole-weaker bad (c ∷ rest) ended whole = whole
 
 -- a line that is bad before the end is bad
-pub StopsAt-weaker : (start : Replay) (given_before given taken_before taken left : List ℕ) (ended : Bool) (k : ℕ)
-    → StopsAt start given_before given false taken_before taken left k → StopsAt start given_before given ended taken_before taken left k
-StopsAt-weaker start given_before given taken_before taken left ended k at = record {
+pub StopsAt-weaker : (start : Replay) (s : Streams) (left : List ℕ) (ended : Bool) (k : ℕ) → StopsAt start s false left k → StopsAt start s ended left k
+StopsAt-weaker start s left ended k at = record {
   input = at.input;
   written = at.written;
   read = at.read;
@@ -146,28 +145,28 @@ StopsAt-weaker start given_before given taken_before taken left ended k at = rec
 }
 
 -- what is left is written
-pub IsReplayed-written : (start : Replay) (given_before given taken_before taken left taken_after : List ℕ) → taken_after ≡ taken ++ left
-    → IsReplayed start given_before given taken_before taken left → IsReplayed start given_before given taken_before taken_after []
-IsReplayed-written start given_before given taken_before taken left taken_after more all = record {
+pub IsReplayed-written : (start : Replay) (s : Streams) (left taken_after : List ℕ) → taken_after ≡ s.taken ++ left
+    → IsReplayed start s left → IsReplayed start (record s { taken = taken_after }) []
+IsReplayed-written start s left taken_after more all = record {
   input = all.input;
   written = all.written ++ left;
   read = all.read;
-  wrote = more ∙ (ap (λ w. w ++ left) all.wrote ∙ append_assoc taken_before all.written left);
+  wrote = more ∙ (ap (λ w. w ++ left) all.wrote ∙ append_assoc s.taken_before all.written left);
   told = subst (λ o. IsAllTold start all.input o) (sym (append-nil (all.written ++ left))) all.told;
 }
 
-pub StopsAt-written : (start : Replay) (given_before given taken_before taken left taken_after : List ℕ) (ended : Bool) (k : ℕ) → taken_after ≡ taken ++ left
-    → StopsAt start given_before given ended taken_before taken left k → StopsAt start given_before given ended taken_before taken_after [] k
-StopsAt-written start given_before given taken_before taken left taken_after ended k more at = record {
+pub StopsAt-written : (start : Replay) (s : Streams) (left taken_after : List ℕ) (ended : Bool) (k : ℕ) → taken_after ≡ s.taken ++ left
+    → StopsAt start s ended left k → StopsAt start (record s { taken = taken_after }) ended [] k
+StopsAt-written start s left taken_after ended k more at = record {
   input = at.input;
   written = at.written ++ left;
   read = at.read;
-  wrote = more ∙ (ap (λ w. w ++ left) at.wrote ∙ append_assoc taken_before at.written left);
+  wrote = more ∙ (ap (λ w. w ++ left) at.wrote ∙ append_assoc s.taken_before at.written left);
   bad = subst (λ o. IsBadAt start at.input ended k o) (sym (append-nil (at.written ++ left))) at.bad;
 }
 
 -- nothing was read, and nothing written
-pub begun-start : (start : Replay) (given taken : List ℕ) (ended : Bool) → BeginsReplay start given given ended taken taken
+pub begun-start : (start : Replay) (given taken : List ℕ) (ended : Bool) → BeginsReplay start (record { given_before = given; given = given; taken_before = taken; taken = taken }) ended
 begun-start start given taken ended = record {
   input = [];
   lines = [];
@@ -180,9 +179,9 @@ begun-start start given taken ended = record {
 }
 
 -- of what is left a beginning is written
-pub IsReplayed-begun : (start : Replay) (given_before given taken_before taken left taken_after : List ℕ) (ended : Bool) → ended ≡ true → GrowsByBeginning taken taken_after left
-    → IsReplayed start given_before given taken_before taken left → BeginsReplay start given_before given ended taken_before taken_after
-IsReplayed-begun start given_before given taken_before taken left taken_after ended at_end grown all = record {
+pub IsReplayed-begun : (start : Replay) (s : Streams) (left taken_after : List ℕ) (ended : Bool) → ended ≡ true → GrowsByBeginning s.taken taken_after left
+    → IsReplayed start s left → BeginsReplay start (record s { taken = taken_after }) ended
+IsReplayed-begun start s left taken_after ended at_end grown all = record {
   input = all.input;
   lines = lines_of all.input;
   next = all.told.next;
@@ -190,12 +189,12 @@ IsReplayed-begun start given_before given taken_before taken left taken_after en
   read = all.read;
   whole = inr (at_end, refl);
   transcript = all.told.transcript;
-  wrote = grown_further taken_before taken taken_after all.written left all.wrote grown;
+  wrote = grown_further s.taken_before s.taken taken_after all.written left all.wrote grown;
 }
 
-pub StopsAt-begun : (start : Replay) (given_before given taken_before taken left taken_after : List ℕ) (ended : Bool) (k : ℕ) → GrowsByBeginning taken taken_after left
-    → StopsAt start given_before given ended taken_before taken left k → BeginsReplay start given_before given ended taken_before taken_after
-StopsAt-begun start given_before given taken_before taken left taken_after ended k grown at = record {
+pub StopsAt-begun : (start : Replay) (s : Streams) (left taken_after : List ℕ) (ended : Bool) (k : ℕ) → GrowsByBeginning s.taken taken_after left
+    → StopsAt start s ended left k → BeginsReplay start (record s { taken = taken_after }) ended
+StopsAt-begun start s left taken_after ended k grown at = record {
   input = at.input;
   lines = at.bad.good;
   next = at.bad.next;
@@ -203,7 +202,7 @@ StopsAt-begun start given_before given taken_before taken left taken_after ended
   read = at.read;
   whole = inl (record { rest = at.bad.bad ++ at.bad.rest; split = at.bad.split; clean = at.bad.good_clean });
   transcript = at.bad.transcript;
-  wrote = grown_further taken_before taken taken_after at.written left at.wrote grown;
+  wrote = grown_further s.taken_before s.taken taken_after at.written left at.wrote grown;
 }
 
 pub from-any : (realms : List (List ℕ)) (grants : Grants) (P : Replay → Type 0) → ((start : Replay) → P start) → FromRealm realms grants P

@@ -15,20 +15,27 @@ pub record IsFresh (t : ReplayInput) : Type 0 where
   pub count : t.count ≡ 0
   pub out : t.out ≡ []
 
+-- what an input had given before and has given now, and what an output had taken before and has taken now
+pub record Streams : Type 0 where
+  pub given_before : List ℕ
+  pub given : List ℕ
+  pub taken_before : List ℕ
+  pub taken : List ℕ
+
 -- what was read is this input, and what was written, followed by what is to be written, is its transcript
-pub record IsReplayed (start : Replay) (given_before given taken_before taken left : List ℕ) : Type 0 where
+pub record IsReplayed (start : Replay) (s : Streams) (left : List ℕ) : Type 0 where
   pub input : List ℕ
   pub written : List ℕ
-  pub read : given ≡ given_before ++ input
-  pub wrote : taken ≡ taken_before ++ written
+  pub read : s.given ≡ s.given_before ++ input
+  pub wrote : s.taken ≡ s.taken_before ++ written
   pub told : IsAllTold start input (written ++ left)
 
 -- what was read has a first bad line, and what was written, followed by what is to be written, is the transcript of the lines before it
-pub record StopsAt (start : Replay) (given_before given : List ℕ) (ended : Bool) (taken_before taken left : List ℕ) (k : ℕ) : Type 0 where
+pub record StopsAt (start : Replay) (s : Streams) (ended : Bool) (left : List ℕ) (k : ℕ) : Type 0 where
   pub input : List ℕ
   pub written : List ℕ
-  pub read : given ≡ given_before ++ input
-  pub wrote : taken ≡ taken_before ++ written
+  pub read : s.given ≡ s.given_before ++ input
+  pub wrote : s.taken ≡ s.taken_before ++ written
   pub bad : IsBadAt start input ended k (written ++ left)
 
 -- the input begins with these lines, each ended by LF
@@ -42,15 +49,15 @@ abbrev pub AreWhole : List (List ℕ) → List ℕ → Bool → Type 0
 AreWhole lines input ended = BeginsWith lines input ⊎ ((ended ≡ true) × (lines ≡ lines_of input))
 
 -- of the transcript of the first whole lines that were read a beginning was written
-pub record BeginsReplay (start : Replay) (given_before given : List ℕ) (ended : Bool) (taken_before taken : List ℕ) : Type 0 where
+pub record BeginsReplay (start : Replay) (s : Streams) (ended : Bool) : Type 0 where
   pub input : List ℕ
   pub lines : List (List ℕ)
   pub next : Replay
   pub out : List ℕ
-  pub read : given ≡ given_before ++ input
+  pub read : s.given ≡ s.given_before ++ input
   pub whole : AreWhole lines input ended
   pub transcript : IsTranscript start lines next out
-  pub wrote : GrowsByBeginning taken_before taken out
+  pub wrote : GrowsByBeginning s.taken_before s.taken out
 
 -- a fault has its cause: that a read failed, that a write failed, that all turns were used up; it is never `Usage` or `ListenFault`
 abbrev pub HasCause : Type 0 → Type 0 → Type 0 → Fault → Type 0

@@ -23,15 +23,25 @@ fn replay_all<I: Source, O: Sink>(
     requires fresh { IsFresh told.old }
     requires wide { length buffer.old ≡ 65536 }
     ensures ended { OnOk result (I.is_ended source.new ≡ true) }
-    ensures told { OnOk result (IsReplayed
-        told.old.replay (I.given source.old) (I.given source.new) (O.taken sink.old)
-        (O.taken sink.new) told.new.out) }
+    ensures told { OnOk result (IsReplayed told.old.replay (record {
+      given_before = I.given source.old;
+      given = I.given source.new;
+      taken_before = O.taken sink.old;
+      taken = O.taken sink.new;
+    }) told.new.out) }
     ensures bad { (k : ℕ) → result ≡ Err (Fault.BadLine k)
-        → StopsAt told.old.replay (I.given source.old) (I.given source.new) (I.is_ended source.new)
-        (O.taken sink.old) (O.taken sink.new) told.new.out k }
-    ensures begun { OnErr result (BeginsReplay
-        told.old.replay (I.given source.old) (I.given source.new) (I.is_ended source.new)
-        (O.taken sink.old) (O.taken sink.new)) }
+        → StopsAt told.old.replay (record {
+          given_before = I.given source.old;
+          given = I.given source.new;
+          taken_before = O.taken sink.old;
+          taken = O.taken sink.new;
+        }) (I.is_ended source.new) told.new.out k }
+    ensures begun { OnErr result (BeginsReplay told.old.replay (record {
+      given_before = I.given source.old;
+      given = I.given source.new;
+      taken_before = O.taken sink.old;
+      taken = O.taken sink.new;
+    }) (I.is_ended source.new)) }
     ensures reads { WholeSteps (meter (I.calls source.old) (I.failures source.old))
         (meter (I.calls source.new) (I.failures source.new)) (told_by read_told result) }
     ensures writes { Steps (meter (O.calls sink.old) (O.failures sink.old) writing.old)
@@ -74,15 +84,25 @@ fn replay_to_end<I: Source, O: Sink>(
     requires fresh { IsFresh told.old }
     requires wide { length buffer.old ≡ 65536 }
     ensures ended { OnOk result (I.is_ended source.new ≡ true) }
-    ensures told { OnOk result (IsReplayed
-        told.old.replay (I.given source.old) (I.given source.new) (O.taken sink.old)
-        (O.taken sink.new) []) }
+    ensures told { OnOk result (IsReplayed told.old.replay (record {
+      given_before = I.given source.old;
+      given = I.given source.new;
+      taken_before = O.taken sink.old;
+      taken = O.taken sink.new;
+    }) []) }
     ensures bad { (k : ℕ) → result ≡ Err (Fault.BadLine k)
-        → StopsAt told.old.replay (I.given source.old) (I.given source.new) (I.is_ended source.new)
-        (O.taken sink.old) (O.taken sink.new) [] k }
-    ensures begun { OnErr result (BeginsReplay
-        told.old.replay (I.given source.old) (I.given source.new) (I.is_ended source.new)
-        (O.taken sink.old) (O.taken sink.new)) }
+        → StopsAt told.old.replay (record {
+          given_before = I.given source.old;
+          given = I.given source.new;
+          taken_before = O.taken sink.old;
+          taken = O.taken sink.new;
+        }) (I.is_ended source.new) [] k }
+    ensures begun { OnErr result (BeginsReplay told.old.replay (record {
+      given_before = I.given source.old;
+      given = I.given source.new;
+      taken_before = O.taken sink.old;
+      taken = O.taken sink.new;
+    }) (I.is_ended source.new)) }
     ensures reads { WholeSteps (meter (I.calls source.old) (I.failures source.old))
         (meter (I.calls source.new) (I.failures source.new)) (told_by read_told result) }
     ensures writes { WholeSteps (meter (O.calls sink.old) (O.failures sink.old))
@@ -126,17 +146,28 @@ pub fn replay<I: Source, O: Sink>(
     ensures ended { OnOk result (I.is_ended source.new ≡ true) }
     ensures told { OnOk result (FromRealm
         config.now.realms.items (bytes_of config.now.grants.items)
-        (λ start. IsReplayed
-        start (I.given source.old) (I.given source.new) (O.taken sink.old) (O.taken sink.new) [])) }
+        (λ start. IsReplayed start (record {
+          given_before = I.given source.old;
+          given = I.given source.new;
+          taken_before = O.taken sink.old;
+          taken = O.taken sink.new;
+        }) [])) }
     ensures bad { (k : ℕ) → result ≡ Err (Fault.BadLine k)
         → FromRealm config.now.realms.items (bytes_of config.now.grants.items)
-        (λ start. StopsAt start (I.given source.old) (I.given source.new) (I.is_ended source.new)
-        (O.taken sink.old) (O.taken sink.new) [] k) }
+        (λ start. StopsAt start (record {
+          given_before = I.given source.old;
+          given = I.given source.new;
+          taken_before = O.taken sink.old;
+          taken = O.taken sink.new;
+        }) (I.is_ended source.new) [] k) }
     ensures begun { OnErr result (FromRealm
         config.now.realms.items (bytes_of config.now.grants.items)
-        (λ start. BeginsReplay
-        start (I.given source.old) (I.given source.new) (I.is_ended source.new) (O.taken sink.old)
-        (O.taken sink.new))) }
+        (λ start. BeginsReplay start (record {
+          given_before = I.given source.old;
+          given = I.given source.new;
+          taken_before = O.taken sink.old;
+          taken = O.taken sink.new;
+        }) (I.is_ended source.new))) }
     ensures reads { WholeSteps (meter (I.calls source.old) (I.failures source.old))
         (meter (I.calls source.new) (I.failures source.new)) (told_by read_told result) }
     ensures writes { WholeSteps (meter (O.calls sink.old) (O.failures sink.old))

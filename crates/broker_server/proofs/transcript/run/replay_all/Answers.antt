@@ -39,7 +39,7 @@ pieces-preserved g c =
 
 pub returns-in-Err-feed-clause-bad : goal.returns-in-Err-feed-clause-bad
 returns-in-Err-feed-clause-bad g c = λ k is.
-    StopsAt-weaker c.args.told.now.replay (g.I.Source.given c.args.source.now) (g.I.Source.given c.read_piece.new.source) (g.O.Sink.taken c.args.sink.now) (g.O.Sink.taken c.pieces.sink) c.feed.new.self.out
+    StopsAt-weaker c.args.told.now.replay (record { given_before = g.I.Source.given c.args.source.now; given = g.I.Source.given c.read_piece.new.source; taken_before = g.O.Sink.taken c.args.sink.now; taken = g.O.Sink.taken c.pieces.sink }) c.feed.new.self.out
     (g.I.Source.is_ended c.read_piece.new.source) k
     (Midst-stops c.args.told.now c.pieces.told (g.I.Source.given c.args.source.now) (g.I.Source.given c.pieces.source) (g.O.Sink.taken c.args.sink.now) (g.O.Sink.taken c.pieces.sink) c.pieces.reading c.pieces.invariant.midst c.feed.new.self (take c.in-Ok.count c.read_piece.new.buffer) (g.I.Source.given c.read_piece.new.source) false k c.in-Ok.ensures.given (c.in-Err-feed.ensures.bad k is))
 
@@ -121,6 +121,6 @@ returns-in-Err-write_rest-clause-begun g c =
 
 pub returns-in-Err-clause-bad : goal.returns-in-Err-clause-bad
 returns-in-Err-clause-bad g c = λ k is.
-    subst (λ ended. StopsAt c.args.told.now.replay (g.I.Source.given c.args.source.now) (g.I.Source.given c.read_piece.new.source) ended (g.O.Sink.taken c.args.sink.now) (g.O.Sink.taken c.pieces.sink) c.finish.new.self.out k)
+    subst (λ ended. StopsAt c.args.told.now.replay (record { given_before = g.I.Source.given c.args.source.now; given = g.I.Source.given c.read_piece.new.source; taken_before = g.O.Sink.taken c.args.sink.now; taken = g.O.Sink.taken c.pieces.sink }) ended c.finish.new.self.out k)
     (sym (c.in-Err-Ended.ensures.ended (ap Err c.in-Err-Ended.field-0-is)))
     (Midst-stops c.args.told.now c.pieces.told (g.I.Source.given c.args.source.now) (g.I.Source.given c.pieces.source) (g.O.Sink.taken c.args.sink.now) (g.O.Sink.taken c.pieces.sink) c.pieces.reading c.pieces.invariant.midst c.finish.new.self [] (g.I.Source.given c.read_piece.new.source) true k (c.in-Err-Ended.ensures.kept ∙ sym (append-nil (g.I.Source.given c.pieces.source))) (c.in-Err.ensures.bad k is))
