@@ -91,7 +91,8 @@ impl<S: Shut, W: IdSource> State<S, W> {
         requires none { NoneFull self.old.table.rows.items }
         requires own { joining.outbox.conn ≡ conn }
         ensures outcome { Acts result conn (AJoin joining)
-            (working (W.given self.old.words) self.old) (working (W.given self.new.words) self.new) }
+            (working (W.given self.old.words) self.old)
+            (working (W.given self.new.words) self.new) }
         ensures same { result ≡ Dropped → self.new ≡ self.old }
         ensures exact { may_join self.old.table.realm conn ≡ false → result ≡ Dropped }
         ensures last_cut { self.new.last_cut.items ≡ self.old.last_cut.items }

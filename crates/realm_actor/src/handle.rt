@@ -24,7 +24,8 @@ impl<S: Shut, W: IdSource> State<S, W> {
         requires sound { Sound self.old.table.realm self.old.table.rows.items }
         requires none { NoneFull self.old.table.rows.items }
         ensures outcome { Acts result letter.conn letter.act
-            (working (W.given self.old.words) self.old) (working (W.given self.new.words) self.new) }
+            (working (W.given self.old.words) self.old)
+            (working (W.given self.new.words) self.new) }
         ensures same { result ≡ Dropped → self.new ≡ self.old }
         ensures exact { is_dropped self.old.table.realm letter.conn letter.act ≡ true
             → result ≡ Dropped }
