@@ -1,7 +1,7 @@
 //! The two ends of a connection (WAMP, "RawSocket Transport"): what its reader posts of the octets that come, what its writer
 //! writes of the items that are owed, and the seats that connections sit at.
 //!
-//! [`read_posts`] and [`write_items`] run in a thread each, and end only where their stream or the other threads make them. Each
+//! [`read_posts`] and [`write_items`] run in a thread each, and end where their stream, the other threads or want of memory make them. Each
 //! says by its end what was posted, or written, of all that it read, or took. By an [`EncodingPoster`] a reader posts what is encoded
 //! once for many receivers.
 //!

@@ -2,5 +2,5 @@
 pub mod Worlds
 pub mod PostedOrder
 pub mod Delivery
--- What only the body and its proofs speak of.
+-- What the body and its proofs speak of; clauses cite of it only when a world is at rest, and what one entry gives it.
 pub mod body
