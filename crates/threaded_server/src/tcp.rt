@@ -122,10 +122,7 @@ impl<R: Clock + Drop> Acceptor for TcpAcceptor<R> {
         &mut self,
         alloc: Global,
         stream: TcpStream,
-    ) -> Result<
-        Parts<ReadSource<TcpHandle>, WriteSink<TcpHandle>, TcpHandle>,
-        AllocError,
-    > {
+    ) -> Result<Parts<ReadSource<TcpHandle>, WriteSink<TcpHandle>, TcpHandle>, AllocError> {
         let _ = stream.set_nodelay(true);
         let shut = TcpHandle {
             stream: Arc::new(alloc, stream)?,
