@@ -7,7 +7,7 @@ use rawsocket::devices::{ReadSource, WriteSink};
 use realm_inbox::GhostList;
 use std::alloc::{AllocError, Global};
 use std::collections::VecDeque;
-use std::io::{self, BufWriter};
+use std::io;
 use std::net::{Net, SocketAddr, TcpListener, TcpStream};
 use std::snapshot::Snapshot;
 use std::time::Clock;
@@ -82,7 +82,7 @@ impl<R: Net<Stream = TcpStream, Listener = TcpListener> + Clock + Copy + Drop> A
 
     type Source = ReadSource<TcpHandle>;
 
-    type Sink = WriteSink<BufWriter<TcpHandle>>;
+    type Sink = WriteSink<TcpHandle>;
 
     type Shut = TcpHandle;
 
@@ -98,10 +98,7 @@ impl<R: Net<Stream = TcpStream, Listener = TcpListener> + Clock + Copy + Drop> A
         &mut self,
         alloc: Global,
         stream: TcpStream,
-    ) -> Result<
-        Parts<ReadSource<TcpHandle>, WriteSink<BufWriter<TcpHandle>>, TcpHandle>,
-        AllocError,
-    > {
+    ) -> Result<Parts<ReadSource<TcpHandle>, WriteSink<TcpHandle>, TcpHandle>, AllocError> {
         self.sockets.tcp.split(alloc, stream)
     }
 
