@@ -82,7 +82,7 @@ impl Room {
         requires least { 1 ≤ cap }
         requires most { cap ≤ 65536 }
     {
-        self.seating.seat(alloc, conn)?;
+        self.seating.seat(conn)?;
         match self.seating.join(rt, alloc, conn, cap, authid)? {
             None => Ok(None),
             Some(entered) => Ok(Some(self.enter(rt, alloc, conn, entered)?)),
@@ -116,7 +116,7 @@ impl Room {
     ) -> io::Result<Option<Outcome>>
         requires { is_join act ≡ false }
     {
-        self.seating.seat(alloc, conn)?;
+        self.seating.seat(conn)?;
         if !self.seating.post(rt, conn, act) {
             return Ok(None);
         }

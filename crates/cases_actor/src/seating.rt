@@ -75,11 +75,11 @@ impl Seating {
     }
 
     // Makes the connection's poster at its seat. False where that isn't free.
-    fn sit(&mut self, alloc: Global, conn: Conn) -> io::Result<bool> {
+    fn sit(&mut self, conn: Conn) -> io::Result<bool> {
         let Some(at) = self.take_seat(seat(conn)) else {
             return Ok(false);
         };
-        match self.door.poster_at(alloc, at, conn) {
+        match at.into_poster(conn) {
             Ok(poster) => {
                 self.posters.push(poster)?;
                 Ok(true)
@@ -92,11 +92,11 @@ impl Seating {
     }
 
     /// Sees that the connection has a poster. False where it has none, and its seat isn't free.
-    pub fn seat(&mut self, alloc: Global, conn: Conn) -> io::Result<bool> {
+    pub fn seat(&mut self, conn: Conn) -> io::Result<bool> {
         if self.place_of(conn).is_some() {
             return Ok(true);
         }
-        self.sit(alloc, conn)
+        self.sit(conn)
     }
 
     /// The connection's poster gives its seat back. False where it has none.

@@ -75,9 +75,9 @@ pub fn tell_act(out: &mut String, act: &Act<Wire>) -> io::Result<()> {
 }
 
 fn tell_letter(out: &mut String, letter: &Letter<Wire>) -> io::Result<()> {
-    let conn = letter.conn.value();
+    let conn = letter.conn().value();
     write!(out, "{conn} ")?;
-    tell_act(out, &letter.act)
+    tell_act(out, letter.act())
 }
 
 /// What was received, as a line.
@@ -85,7 +85,7 @@ pub fn told(alloc: Global, received: Option<Post<Wire>>) -> io::Result<String> {
     let mut line = String::new(alloc);
     match &received {
         None => line.push_str("none")?,
-        Some(Post::Stop) => line.push_str("stop")?,
+        Some(Post::Stop(_)) => line.push_str("stop")?,
         Some(Post::Act(letter)) => tell_letter(&mut line, letter)?,
     }
     line.push('\n')?;

@@ -188,7 +188,7 @@ fn of_conn<R: Wait>(
         return line_of(alloc, "no case has this word");
     };
     match word {
-        "poster" => done(alloc, room.seat_poster(alloc, conn)?, "its seat isn't free"),
+        "poster" => done(alloc, room.seat_poster(conn)?, "its seat isn't free"),
         "leave" => done(alloc, room.leave(conn)?, "no poster"),
         "join" => join(rt, alloc, room, conn, rest),
         _ => act(rt, alloc, room, conn, (word, rest)),

@@ -56,15 +56,12 @@ impl Room {
         Some(self.posters.swap_remove(at))
     }
 
-    /// Makes a connection's poster at its seat. False where there is no door, or the seat isn't free.
-    pub fn seat_poster(&mut self, alloc: Global, conn: Conn) -> io::Result<bool> {
+    /// Makes a connection's poster at its seat. False where that isn't free.
+    pub fn seat_poster(&mut self, conn: Conn) -> io::Result<bool> {
         let Some(at) = self.take_seat(seat(conn)) else {
             return Ok(false);
         };
-        let Some(door) = &self.door else {
-            return Ok(false);
-        };
-        match door.poster_at(alloc, at, conn) {
+        match at.into_poster(conn) {
             Ok(poster) => {
                 self.posters.push(poster)?;
                 Ok(true)

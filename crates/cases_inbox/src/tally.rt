@@ -52,11 +52,12 @@ pub struct Received {
 impl Received {
     pub fn sees(&mut self, post: &Post<Wire>) {
         let is_counted = match post {
-            Post::Stop => false,
-            Post::Act(letter) => match &letter.act {
+            Post::Stop(_) => false,
+            Post::Act(letter) => match letter.act() {
                 Act::Ping(octets) => {
                     let payload = octets.as_slice();
-                    self.first.sees(letter.conn, payload) || self.second.sees(letter.conn, payload)
+                    self.first.sees(letter.conn(), payload)
+                        || self.second.sees(letter.conn(), payload)
                 }
                 _ => false,
             },

@@ -70,8 +70,7 @@ struct Both {
 
 fn work_of(room: &mut Room, alloc: Global, conn: Conn, count: u64) -> Option<Numbered> {
     let at = room.take_seat(seat(conn))?;
-    let door = room.door.as_ref()?;
-    let poster = door.poster_at(alloc, at, conn).ok()?;
+    let poster = at.into_poster(conn).ok()?;
     Some(Numbered {
         poster,
         count,

@@ -1,1 +1,3 @@
+pub mod Posts
+pub mod Desks
 pub mod Sides

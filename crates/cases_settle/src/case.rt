@@ -50,8 +50,8 @@ fn step<R: Wait>(
 ) -> io::Result<String> {
     let (word, text) = words;
     if word == "stop" {
-        let outcome = room.hands.stop(rt, alloc);
-        return room.told(alloc, Some(outcome));
+        let outcome = room.sides.stop(rt, alloc)?;
+        return room.told(alloc, outcome);
     }
     match conn_and_rest(text) {
         None => line_of(alloc, "no case has this word"),
@@ -73,7 +73,7 @@ fn of_conn<R: Wait>(
         "settle" => settle(rt, alloc, room, conn),
         "holds" => line_of(
             alloc,
-            if room.hands.holds(conn) {
+            if room.sides.holds(conn) {
                 "held"
             } else {
                 "not held"
@@ -107,12 +107,12 @@ fn act<R: Wait>(
     let Some(act) = act_of(alloc, words.0, words.1)? else {
         return line_of(alloc, "no case has this word");
     };
-    let outcome = room.hands.post(rt, alloc, conn, act);
+    let outcome = room.sides.post(rt, alloc, conn, act)?;
     room.told(alloc, outcome)
 }
 
 fn take<R: Wait>(rt: &R, alloc: Global, room: &mut Room, conn: Conn) -> io::Result<String> {
-    let Some(item) = room.hands.take(rt, conn) else {
+    let Some(item) = room.sides.take(rt, conn) else {
         return line_of(alloc, "empty");
     };
     let text = item_text(alloc, &item)?;
@@ -120,7 +120,7 @@ fn take<R: Wait>(rt: &R, alloc: Global, room: &mut Room, conn: Conn) -> io::Resu
 }
 
 fn settle<R: Wait>(rt: &R, alloc: Global, room: &mut Room, conn: Conn) -> io::Result<String> {
-    match room.hands.settle(rt, alloc, conn)? {
+    match room.sides.settle(rt, alloc, conn)? {
         None => line_of(alloc, "no drain"),
         Some(items) if items.is_empty() => line_of(alloc, "nothing is left"),
         Some(items) => lines_of(alloc, &items),

@@ -8,11 +8,14 @@
 //! - `take CONN` takes the next item of the outbox that the connection's last applied Join brought; `holds CONN` tells whether the actor
 //!   holds it. `settle CONN` puts it together with its drain, and tells the items that are left.
 //!
-//! Posts are made by hand, and of the connections 1 and 2 alone, so that it is known which outbox a drain is the other end of.
+//! Only the connections 1 and 2 post, and each post is handled before the next one is made: so it is known which post came through, and
+//! which outbox a drain is the other end of.
 #![tactic(auto)]
 
 mod case;
-mod hands;
+mod desk;
+mod two_sides;
+mod passing;
 mod room;
 mod side;
 

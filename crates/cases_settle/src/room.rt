@@ -1,23 +1,29 @@
 //! One realm of a case: its actor, and the transports.
-ghost use Rattle.std.specs.Prelude.{◌≡◌, ◌≤◌, [], false, IfOk};
-ghost use Rattle.realm_inbox.specs.Joins.{is_join};
+ghost use Rattle.std.specs.Prelude.{◌≡◌, ◌≤◌, [], IfOk};
+ghost use Rattle.wamp_ids.specs.Numbers.{seat_of};
+ghost use Rattle.realm_inbox.specs.EndViews.{posted, posted_at, poster_conn, seat_number, inbox_of_door, inbox_of_poster, inbox_of_seat};
 
-use crate::hands::Hands;
-use crate::side::Acting;
+use crate::desk::{Acting, Desk};
+use crate::two_sides::TwoSides;
+use crate::side::Side;
 use case_posts::{Counted, Watching, Wire, entrance_of};
 use case_text::line_of;
 use realm::RealmConfig;
 use realm_actor::{Actor, Outcome};
-use realm_inbox::Act;
+use realm_inbox::opening::inbox;
+use realm_inbox::{Door, Poster, Seat};
 use std::alloc::{AllocError, Global};
 use std::io;
 use std::sync::Wait;
 use wamp_ids::{Conn, Topic};
 
-/// An actor that handles posts made by hand, and the transports of its sessions.
+/// How many posts may wait: each is handled before the next one is posted.
+const ROOM: usize = 4;
+
+/// An actor that handles posts of two connections, and the transports of its sessions.
 #[derive(Drop)]
 pub struct Room {
-    pub hands: Hands,
+    pub sides: TwoSides,
     watching: Watching,
 }
 
@@ -35,11 +41,40 @@ fn actor_of(alloc: Global) -> io::Result<Acting>
     }
 }
 
+// The poster of the connection of this number at the seat.
+fn poster_of(
+    alloc: Global,
+    door: &Door<Wire>,
+    seat: Seat<Wire>,
+    number: u64,
+) -> io::Result<Poster<Wire>>
+    requires own { seat_of number ≡ seat_number seat }
+    requires inbox { inbox_of_seat seat ≡ inbox_of_door door.now }
+    ensures conn { IfOk result (λ p. poster_conn p ≡ number) }
+    ensures posted { IfOk result (λ p. posted p ≡ posted_at seat) }
+    ensures inbox { IfOk result (λ p. inbox_of_poster p ≡ inbox_of_seat seat) }
+{
+    let Some(conn) = Conn::new(number) else {
+        return Err(AllocError)?;
+    };
+    match door.poster(alloc, seat, conn) {
+        Ok(poster) => Ok(poster),
+        Err(_) => Err(AllocError)?,
+    }
+}
+
 impl Room {
-    /// An actor that handled nothing.
+    /// An actor that handled nothing, and the connections 1 and 2, which posted nothing.
     pub fn new(alloc: Global) -> io::Result<Room> {
+        let (door, mut seats, inbox) = inbox::<Wire>(alloc, ROOM)?;
+        let second = seats.swap_remove(1);
+        let first = seats.swap_remove(0);
+        let first = Side::new(poster_of(alloc, &door, first, 1)?);
+        let second = Side::new(poster_of(alloc, &door, second, 2)?);
+        let actor = actor_of(alloc)?;
+        let desk = Desk { actor, inbox };
         Ok(Room {
-            hands: Hands::new(actor_of(alloc)?),
+            sides: TwoSides::new(desk, door, first, second),
             watching: Watching::new(alloc),
         })
     }
@@ -57,7 +92,7 @@ impl Room {
     {
         let transport = self.watch(alloc, conn)?;
         let entrance = entrance_of(alloc, conn, None, cap, transport)?;
-        Ok(self.hands.join(rt, alloc, conn, entrance))
+        self.sides.join(rt, alloc, conn, entrance)
     }
 
     // A transport of which it is told when it is shut.
@@ -76,6 +111,6 @@ impl Room {
             Some(Outcome::Applied) => "applied",
             Some(Outcome::Dropped) => "dropped",
         };
-        self.watching.told(alloc, outcome, self.hands.last_cut())
+        self.watching.told(alloc, outcome, self.sides.last_cut())
     }
 }

@@ -1,61 +1,69 @@
-//! Posts of one connection, which are made by hand.
-ghost use Rattle.std.specs.Prelude.{◌≡◌, ℕ, [], Some, None, false};
-ghost use Rattle.wamp_ids.specs.Numbers.{seat_of};
+//! Posts of one connection, each of which is handled at once.
+ghost use Rattle.std.specs.Prelude.{◌≡◌, ◌≢◌, ℕ, Some, None, false, IfSome};
 ghost use Rattle.realm_inbox.specs.Joins.{is_join};
-ghost use Rattle.ghost_state.specs.GhostList.{items_of};
+ghost use Rattle.realm_inbox.specs.EndViews.{received, poster_conn, inbox_of, inbox_of_poster};
+ghost use Rattle.realm_inbox.specs.Seats.{BringsOwn};
 ghost use Rattle.realm_inbox.specs.declared.act.Act.TheVariants.{Join as AJoin};
 ghost use Rattle.realm_inbox.specs.declared.joining.Joining.{Joining as AJoining};
 ghost use Rattle.realm_actor.specs.OutboxHistory.{Box};
 ghost use Rattle.realm_actor.specs.LastCut.{outbox_of};
-ghost use Rattle.realm_actor.specs.Run.{stands_at};
 ghost use Rattle.realm_actor.specs.declared.outcome.Outcome.TheVariants.{Applied as IsApplied};
-ghost use Rattle.cases_settle.specs.Sides.{IsSide, Pairs, Stays, StaysHeld};
+ghost use Rattle.cases_settle.specs.declared.desk.Desk.{Desk as ADesk};
+ghost use Rattle.cases_settle.specs.Desks.{GoesOn, InStep};
+ghost use Rattle.cases_settle.specs.Sides.{IsSide, Pairs};
 ghost use Rattle.case_posts.specs.declared.wire.Wire.{Wire as AWire};
 
-use case_posts::{Counted, Entrance, Wire};
+use crate::desk::Desk;
+use case_posts::{Entrance, Wire};
 use outbox_queue::{Drain, Next};
-use realm_actor::{Actor, Outcome};
-use realm_inbox::{Act, GhostList, Letter, Post, RealmHistory};
+use realm_actor::Outcome;
+use realm_inbox::{Act, Poster, RealmHistory};
 use session::Item;
 use std::alloc::Global;
 use std::io;
-use std::snapshot::Snapshot;
 use std::sync::Wait;
 use wamp_ids::Conn;
 
-/// An actor whose words are counted, and whose transports are flags.
-pub type Acting = Actor<Wire, Counted>;
-
-/// A connection of which each post is made here: what was posted at its seat, and the drain of its outbox, while the actor holds that.
+/// A connection: its poster, while each of its posts came through, and the drain of its outbox, while the actor holds that.
 #[derive(Drop)]
 pub struct Side {
-    past: GhostList<(Conn, Act<Wire>)>,
+    conn: Conn,
+    poster: Option<Poster<Wire>>,
     drain: Option<Drain<Item, RealmHistory>>,
 }
 
 impl Side {
     /// Nothing was posted yet.
-    pub fn new() -> Side
-        ensures past { items_of result.past ≡ [] }
+    pub fn new(poster: Poster<Wire>) -> Side
+        ensures conn { result.conn ≡ poster_conn poster }
+        ensures poster { result.poster ≡ Some poster }
         ensures drain { result.drain ≡ None }
     {
         Side {
-            past: GhostList::new(),
+            conn: poster.conn(),
+            poster: Some(poster),
             drain: None,
         }
     }
 
+    /// Whose posts they are.
+    pub fn conn(&self) -> Conn
+        ensures { result ≡ self.now.conn }
+    {
+        self.conn
+    }
+
     // Keeps the drain of an outbox, in the place of an earlier one.
     fn keep(&mut self, drain: Drain<Item, RealmHistory>)
-        ensures past { self.new.past ≡ self.old.past }
-        ensures drain { self.new.drain ≡ Some drain }
+        ensures { self.new ≡ record self.old { drain = Some drain } }
     {
         self.drain = Some(drain);
     }
 
     /// The connection's next item. None where nothing waits, or no drain is here.
     pub fn take<R: Wait>(&mut self, rt: &R) -> Option<Item>
-        ensures past { self.new.past ≡ self.old.past }
+        ensures conn { self.new.conn ≡ self.old.conn }
+        ensures poster { self.new.poster ≡ self.old.poster }
         ensures pair { (c : ℕ) (held : _) → Pairs c held self.old.drain
             → Pairs c held self.new.drain }
     {
@@ -67,103 +75,128 @@ impl Side {
             },
         }
     }
+
+    /// Shows that a post of somebody else was received, and none of this connection.
+    pub fn keep_up(&mut self, desk: &mut Desk)
+        requires at { (p : _) → self.old.poster ≡ Some p → inbox_of_poster p ≡ inbox_of desk.old.inbox }
+        ensures conn { self.new.conn ≡ self.old.conn }
+        ensures side { (was : ADesk) → GoesOn was desk.old → IsSide was self.old
+            → IsSide desk.new self.new }
+        ensures desk { (desk.new.actor ≡ desk.old.actor)
+            × (received desk.new.inbox ≡ received desk.old.inbox)
+            × (inbox_of desk.new.inbox ≡ inbox_of desk.old.inbox) }
+    {
+        if let Some(poster) = &mut self.poster {
+            desk.compare(poster);
+        }
+    }
 }
 
-// Handles an act of the connection, which is the next of its seat.
-fn handle_next<R: Wait>(
+// Posts an act of the connection, and has it handled. None where that didn't come through.
+fn pass<R: Wait>(
     rt: &R,
     alloc: Global,
-    actor: &mut Acting,
-    past: &mut GhostList<(Conn, Act<Wire>)>,
-    conn: Conn,
+    desk: &mut Desk,
+    side: &mut Side,
+    other: &mut Side,
     act: Act<Wire>,
-) -> Outcome
-    requires own { (joining : AJoining AWire) → act ≡ AJoin joining → joining.outbox.conn ≡ conn }
-    requires past { items_of past.old ≡ stands_at (seat_of conn) actor.old.handled }
-    ensures past { items_of past.new ≡ stands_at (seat_of conn) actor.new.handled }
-    ensures stays { Stays conn actor.old actor.new }
-    ensures held { StaysHeld conn actor.old actor.new }
-    ensures joined { (joining : AJoining AWire) → act ≡ AJoin joining → result ≡ IsApplied
-        → (p : Box) × (outbox_of actor.new.rows conn ≡ Some p) × (p.queue ≡ joining.outbox.queue) }
+) -> Option<Outcome>
+    requires desk { InStep desk.old }
+    requires own { BringsOwn side.old.conn act }
+    requires side { IsSide desk.old side.old }
+    requires other { IsSide desk.old other.old }
+    ensures desk { InStep desk.new }
+    ensures side { IsSide desk.new side.new }
+    ensures other { IsSide desk.new other.new }
+    ensures conns { (side.new.conn ≡ side.old.conn) × (other.new.conn ≡ other.old.conn) }
+    ensures joined { IfSome result (λ r. (joining : AJoining AWire) → act ≡ AJoin joining
+        → r ≡ IsApplied → (p : Box)
+        × (outbox_of desk.new.actor.rows side.old.conn ≡ Some p)
+        × (p.queue ≡ joining.outbox.queue)) }
 {
-    let before = Snapshot::of(past);
-    let said = (conn, act);
-    let last = Snapshot::of(&said);
-    let (conn, act) = said;
-    past.add(last);
-    actor.handle(rt, alloc, Post::Act(Letter { conn, act, before }))
+    let poster = side.poster.take()?;
+    let passed = desk.pass(rt, alloc, poster, act);
+    other.keep_up(desk);
+    let (outcome, poster) = passed?;
+    side.poster = Some(poster);
+    Some(outcome)
 }
 
-/// Posts an act of the connection that is no Join.
+/// Posts an act of the connection that is no Join, and has it handled. None where that didn't come through.
 pub fn post<R: Wait>(
     rt: &R,
     alloc: Global,
-    actor: &mut Acting,
+    desk: &mut Desk,
     side: &mut Side,
-    conn: Conn,
+    other: &mut Side,
     act: Act<Wire>,
-) -> Outcome
+) -> Option<Outcome>
+    requires desk { InStep desk.old }
     requires act { is_join act ≡ false }
-    requires side { IsSide conn actor.old side.old }
-    ensures side { IsSide conn actor.new side.new }
-    ensures stays { Stays conn actor.old actor.new }
+    requires side { IsSide desk.old side.old }
+    requires other { IsSide desk.old other.old }
+    ensures desk { InStep desk.new }
+    ensures side { IsSide desk.new side.new }
+    ensures other { IsSide desk.new other.new }
+    ensures conns { (side.new.conn ≡ side.old.conn) × (other.new.conn ≡ other.old.conn) }
 {
-    handle_next(rt, alloc, actor, &mut side.past, conn, act)
+    pass(rt, alloc, desk, side, other, act)
 }
 
-/// Posts a Join of the connection. Where it is applied, the drain is kept.
+/// Posts a Join of the connection, and has it handled. Where it is applied, the drain is kept.
 pub fn enter<R: Wait>(
     rt: &R,
     alloc: Global,
-    actor: &mut Acting,
+    desk: &mut Desk,
     side: &mut Side,
-    conn: Conn,
+    other: &mut Side,
     entrance: Entrance,
-) -> Outcome
-    requires own { entrance.joining.outbox.conn ≡ conn }
-    requires drain { entrance.drain.conn ≡ conn }
+) -> Option<Outcome>
+    requires desk { InStep desk.old }
+    requires own { entrance.joining.outbox.conn ≡ side.old.conn }
+    requires drain { entrance.drain.conn ≡ side.old.conn }
     requires pair { entrance.joining.outbox.queue ≡ entrance.drain.queue }
-    requires side { IsSide conn actor.old side.old }
-    ensures side { IsSide conn actor.new side.new }
-    ensures stays { Stays conn actor.old actor.new }
+    requires side { IsSide desk.old side.old }
+    requires other { IsSide desk.old other.old }
+    ensures desk { InStep desk.new }
+    ensures side { IsSide desk.new side.new }
+    ensures other { IsSide desk.new other.new }
+    ensures conns { (side.new.conn ≡ side.old.conn) × (other.new.conn ≡ other.old.conn) }
 {
     let Entrance { joining, drain } = entrance;
-    let outcome = handle_next(rt, alloc, actor, &mut side.past, conn, Act::Join(joining));
+    let outcome = pass(rt, alloc, desk, side, other, Act::Join(joining))?;
     match outcome {
         Outcome::Applied => side.keep(drain),
         Outcome::Dropped | Outcome::NoMemory => {}
     }
-    outcome
+    Some(outcome)
 }
 
 /// Puts the connection's outbox and its drain together again, and gives what is left. None where no drain is here.
 pub fn settle<R: Wait>(
     rt: &R,
     alloc: Global,
-    actor: &mut Acting,
+    desk: &mut Desk,
     side: &mut Side,
-    conn: Conn,
+    other: &Side,
 ) -> io::Result<Option<Vec<Item>>>
-    requires side { IsSide conn actor.old side.old }
-    ensures side { IsSide conn actor.new side.new }
-    ensures stays { Stays conn actor.old actor.new }
+    requires desk { InStep desk.old }
+    requires side { IsSide desk.old side.old }
+    requires other { IsSide desk.old other.now }
+    requires apart { side.old.conn ≢ other.now.conn }
+    ensures desk { InStep desk.new }
+    ensures side { IsSide desk.new side.new }
+    ensures other { IsSide desk.new other.now }
+    ensures conn { side.new.conn ≡ side.old.conn }
 {
     let Some(drain) = side.drain.take() else {
         return Ok(None);
     };
-    match actor.settle(rt, alloc, drain) {
+    match desk.settle(rt, alloc, drain) {
         Ok(rest) => Ok(Some(rest.items)),
         Err((refused, drain)) => {
             side.keep(drain);
             Err(refused)?
         }
     }
-}
-
-/// Posts a stop.
-pub fn stop<R: Wait>(rt: &R, alloc: Global, actor: &mut Acting) -> Outcome
-    ensures handled { actor.new.handled ≡ actor.old.handled }
-    ensures held { (d : ℕ) → StaysHeld d actor.old actor.new }
-{
-    actor.handle(rt, alloc, Post::Stop)
 }

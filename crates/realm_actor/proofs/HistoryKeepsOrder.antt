@@ -12,6 +12,7 @@ use Rattle.realm.specs.PostedOrder.{posts_of, said_by, AreSome, Ordered}
 use Rattle.realm.proofs.Lemmas.{order-begun, order-accepted, order-dropped, order-lost, order-lost-cut, order-cut, some-more, joins-before, said-kept, some-before}
 use Rattle.realm_inbox.specs.declared.act.Act as the
 use Rattle.realm_inbox.specs.declared.act.Act.TheVariants.{Join, Said, Ping, Spoilt, Gone}
+use Rattle.realm_inbox.specs.declared.letter.Halt.{Halt}
 use Rattle.realm_inbox.specs.declared.letter.Letter.{Letter}
 use Rattle.realm_inbox.specs.declared.letter.Post.{Post}
 use Rattle.realm_inbox.specs.declared.letter.Post.TheVariants.{Act, Stop}
@@ -70,7 +71,7 @@ module _ {S : Type 0} where
   pub data AreAll : List (Post S) → List Entry → Type 0 where
     nothing : AreAll [] []
     an_act : (ps : List (Post S)) (es : List Entry) (l : Letter S) (word : ℕ) → AreAll ps es → AreAll (ps ++ Act l ∷ []) (es ++ entry_of l.conn l.act word ∷ [])
-    a_stop : (ps : List (Post S)) (es : List Entry) → AreAll ps es → AreAll (ps ++ Stop ∷ []) es
+    a_stop : (ps : List (Post S)) (es : List Entry) (halt : Halt) → AreAll ps es → AreAll (ps ++ Stop halt ∷ []) es
 
   pub record Kept (ps : List (Post S)) (h : History) : Type 0 where
     pub entries : List Entry
@@ -81,8 +82,8 @@ module _ {S : Type 0} where
   kept-act ps h k l word kept o = record { entries = kept.entries ++ entry_of l.conn l.act word ∷ []; are = an_act ps kept.entries l word kept.are; ordered = o }
 
   -- a stop enters nobody's act
-  pub kept-stop : (ps : List (Post S)) (h k : History) (kept : Kept ps h) → AfterClosing h k → Kept (ps ++ Stop ∷ []) k
-  kept-stop ps h k kept closing = record { entries = kept.entries; are = a_stop ps kept.entries kept.are; ordered = after-closing h k kept.entries kept.ordered closing }
+  pub kept-stop : (ps : List (Post S)) (h k : History) (halt : Halt) (kept : Kept ps h) → AfterClosing h k → Kept (ps ++ Stop halt ∷ []) k
+  kept-stop ps h k halt kept closing = record { entries = kept.entries; are = a_stop ps kept.entries halt kept.are; ordered = after-closing h k kept.entries kept.ordered closing }
 
   kept-on : (ps : List (Post S)) (h k : History) (p : Post S) → Kept ps h → Makes h p k → Kept (ps ++ p ∷ []) k
   kept-on ps h k p kept (applied l word comes cuts) =
@@ -97,7 +98,7 @@ module _ {S : Type 0} where
       let o : Ordered (h ▷ entry.Cut l.conn word) (kept.entries ++ e ∷ []) =
       subst (λ c. Ordered (h ▷ entry.Cut c word) (kept.entries ++ e ∷ [])) (conn_of-entry l.conn l.act 0) (order-lost-cut h kept.entries e word kept.ordered) in
       kept-act ps h k l 0 kept (after-cuts (h ▷ entry.Cut l.conn word) k (kept.entries ++ e ∷ []) o cuts)
-  kept-on ps h k p kept (stopped closing) = kept-stop ps h k kept closing
+  kept-on ps h k p kept (stopped halt closing) = kept-stop ps h k halt kept closing
 
   kept-all : (h k : History) (ps : List (Post S)) → Kept [] h → MakesAll h ps k → Kept ps k
   kept-all h k ps kept making.MakesAll.none = kept
@@ -118,7 +119,7 @@ module _ {S : Type 0} where
           → cond b (l.act ∷ acts_of c (ps ++ qs)) (acts_of c (ps ++ qs)) ≡ cond b (l.act ∷ acts_of c ps) (acts_of c ps) ++ acts_of c qs
       at true e = ap (λ t. l.act ∷ t) e
       at false e = e
-  acts_of-append c (Stop ∷ ps) qs = acts_of-append c ps qs
+  acts_of-append c (Stop halt ∷ ps) qs = acts_of-append c ps qs
 
   acts_for-append : (c : ℕ) (xs ys : List (ℕ × the.Act S)) → acts_for c (xs ++ ys) ≡ acts_for c xs ++ acts_for c ys
   acts_for-append c [] ys = refl
@@ -146,8 +147,8 @@ module _ {S : Type 0} where
       let both = are-append c (acts_of c ps) (own_act c l) (posts_of c es) (cond (eqb (conn_of e) c) (e ∷ []) []) (entries-of c ps es more) one in
       subst (λ (y : List (the.Act S) × List Entry). AreEntries c y.0 y.1)
       (λ i. (sym (acts_of-append c ps (Act l ∷ [])) i, sym (filter-append (λ x. eqb (conn_of x) c) es (e ∷ [])) i)) both
-  entries-of c _ _ (a_stop ps es more) =
-      subst (λ acts. AreEntries c acts (posts_of c es)) (sym (acts_of-append c ps (Stop ∷ []) ∙ append-nil (acts_of c ps))) (entries-of c ps es more)
+  entries-of c _ _ (a_stop ps es halt more) =
+      subst (λ acts. AreEntries c acts (posts_of c es)) (sym (acts_of-append c ps (Stop halt ∷ []) ∙ append-nil (acts_of c ps))) (entries-of c ps es more)
 
   pub keeps : (ps : List (Post S)) (h : History) → Kept ps h → (c : ℕ) → KeepsOrder c (acts_of c ps) h
   keeps ps h kept c = record { entries = posts_of c kept.entries; are = entries-of c ps kept.entries kept.are; some_of = kept.ordered.some c; begins = kept.ordered.begins c }
@@ -185,7 +186,7 @@ module _ {S : Type 0} where
       at : (b : Bool) → cond b (l.act ∷ []) [] ++ acts_of c ps ≡ cond b (l.act ∷ acts_of c ps) (acts_of c ps)
       at true = refl
       at false = refl
-  seat-acts c (Stop ∷ ps) = seat-acts c ps
+  seat-acts c (Stop halt ∷ ps) = seat-acts c ps
 
 pub handled_keeps : (S : Type 0) → HandledKeepsOrder S
 handled_keeps S grants handled h all = keeps handled h (kept-begun grants handled h all)

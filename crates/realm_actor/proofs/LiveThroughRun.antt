@@ -121,10 +121,10 @@ module _ {S : Type 0} where
       (λ (is : (was_closed c a.history ≡ false) × (was_closed c z.history ≡ true)).
       clash (was_closed c z.history) is.1 (ap (was_closed c) swept.history ∙ closed_runs c runs ∙ is.0))
       either
-  ran_holds {a = a} (running.Ran.stopped {came} {b} {c = m} {d = z} {result} runs swept handles) c either = ⊎_elim
+  ran_holds {a = a} (running.Ran.stopped {came} {b} {c = m} {d = z} {result} halt runs swept handles) c either = ⊎_elim
       (λ (is : live z.history c ≡ true). clash (live z.history c) is (handles.does.none_live c))
       (λ (is : (was_closed c a.history ≡ false) × (was_closed c z.history ≡ true)).
-      let after = stop_closing result m z handles in
+      let after = stop_closing result halt m z handles in
       let was : live m.history c ≡ true = closing_live m.history z.history c after (ap (was_closed c) swept.history ∙ closed_runs c runs ∙ is.0) is.1 in
       let before : live b.history c ≡ true = ap (λ h. live h c) (sym swept.history) ∙ was in
       held_on a m z c (λ o e. let t = handles.does.held c o e in (t.0, t.1)) (swept_held a b m c swept before (runs_hold runs c before)))

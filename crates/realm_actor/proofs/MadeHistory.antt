@@ -42,7 +42,7 @@ module _ {S : Type 0} where
   acts_for_in : (c : ℕ) (ps : List (Post S)) → acts_for c (acts_in ps) ≡ acts_of c ps
   acts_for_in c [] = refl
   acts_for_in c (Act l ∷ ps) = ap (λ t. cond (eqb l.conn c) (l.act ∷ t) t) (acts_for_in c ps)
-  acts_for_in c (Stop ∷ ps) = acts_for_in c ps
+  acts_for_in c (Stop halt ∷ ps) = acts_for_in c ps
 
   -- from the beginning on, and post by post
 
@@ -66,7 +66,7 @@ module _ {S : Type 0} where
 
   handles_makes : (result : Outcome) (p : Post S) (old new : Acting S) → Handles result p old new → Makes old.history p new.history
   handles_makes result (Act l) old new h = act_makes result l old new h
-  handles_makes result Stop old new h = of.Makes.stopped (stop_closing result old new h)
+  handles_makes result (Stop halt) old new h = of.Makes.stopped halt (stop_closing result halt old new h)
 
   pub made_on : (result : Outcome) (p : Post S) (old new : Acting S) → IsMade old.history old.handled → Handles result p old new → IsMade new.history new.handled
   made_on result p old new m h = record {
@@ -89,7 +89,7 @@ module _ {S : Type 0} where
 
   ran_handled : {a z : Acting S} {came : List (Post S)} → Ran a came z → z.handled ≡ a.handled ++ acts_in came
   ran_handled (running.Ran.left runs swept) = swept.handled ∙ runs_handled runs
-  ran_handled {a = a} (running.Ran.stopped {came} {b} {c} {d} {result} runs swept handles) = handled_on a b c d came Stop (runs_handled runs) swept.handled handles.handled
+  ran_handled {a = a} (running.Ran.stopped {came} {b} {c} {d} {result} halt runs swept handles) = handled_on a b c d came (Stop halt) (runs_handled runs) swept.handled handles.handled
 
   -- what a run's actor handled is, seat by seat, what its inbox gave
   pub run_same : (a z : Acting S) (front got : List (Post S)) → SameAtSeats a.handled front → Ends a z front got → SameAtSeats z.handled got

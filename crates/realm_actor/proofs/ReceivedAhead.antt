@@ -17,24 +17,24 @@ module _ {S : Type 0} where
   abbrev NoStop : List (Post S) → Type 0
   NoStop [] = Unit {0}
   NoStop (Act l ∷ ps) = NoStop ps
-  NoStop (Stop ∷ ps) = ⊥
+  NoStop (Stop halt ∷ ps) = ⊥
 
   none_behind : (ps : List (Post S)) → NoStop ps → NoneBehindStop ps
   none_behind [] none = tt
   none_behind (Act l ∷ ps) none = none_behind ps none
-  none_behind (Stop ∷ ps) none = absurd none
+  none_behind (Stop halt ∷ ps) none = absurd none
 
   none_behind_last : (ps : List (Post S)) (p : Post S) → NoStop ps → NoneBehindStop (ps ++ p ∷ [])
   none_behind_last [] (Act l) none = tt
-  none_behind_last [] Stop none = refl
+  none_behind_last [] (Stop halt) none = refl
   none_behind_last (Act l ∷ ps) p none = none_behind_last ps p none
-  none_behind_last (Stop ∷ ps) p none = absurd none
+  none_behind_last (Stop halt ∷ ps) p none = absurd none
 
   no_stop_last : (ps : List (Post S)) (p : Post S) → NoStop ps → is_stop p ≡ false → NoStop (ps ++ p ∷ [])
   no_stop_last [] (Act l) none other = tt
-  no_stop_last [] Stop none other = absurd (true≢false other)
+  no_stop_last [] (Stop halt) none other = absurd (true≢false other)
   no_stop_last (Act l ∷ ps) p none other = no_stop_last ps p none other
-  no_stop_last (Stop ∷ ps) p none other = absurd none
+  no_stop_last (Stop halt ∷ ps) p none other = absurd none
 
   -- these were received and put behind what was ahead
   abbrev Received : List (Post S) → List (Post S) → List (Post S) → List (Post S) → Type 0

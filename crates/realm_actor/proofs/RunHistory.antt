@@ -6,6 +6,7 @@ use Rattle.realm.specs.History.{History, ◌▷◌, Begins, same, longer}
 use Rattle.realm.specs.Sessions.{live}
 use Rattle.realm_inbox.specs.declared.act.Act as the
 use Rattle.realm_inbox.specs.declared.act.Act.TheVariants.{Join, Said, Ping, Spoilt, Gone}
+use Rattle.realm_inbox.specs.declared.letter.Halt.{Halt}
 use Rattle.realm_inbox.specs.declared.letter.Letter.{Letter}
 use Rattle.realm_inbox.specs.declared.letter.Post.{Post}
 use Rattle.realm_inbox.specs.declared.letter.Post.TheVariants.{Act, Stop}
@@ -90,8 +91,8 @@ module _ {S : Type 0} where
   closes_closing closing.Closes.first = of.AfterClosing.none
   closes_closing {old = old} (closing.Closes.one_more so_far one) = one_closing old.history (closes_closing so_far) one
 
-  pub stop_closing : (result : Outcome) (old new : Acting S) → Handles result Stop old new → AfterClosing old.history new.history
-  stop_closing result old new h = closes_closing h.does.closes
+  pub stop_closing : (result : Outcome) (halt : Halt) (old new : Acting S) → Handles result (Stop halt) old new → AfterClosing old.history new.history
+  stop_closing result halt old new h = closes_closing h.does.closes
 
   -- a run
 
@@ -102,8 +103,8 @@ module _ {S : Type 0} where
 
   pub ran_makes : {a z : Acting S} {came : List (Post S)} → Ran a came z → MakesAll a.history came z.history
   ran_makes {a = a} (running.Ran.left {came} {b} {c} runs swept) = subst (λ h. MakesAll a.history came h) (sym swept.history) (runs_make runs)
-  ran_makes {a = a} (running.Ran.stopped {came} {b} {c} {d} {result} runs swept handles) =
-      of.MakesAll.one_more Stop (runs_make runs) (of.Makes.stopped (subst (λ h. AfterClosing h d.history) swept.history (stop_closing result c d handles)))
+  ran_makes {a = a} (running.Ran.stopped {came} {b} {c} {d} {result} halt runs swept handles) =
+      of.MakesAll.one_more (Stop halt) (runs_make runs) (of.Makes.stopped halt (subst (λ h. AfterClosing h d.history) swept.history (stop_closing result halt c d handles)))
 
   pub makes_on : {h k l : History} {ps qs : List (Post S)} → MakesAll h ps k → MakesAll k qs l → MakesAll h (ps ++ qs) l
   makes_on {h = h} {l = l} {ps = ps} first of.MakesAll.none = subst (λ t. MakesAll h t l) (sym (append-nil ps)) first
@@ -117,7 +118,7 @@ module _ {S : Type 0} where
   begins_made h k p (of.Makes.dropped l is) = same
   begins_made h k p (of.Makes.lost l dead) = same
   begins_made h k p (of.Makes.cut l word cuts) = begins_longer h (h ▷ entry.Cut l.conn word) k (longer same) (begins_cuts _ k cuts)
-  begins_made h k p (of.Makes.stopped after) = begins_closing h k after
+  begins_made h k p (of.Makes.stopped halt after) = begins_closing h k after
 
   begins_all : (h k : History) (ps : List (Post S)) → MakesAll h ps k → Begins h k
   begins_all h k ps of.MakesAll.none = same
@@ -143,7 +144,7 @@ module _ {S : Type 0} where
   closed_act h k c letter p is (of.Makes.dropped l gone) = refl
   closed_act h k c letter p is (of.Makes.lost l dead) = refl
   closed_act h k c letter p is (of.Makes.cut l word cuts) = closed_cuts _ k c cuts
-  closed_act h k c letter p is (of.Makes.stopped after) = absurd (cc)
+  closed_act h k c letter p is (of.Makes.stopped halt after) = absurd (cc)
 
   pub closed_runs : {a b : Acting S} {came : List (Post S)} (c : ℕ) → Runs a came b → was_closed c b.history ≡ was_closed c a.history
   closed_runs c running.Runs.none = refl

@@ -49,12 +49,12 @@ module _ {S : Type 0} where
       let kept = kept-begun grants (before ++ came) z.history (makes_on all (ran_makes (running.Ran.left runs swept))) in
       since a.history z.history (before ++ came) c kept
       (λ joins before after. absurd (true≢false (sym after ∙ ap (was_closed c) swept.history ∙ closed_runs c runs ∙ before)))
-  ran_keeps grants before {a = a} all (running.Ran.stopped {came} {b} {c = m} {d = z} {result} runs swept handles) c =
+  ran_keeps grants before {a = a} all (running.Ran.stopped {came} {b} {c = m} {d = z} {result} halt runs swept handles) c =
       let kept = kept-begun grants (before ++ came) m.history (subst (λ h. MakesAll (begun grants) (before ++ came) h) (sym swept.history) (makes_on all (runs_make runs))) in
-      let after = stop_closing result m z handles in
-      let more : Kept ((before ++ came) ++ Stop ∷ []) z.history = record { entries = kept.entries; are = a_stop (before ++ came) kept.entries kept.are; ordered = after-closing m.history z.history kept.entries kept.ordered after } in
-      subst (λ ps. KeepsOrderSince a.history c (acts_of c ps) z.history) (append_assoc before came (Stop ∷ []))
-      (since a.history z.history ((before ++ came) ++ Stop ∷ []) c more
+      let after = stop_closing result halt m z handles in
+      let more : Kept ((before ++ came) ++ Stop halt ∷ []) z.history = record { entries = kept.entries; are = a_stop (before ++ came) kept.entries halt kept.are; ordered = after-closing m.history z.history kept.entries kept.ordered after } in
+      subst (λ ps. KeepsOrderSince a.history c (acts_of c ps) z.history) (append_assoc before came (Stop halt ∷ []))
+      (since a.history z.history ((before ++ came) ++ Stop halt ∷ []) c more
       (λ joins unshut shut. closing_all m.history z.history kept.entries c kept.ordered after (ap (was_closed c) swept.history ∙ closed_runs c runs ∙ unshut) shut joins))
 
 pub run_keeps : (S : Type 0) → RunKeepsOrder S

@@ -20,12 +20,12 @@ module _ {S : Type 0} where
   -- the act of a post stands where the post does
   pub stands_said : (k : ℕ) (p : Post S) → stands_at k (said_of p) ≡ adds_at k p
   stands_said k (Act l) = refl
-  stands_said k Stop = refl
+  stands_said k (Stop halt) = refl
 
   -- what is received next is next for who handled the same at each seat
   pub next_of_same : (acts : List (ℕ × the.Act S)) (got : List (Post S)) (p : Post S) → SameAtSeats acts got → IsNext got p → IsNextOf acts p
   next_of_same acts got (Act l) same next = next ∙ sym (same (seat_of_letter l))
-  next_of_same acts got Stop same next = tt
+  next_of_same acts got (Stop halt) same next = tt
 
   pub same_grown : (acts acts' : List (ℕ × the.Act S)) (got got' : List (Post S)) (p : Post S) → SameAtSeats acts got → acts' ≡ acts ++ said_of p → got' ≡ got ++ p ∷ [] → SameAtSeats acts' got'
   same_grown acts acts' got got' p same a g k =
@@ -71,7 +71,7 @@ module _ {S : Type 0} where
 
   pub progress_on : (start b c d : Acting S) (front got got' ahead later : List (Post S)) (result : Outcome) (p : Post S) → is_stop p ≡ false → Progress start b front got ahead → Sweeps b c
       → TakesNext got got' ahead later p → Handles result p c d → Progress start d front got' later
-  progress_on start b c d front got got' ahead later result Stop other g s t handles = absurd (true≢false other)
+  progress_on start b c d front got got' ahead later result (Stop halt) other g s t handles = absurd (true≢false other)
   progress_on start b c d front got got' ahead later result (Act l) other g s t handles = record {
     came = g.came ++ Act l ∷ [];
     runs = one_more l g.runs s handles;
@@ -93,10 +93,10 @@ module _ {S : Type 0} where
   pub ends_stopped : (start b c d : Acting S) (front got got' ahead later : List (Post S)) (result : Outcome) (p : Post S) → is_stop p ≡ true → Progress start b front got ahead → Sweeps b c
       → TakesNext got got' ahead later p → Handles result p c d → Ends start d front got'
   ends_stopped start b c d front got got' ahead later result (Act l) other g s t handles = absurd (true≢false (sym other))
-  ends_stopped start b c d front got got' ahead later result Stop other g s t handles =
-      let all : (g.came ++ Stop ∷ []) ++ later ≡ g.came ++ Stop ∷ [] = ap (λ x. (g.came ++ Stop ∷ []) ++ x) (t.last g.last) ∙ append-nil (g.came ++ Stop ∷ []) in (
-        g.came ++ Stop ∷ [],
-        now_received start b front got got' ahead later Stop g t ∙ ap (λ x. front ++ x) all,
-        subst (λ x. InOrder front x) all (now_in_order start b front got got' ahead later Stop g t),
-        stopped g.runs s handles,
+  ends_stopped start b c d front got got' ahead later result (Stop halt) other g s t handles =
+      let all : (g.came ++ Stop halt ∷ []) ++ later ≡ g.came ++ Stop halt ∷ [] = ap (λ x. (g.came ++ Stop halt ∷ []) ++ x) (t.last g.last) ∙ append-nil (g.came ++ Stop halt ∷ []) in (
+        g.came ++ Stop halt ∷ [],
+        now_received start b front got got' ahead later (Stop halt) g t ∙ ap (λ x. front ++ x) all,
+        subst (λ x. InOrder front x) all (now_in_order start b front got got' ahead later (Stop halt) g t),
+        stopped halt g.runs s handles,
       )

@@ -10,6 +10,7 @@ use Rattle.realm_inbox.specs.declared.joining.Joining.{Joining}
 use Rattle.realm_inbox.specs.declared.act.Act.{Act}
 use Rattle.realm_inbox.specs.declared.act.Act.TheVariants.{Join, Said, Ping, Spoilt, Gone}
 use Rattle.realm_inbox.specs.declared.letter.Letter.{Letter}
+use Rattle.realm_inbox.specs.Seats.{conn_of_letter, act_of_letter}
 use Rattle.realm_actor.specs.declared.outcome.Outcome.{Outcome}
 use Rattle.realm_actor.specs.declared.outcome.Outcome.TheVariants.{Applied, Dropped, NoMemory}
 use Rattle.realm_actor.specs.declared.row.Row.{Row}
@@ -114,9 +115,9 @@ module _ {S : Type 0} where
   -- what the handling of a letter does, by its outcome, and whom it names: `ends` are the rows with the marks that it made
   pub record Does (result : Outcome) (l : Letter S) (old new : Working S) (named : List ℕ) : Type 0 where
     pub ends : List (Row S)
-    pub acts : Acts result l.conn l.act old (record new { rows = ends })
+    pub acts : Acts result (conn_of_letter l) (act_of_letter l) old (record new { rows = ends })
     pub unmarked : EachUnmarked ends new.rows
-    pub names : Names (λ d. (result ≡ NoMemory) × (live old.history d ≡ true) × (d ≡ l.conn)) old.rows new.rows named
+    pub names : Names (λ d. (result ≡ NoMemory) × (live old.history d ≡ true) × (d ≡ conn_of_letter l)) old.rows new.rows named
     pub held : (d : ℕ) (o : Box) → outbox_of old.rows d ≡ Some o → (p : Box) × (outbox_of new.rows d ≡ Some p) × Went o p
-    pub joined : (joining : Joining S) → l.act ≡ Join joining → result ≡ Applied
-        → (p : Box) × (outbox_of new.rows l.conn ≡ Some p) × Went joining.outbox p
+    pub joined : (joining : Joining S) → act_of_letter l ≡ Join joining → result ≡ Applied
+        → (p : Box) × (outbox_of new.rows (conn_of_letter l) ≡ Some p) × Went joining.outbox p

@@ -5,10 +5,11 @@ use Rattle.realm.specs.Grants.{Grants}
 use Rattle.realm.specs.History.{History, begun, ◌▷◌}
 use Rattle.realm.specs.Sessions.{live}
 use Rattle.realm_inbox.specs.declared.act.Act.{Act}
+use Rattle.realm_inbox.specs.declared.letter.Halt.{Halt}
 use Rattle.realm_inbox.specs.declared.letter.Letter.{Letter}
 use Rattle.realm_inbox.specs.declared.letter.Post.{Post}
 use Rattle.realm_inbox.specs.declared.letter.Post.TheVariants as post
-use Rattle.realm_inbox.specs.Seats.{said}
+use Rattle.realm_inbox.specs.Seats.{said, conn_of_letter, act_of_letter}
 use Rattle.realm_actor.specs.Handle.{entry_of, is_dropped}
 
 -- k is h, and then Cuts
@@ -32,14 +33,14 @@ module _ {S : Type 0} where
   -- what a post makes of the history
   pub data Makes : History → Post S → History → Type 0 where
     -- the act enters by some word, and then Cuts
-    applied : {h k : History} (l : Letter S) (word : ℕ) → is_dropped h l.conn l.act ≡ false → AfterCuts (h ▷ entry_of l.conn l.act word) k → Makes h (post.Act l) k
-    dropped : {h : History} (l : Letter S) → is_dropped h l.conn l.act ≡ true → Makes h (post.Act l) h
+    applied : {h k : History} (l : Letter S) (word : ℕ) → is_dropped h (conn_of_letter l) (act_of_letter l) ≡ false → AfterCuts (h ▷ entry_of (conn_of_letter l) (act_of_letter l) word) k → Makes h (post.Act l) k
+    dropped : {h : History} (l : Letter S) → is_dropped h (conn_of_letter l) (act_of_letter l) ≡ true → Makes h (post.Act l) h
     -- memory was refused, and the session wasn't live
-    lost : {h : History} (l : Letter S) → live h l.conn ≡ false → Makes h (post.Act l) h
+    lost : {h : History} (l : Letter S) → live h (conn_of_letter l) ≡ false → Makes h (post.Act l) h
     -- memory was refused, and the session is cut, and then Cuts
-    cut : {h k : History} (l : Letter S) (word : Option ℕ) → AfterCuts (h ▷ entry.Cut l.conn word) k → Makes h (post.Act l) k
+    cut : {h k : History} (l : Letter S) (word : Option ℕ) → AfterCuts (h ▷ entry.Cut (conn_of_letter l) word) k → Makes h (post.Act l) k
     -- live sessions are closed
-    stopped : {h k : History} → AfterClosing h k → Makes h post.Stop k
+    stopped : {h k : History} (halt : Halt) → AfterClosing h k → Makes h (post.Stop halt) k
 
   -- what posts make of it, one after another
   pub data MakesAll : History → List (Post S) → History → Type 0 where
@@ -49,7 +50,7 @@ module _ {S : Type 0} where
   -- the act of a post, with its connection. A stop is of none
   abbrev pub said_of : Post S → List (ℕ × Act S)
   said_of (post.Act l) = said l ∷ []
-  said_of post.Stop = []
+  said_of (post.Stop halt) = []
 
   -- the acts of these posts, each with its connection
   abbrev pub acts_in : List (Post S) → List (ℕ × Act S)

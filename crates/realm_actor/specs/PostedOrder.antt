@@ -14,7 +14,7 @@ use Rattle.realm_inbox.specs.declared.letter.Post.{Post}
 use Rattle.realm_inbox.specs.declared.letter.Post.TheVariants as post
 use Rattle.realm_inbox.specs.declared.rule.View.{View}
 use Rattle.realm_inbox.specs.declared.rule.View.TheVariants.{Reader, Seat}
-use Rattle.realm_inbox.specs.Seats.{at_seat}
+use Rattle.realm_inbox.specs.Seats.{conn_of_letter, act_of_letter, at_seat}
 use Rattle.realm_inbox.specs.InTurn.{Keeps}
 use Rattle.realm_actor.specs.ActorView.{Acting}
 use Rattle.realm_actor.specs.Handle.{entry_of}
@@ -25,8 +25,8 @@ module _ {S : Type 0} where
   -- the acts of c among these posts, the oldest first
   abbrev pub acts_of : ℕ → List (Post S) → List (Act S)
   acts_of c [] = []
-  acts_of c (post.Act l ∷ ps) = if l.conn == c then l.act ∷ acts_of c ps else acts_of c ps
-  acts_of c (post.Stop ∷ ps) = acts_of c ps
+  acts_of c (post.Act l ∷ ps) = if conn_of_letter l == c then act_of_letter l ∷ acts_of c ps else acts_of c ps
+  acts_of c (post.Stop halt ∷ ps) = acts_of c ps
 
   -- the acts of c among what was posted at a seat
   abbrev pub acts_for : ℕ → List (ℕ × Act S) → List (Act S)

@@ -9,7 +9,7 @@ module _ {S : Type 0} where
   abbrev pub NoneBehindStop : List (Post S) → Type 0
   NoneBehindStop [] = Unit {0}
   NoneBehindStop (post.Act l ∷ ps) = NoneBehindStop ps
-  NoneBehindStop (post.Stop ∷ ps) = ps ≡ []
+  NoneBehindStop (post.Stop halt ∷ ps) = ps ≡ []
 
   -- of what was ahead, and then of what the inbox gave besides, p is the first and `later` the rest
   pub record TakesNext (got got' ahead later : List (Post S)) (p : Post S) : Type 0 where

@@ -2,12 +2,13 @@
 use Rattle.std.specs.Prelude.{◌≡◌, ◌==◌, ◌⊎◌, ℕ, Bool, true, false, List, [], ◌∷◌, ◌++◌, filter, None, is_some}
 use Rattle.realm.specs.History.{History}
 use Rattle.realm.specs.Sessions.{live}
+use Rattle.realm_inbox.specs.declared.letter.Halt.{Halt}
 use Rattle.realm_inbox.specs.declared.letter.Letter.{Letter}
 use Rattle.realm_inbox.specs.declared.letter.Post.{Post}
 use Rattle.realm_inbox.specs.declared.letter.Post.TheVariants as post
 use Rattle.wamp_ids.specs.Numbers.{seat_of}
 use Rattle.realm_inbox.specs.declared.act.Act.{Act}
-use Rattle.realm_inbox.specs.Seats.{seat_of_letter, before, at_seat}
+use Rattle.realm_inbox.specs.Seats.{conn_of_letter, act_of_letter, seat_of_letter, before, at_seat}
 use Rattle.realm_actor.specs.declared.outcome.Outcome.{Outcome}
 use Rattle.realm_actor.specs.declared.outcome.Outcome.TheVariants.{Dropped}
 use Rattle.realm_actor.specs.ActorView.{Acting, working_in}
@@ -20,12 +21,12 @@ use Rattle.realm_actor.specs.HistoryGrowth.{was_closed, said_of}
 module _ {S : Type 0} where
   -- a post is dropped where its act is; a stop never is
   abbrev pub is_dropped_post : History → Post S → Bool
-  is_dropped_post h (post.Act l) = is_dropped h l.conn l.act
-  is_dropped_post h post.Stop = false
+  is_dropped_post h (post.Act l) = is_dropped h (conn_of_letter l) (act_of_letter l)
+  is_dropped_post h (post.Stop halt) = false
 
   abbrev pub DoesPost : Outcome → Post S → Acting S → Acting S → Type 0
   DoesPost result (post.Act l) old new = Does result l (working_in old) (working_in new) new.last_cut
-  DoesPost result post.Stop old new = Stops result (working_in old) (working_in new) new.last_cut
+  DoesPost result (post.Stop halt) old new = Stops result (working_in old) (working_in new) new.last_cut
 
   -- the acts at the seat k
   abbrev pub stands_at : ℕ → List (ℕ × Act S) → List (ℕ × Act S)
@@ -34,7 +35,7 @@ module _ {S : Type 0} where
   -- the post is the next of its seat after these acts: what had been posted there before it is what these are there
   abbrev pub IsNextOf : List (ℕ × Act S) → Post S → Type 0
   IsNextOf acts (post.Act l) = before l ≡ stands_at (seat_of_letter l) acts
-  IsNextOf acts post.Stop = Unit {0}
+  IsNextOf acts (post.Stop halt) = Unit {0}
 
   -- what the handling of a post does, by its outcome; it is dropped exactly where it is to be
   pub record Handles (result : Outcome) (p : Post S) (old new : Acting S) : Type 0 where
@@ -50,11 +51,11 @@ module _ {S : Type 0} where
   -- a whole run: it ends with the first stop, or where nothing comes any more
   pub data Ran (a : Acting S) : List (Post S) → Acting S → Type 0 where
     left : {came : List (Post S)} {b c : Acting S} → Runs a came b → Sweeps b c → Ran a came c
-    stopped : {came : List (Post S)} {b c d : Acting S} {result : Outcome} → Runs a came b → Sweeps b c → Handles result post.Stop c d → Ran a (came ++ post.Stop ∷ []) d
+    stopped : {came : List (Post S)} {b c d : Acting S} {result : Outcome} (halt : Halt) → Runs a came b → Sweeps b c → Handles result (post.Stop halt) c d → Ran a (came ++ post.Stop halt ∷ []) d
 
   abbrev pub is_stop : Post S → Bool
   is_stop (post.Act l) = false
-  is_stop post.Stop = true
+  is_stop (post.Stop halt) = true
 
   -- the acts are, seat by seat, what these posts are there
   abbrev pub SameAtSeats : List (ℕ × Act S) → List (Post S) → Type 0

@@ -7,6 +7,7 @@ ghost use Rattle.realm_actor.specs.Handle.{is_dropped, Acts, Does};
 ghost use Rattle.realm_actor.specs.ActorView.{acting, working};
 ghost use Rattle.realm_actor.specs.Run.{Handles};
 ghost use Rattle.realm_actor.specs.Invariant.{IsRoomy, Knows, Stands};
+ghost use Rattle.realm_inbox.specs.Seats.{conn_of_letter, act_of_letter};
 
 use crate::last_cut::name_all;
 use crate::outcome::Outcome;
@@ -23,23 +24,19 @@ impl<S: Shut, W: IdSource> State<S, W> {
     fn act<R: Wait>(&mut self, rt: &R, alloc: Global, letter: Letter<S>) -> Outcome
         requires sound { Sound self.old.table.realm self.old.table.rows.items }
         requires none { NoneFull self.old.table.rows.items }
-        ensures outcome { Acts result letter.conn letter.act
+        ensures outcome { Acts result (conn_of_letter letter) (act_of_letter letter)
             (working (W.given self.old.words) self.old)
             (working (W.given self.new.words) self.new) }
         ensures same { result ≡ Dropped → self.new ≡ self.old }
-        ensures exact { is_dropped self.old.table.realm letter.conn letter.act ≡ true
-            → result ≡ Dropped }
+        ensures exact { is_dropped self.old.table.realm (conn_of_letter letter)
+            (act_of_letter letter) ≡ true → result ≡ Dropped }
         ensures sound { Sound self.new.table.realm self.new.table.rows.items }
         ensures knows { Knows self.old.table → Knows self.new.table }
         ensures last_cut { self.new.last_cut.items ≡ self.old.last_cut.items }
         ensures handled { self.new.handled ≡ self.old.handled }
         ensures room { IsRoomy self.old → IsRoomy self.new }
     {
-        let Letter {
-            conn,
-            act,
-            before: _,
-        } = letter;
+        let (conn, act) = letter.into_parts();
         match act {
             Act::Join(joining) => self.join(rt, alloc, conn, joining),
             other => self.enter(rt, alloc, conn, other),
@@ -53,8 +50,8 @@ impl<S: Shut, W: IdSource> State<S, W> {
         requires room { IsRoomy self.old }
         ensures does { Does result letter (working (W.given self.old.words) self.old)
             (working (W.given self.new.words) self.new) self.new.last_cut.items }
-        ensures exact { is_dropped self.old.table.realm letter.conn letter.act ≡ true
-            → result ≡ Dropped }
+        ensures exact { is_dropped self.old.table.realm (conn_of_letter letter)
+            (act_of_letter letter) ≡ true → result ≡ Dropped }
         ensures handled { self.new.handled ≡ self.old.handled }
         ensures stands { Stands self.new.table.realm self.new.table.rows.items }
         ensures knows { Knows self.new.table }
@@ -87,7 +84,7 @@ impl<S: Shut, W: IdSource> State<S, W> {
                 self.handled.add(Snapshot::of(&letter));
                 self.handle_act(rt, alloc, letter)
             }
-            Post::Stop => self.stop(rt, alloc),
+            Post::Stop(_) => self.stop(rt, alloc),
         }
     }
 }

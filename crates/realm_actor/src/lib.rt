@@ -34,6 +34,6 @@ pub use actor::Actor;
 pub use outcome::Outcome;
 pub use realm_inbox::opening::inbox;
 pub use realm_inbox::{
-    Act, Door, GhostList, IdSource, InTurn, Inbox, Joining, Letter, Post, Poster, Posting,
+    Act, Door, GhostList, Halt, IdSource, InTurn, Inbox, Joining, Letter, Post, Poster, Posting,
     RealmHistory, Seat, Shut, View, opening,
 };

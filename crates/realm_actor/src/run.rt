@@ -26,7 +26,7 @@ fn is_stop<S: Shut>(post: &Post<S>) -> bool
 {
     match post {
         Post::Act(_) => false,
-        Post::Stop => true,
+        Post::Stop(_) => true,
     }
 }
 

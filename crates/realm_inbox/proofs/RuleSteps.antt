@@ -1,19 +1,21 @@
 -- Each step of an inbox keeps its rule.
-use Rattle.std.proofs.Common.{◌≡◌, ◌≢◌, ℕ, zero, suc, ◌+◌, true, cond, eqb, eq-eqb, ne_eqb, List, [], ◌∷◌, ◌++◌, length, set, sym, refl, ap, ◌∙◌, subst, arith, append_assoc}
+use Rattle.std.proofs.Common.{◌≡◌, ◌≢◌, ⊎_elim, ℕ, zero, suc, ◌+◌, ◌<◌, true, cond, eqb, eq-eqb, ne_eqb, List, [], ◌∷◌, ◌++◌, length, set, sym, refl, ap, ◌∙◌, subst, arith, append_assoc}
 use Rattle.std.proofs.lemmas.List.{append-nil}
 use Rattle.std.proofs.Math.Nat.{add_assoc, add-zero}
 use mathlib.Core.Option.{some, some-injective, some-ne-none}
 use lib.ListN.{get_elem?}
-use Rattle.crossbeam_channel.specs.Fifo.{Pushes, Pops, Forks}
+use Rattle.atomic_table.proofs.Lists.{at_set}
+use Rattle.crossbeam_channel.specs.Fifo.{Pushes, Pops, Forks, Merges, Learns}
 use Rattle.wamp_ids.specs.Numbers.{seat_of}
 use Rattle.realm_inbox.specs.declared.act.Act as the
+use Rattle.realm_inbox.specs.declared.letter.Halt.{Halt}
 use Rattle.realm_inbox.specs.declared.letter.Letter.{Letter}
 use Rattle.realm_inbox.specs.declared.letter.Post.{Post}
 use Rattle.realm_inbox.specs.declared.letter.Post.TheVariants.{Act, Stop}
 use Rattle.realm_inbox.specs.declared.rule.View.{View}
-use Rattle.realm_inbox.specs.declared.rule.View.TheVariants.{Reader, Seat, Door}
+use Rattle.realm_inbox.specs.declared.rule.View.TheVariants.{Reader, Seat, Door, Both, Nobody}
 use Rattle.realm_inbox.specs.Seats.{before, said, adds_at, at_seat, adds_stops, stops_of, IsNext, InOrder}
-use Rattle.realm_inbox.specs.InTurn.{fresh, new_door, after_post, after_stop, Receipt, Fits, Keeps}
+use Rattle.realm_inbox.specs.InTurn.{fresh, new_door, after_post, after_stop, nobody, Agrees, Receipt, Fits, Keeps}
 
 module _ {A : Type 0} where
   -- a fact of each place of a list and of what stands there
@@ -35,6 +37,10 @@ module _ {A : Type 0} where
   joined F [] new old mine (suc place) x e = absurd (some-ne-none x (sym e))
   joined F (y ∷ ys) new old mine zero x e = old 0 x e
   joined F (y ∷ ys) new old mine (suc place) x e = joined (λ k. F (suc k)) ys new (λ k. old (suc k)) mine place x e
+
+-- the pass of the seat k, once it has another
+owner_here : (owner : ℕ → ℕ) (k new : ℕ) → new ≡ cond (eqb k k) new (owner k)
+owner_here owner k new = sym (ap (λ b. cond b new (owner k)) (eq-eqb k k refl))
 
 module _ {S : Type 0} where
   -- what was posted at a seat, of posts and then of others
@@ -68,6 +74,8 @@ module _ {S : Type 0} where
   fits_all got all all' owner reader next j (Reader n r) same stops f = f
   fits_all got all all' owner reader next j (Seat k posted) same stops f = (f.0, f.1, f.2 ∙ sym (same k f.0))
   fits_all got all all' owner reader next j (Door n) same stops f = (f.0, f.1, f.2 ∙ sym (stops f.0))
+  fits_all got all all' owner reader next j (Both n r k posted) same stops f = (f.0, f.1, f.2, f.3 ∙ sym (same k f.1))
+  fits_all got all all' owner reader next j Nobody same stops f = tt
 
   pub begins : Keeps {S = S} [] (fresh ∷ [])
   begins = record {
@@ -107,15 +115,15 @@ module _ {S : Type 0} where
         refl,
       )
 
-  pub stops_door : (n pass m : ℕ) → Pushes (Keeps {S = S}) n pass (Door m) Stop (λ w. w ≡ after_stop (Door m))
-  stops_door n pass m items views room h at =
+  pub stops_door : (n pass m : ℕ) (halt : Halt) → Pushes (Keeps {S = S}) n pass (Door m) (Stop halt) (λ w. w ≡ after_stop (Door m))
+  stops_door n pass m halt items views room h at =
       let mine = h.each_view pass (Door m) at in
       let w : View S = Door (m + 1) in
       let all : List (Post S) = h.got ++ items in
-      let all' : List (Post S) = h.got ++ (items ++ Stop ∷ []) in
-      let grown : all' ≡ all ++ Stop ∷ [] = sym (append_assoc h.got items (Stop ∷ [])) in
-      let same : (j : ℕ) → at_seat j all' ≡ at_seat j all = λ j. ap (λ t. at_seat j t) grown ∙ at_seat_snoc j all Stop ∙ append-nil (at_seat j all) in
-      let more : stops_of all' ≡ stops_of all + 1 = ap (λ t. stops_of t) grown ∙ stops_snoc all Stop in
+      let all' : List (Post S) = h.got ++ (items ++ Stop halt ∷ []) in
+      let grown : all' ≡ all ++ Stop halt ∷ [] = sym (append_assoc h.got items (Stop halt ∷ [])) in
+      let same : (j : ℕ) → at_seat j all' ≡ at_seat j all = λ j. ap (λ t. at_seat j t) grown ∙ at_seat_snoc j all (Stop halt) ∙ append-nil (at_seat j all) in
+      let more : stops_of all' ≡ stops_of all + 1 = ap (λ t. stops_of t) grown ∙ stops_snoc all (Stop halt) in
       let F = Fits h.got all h.owner h.reader h.next in let G = Fits h.got all' h.owner h.reader h.next in (
         w,
         record {
@@ -127,7 +135,7 @@ module _ {S : Type 0} where
               (λ j u other f. fits_all h.got all all' h.owner h.reader h.next j u (λ i at_i. same i) (λ door. absurd (other (door ∙ sym mine.0))) f);
           no_post = λ j le. same j ∙ h.no_post j le;
           no_stop = λ e. absurd (omega (arith, e, mine.1));
-          in_order = in_order_snoc h.got items Stop h.in_order tt;
+          in_order = in_order_snoc h.got items (Stop halt) h.in_order tt;
         },
         refl,
       )
@@ -137,6 +145,8 @@ module _ {S : Type 0} where
   fits_got got got' all all' owner reader next j (Reader n r) other is f = absurd (other f.0)
   fits_got got got' all all' owner reader next j (Seat k posted) other is f = (f.0, f.1, f.2 ∙ ap (λ t. at_seat k t) (sym is))
   fits_got got got' all all' owner reader next j (Door n) other is f = (f.0, f.1, f.2 ∙ ap (λ t. stops_of t) (sym is))
+  fits_got got got' all all' owner reader next j (Both n r k posted) other is f = absurd (other f.0.0)
+  fits_got got got' all all' owner reader next j Nobody other is f = tt
 
   pub receives_reader : (pass n : ℕ) (r : List (Post S)) → Pops Keeps pass (Reader n r) (λ x w. Receipt (Reader n r) x w)
   receives_reader pass n r x items views h at =
@@ -167,6 +177,8 @@ module _ {S : Type 0} where
       (f.0 ∙ ap (λ b. cond b new (owner k)) (sym (ne_eqb k next (λ e. absurd (omega (arith, e, f.1))))), omega (arith, f.1), f.2)
   fits_cut got all owner reader next new j (Door n) other f =
       (f.0 ∙ ap (λ b. cond b new (owner 0)) (sym (ne_eqb 0 next (λ e. absurd (omega (arith, e, f.1))))), omega (arith, f.1), f.2)
+  fits_cut got all owner reader next new j (Both n r k posted) other f = absurd (other f.0.0)
+  fits_cut got all owner reader next new j Nobody other f = tt
 
   -- a view is cut for the next number, which fits where nothing was posted under it
   cuts_next : (pass n : ℕ) (r : List (Post S)) (v : View S)
@@ -200,3 +212,94 @@ module _ {S : Type 0} where
 
   pub cuts_new_door : (pass : ℕ) (r : List (Post S)) → Forks Keeps pass (Reader 0 r) (Reader 1 r) new_door
   cuts_new_door pass r = cuts_next pass 0 r new_door (λ got all owner reader j own none no. (sym own, omega arith, sym (no refl)))
+
+  -- the other views, where the seat k has another pass
+  fits_moved : (got all : List (Post S)) (owner : ℕ → ℕ) (reader next k new j : ℕ) (u : View S) → j ≢ owner k → Fits got all owner reader next j u
+      → Fits got all (λ i. cond (eqb i k) new (owner i)) reader next j u
+  fits_moved got all owner reader next k new j (Reader n r) other f = f
+  fits_moved got all owner reader next k new j (Seat i posted) other f =
+      (f.0 ∙ ap (λ b. cond b new (owner i)) (sym (ne_eqb i k (λ e. other (f.0 ∙ ap owner e)))), f.1, f.2)
+  fits_moved got all owner reader next k new j (Door n) other f =
+      (f.0 ∙ ap (λ b. cond b new (owner 0)) (sym (ne_eqb 0 k (λ e. other (f.0 ∙ ap owner e)))), f.1, f.2)
+  fits_moved got all owner reader next k new j (Both n r i posted) other f =
+      (f.0, f.1 ∙ ap (λ b. cond b new (owner i)) (sym (ne_eqb i k (λ e. other (f.1 ∙ ap owner e)))), f.2, f.3)
+  fits_moved got all owner reader next k new j Nobody other f = tt
+
+  -- the pass of the view is that of the seat k, where this was posted
+  abbrev IsOf : List (Post S) → (ℕ → ℕ) → ℕ → ℕ → ℕ → List (ℕ × the.Act S) → Type 0
+  IsOf all owner next pass k posted = (pass ≡ owner k) × (k < next) × (posted ≡ at_seat k all)
+
+  -- a view that has a seat's gives that to a new pass
+  gives_seat : (pass k : ℕ) (posted : List (ℕ × the.Act S)) (v left : View S)
+      → ((got all : List (Post S)) (owner : ℕ → ℕ) (reader next : ℕ) → Fits got all owner reader next pass v → IsOf all owner next pass k posted)
+      → ((got all : List (Post S)) (owner owner' : ℕ → ℕ) (reader next : ℕ) → Fits got all owner reader next pass v → Fits got all owner' reader next pass left)
+      → Forks Keeps pass v left (Seat k posted)
+  gives_seat pass k posted v left own rest items views h at =
+      let all : List (Post S) = h.got ++ items in
+      let vs : List (View S) = set views pass left in
+      let owner' : ℕ → ℕ = λ i. cond (eqb i k) (length vs) (h.owner i) in
+      let fits = h.each_view pass v at in
+      let mine = own h.got all h.owner h.reader h.next fits in
+      let F = Fits h.got all h.owner h.reader h.next in
+      let G = Fits h.got all owner' h.reader h.next in
+      let old = changed F G views pass left h.each_view (rest h.got all h.owner owner' h.reader h.next fits)
+      (λ j u apart f. fits_moved h.got all h.owner h.reader h.next k (length vs) j u (λ e. apart (e ∙ sym mine.0)) f) in
+      record {
+        got = h.got;
+        owner = owner';
+        reader = h.reader;
+        next = h.next;
+        each_view = joined G vs (Seat k posted) old (owner_here h.owner k (length vs), mine.1, mine.2);
+        no_post = h.no_post;
+        no_stop = h.no_stop;
+        in_order = h.in_order;
+      }
+
+  -- a view takes in a seat's
+  takes_seat : (pass other k : ℕ) (posted : List (ℕ × the.Act S)) (v both : View S)
+      → ((got all : List (Post S)) (owner owner' : ℕ → ℕ) (reader next : ℕ) → Fits got all owner reader next pass v → IsOf all owner' next pass k posted → Fits got all owner' reader next pass both)
+      → Merges Keeps pass v other (Seat k posted) both nobody
+  takes_seat pass other k posted v both fit items views h at two at' =
+      let all : List (Post S) = h.got ++ items in
+      let vs : List (View S) = set views pass both in
+      let owner' : ℕ → ℕ = λ i. cond (eqb i k) pass (h.owner i) in
+      let was : get_elem? views other ≡ some (Seat k posted) = ⊎_elim (λ x. absurd (two x.0)) (λ x. x.1) (at_set views pass other both (Seat k posted) at') in
+      let seat = h.each_view other (Seat k posted) was in
+      let F = Fits h.got all h.owner h.reader h.next in
+      let G = Fits h.got all owner' h.reader h.next in
+      let H : ℕ → View S → Type 0 = λ j u. j ≢ other → G j u in
+      let here : G pass both = fit h.got all h.owner owner' h.reader h.next (h.each_view pass v at) (owner_here h.owner k pass, seat.1, seat.2) in
+      let now = changed F H views pass both h.each_view (λ _. here)
+      (λ j u apart f far. fits_moved h.got all h.owner h.reader h.next k pass j u (λ e. far (e ∙ sym seat.0)) f) in
+      record {
+        got = h.got;
+        owner = owner';
+        reader = h.reader;
+        next = h.next;
+        each_view = changed H G vs other nobody now tt (λ j u apart g. g apart);
+        no_post = h.no_post;
+        no_stop = h.no_stop;
+        in_order = h.in_order;
+      }
+
+  -- a seat lends its view
+  pub lends_seat : (pass k : ℕ) (posted : List (ℕ × the.Act S)) → Forks Keeps pass (Seat k posted) nobody (Seat k posted)
+  lends_seat pass k posted = gives_seat pass k posted (Seat k posted) nobody (λ got all owner reader next f. f) (λ got all owner owner' reader next f. tt)
+
+  -- the reader takes it in
+  pub merges_seat : (pass n : ℕ) (r : List (Post S)) (other k : ℕ) (posted : List (ℕ × the.Act S)) → Merges Keeps pass (Reader n r) other (Seat k posted) (Both n r k posted) nobody
+  merges_seat pass n r other k posted = takes_seat pass other k posted (Reader n r) (Both n r k posted) (λ got all owner owner' reader next f own. (f, own.0, own.1, own.2))
+
+  -- and lets it go
+  pub forks_seat : (pass n : ℕ) (r : List (Post S)) (k : ℕ) (posted : List (ℕ × the.Act S)) → Forks Keeps pass (Both n r k posted) (Reader n r) (Seat k posted)
+  forks_seat pass n r k posted = gives_seat pass k posted (Both n r k posted) (Reader n r) (λ got all owner reader next f. (f.1, f.2, f.3)) (λ got all owner owner' reader next f. f.0)
+
+  -- and the seat has it back
+  pub returns_seat : (pass other k : ℕ) (posted : List (ℕ × the.Act S)) → Merges Keeps pass nobody other (Seat k posted) (Seat k posted) nobody
+  returns_seat pass other k posted = takes_seat pass other k posted nobody (Seat k posted) (λ got all owner owner' reader next f own. own)
+
+  -- what both know
+  pub learns_both : (pass n : ℕ) (r : List (Post S)) (k : ℕ) (posted : List (ℕ × the.Act S)) → Learns Keeps pass (Both n r k posted) (λ items. Agrees (Both n r k posted))
+  learns_both pass n r k posted items views h at =
+      let mine = h.each_view pass (Both n r k posted) at in
+      (at_seat k items, ap (λ t. at_seat k t ++ at_seat k items) mine.0.2 ∙ sym (at_seat_append k h.got items) ∙ sym mine.3)

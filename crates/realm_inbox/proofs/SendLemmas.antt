@@ -42,6 +42,7 @@ use Rattle.realm_inbox.specs.contracts.ends.Seat as Seat
 use Rattle.realm_inbox.specs.contracts.history.RealmHistory as RealmHistory
 use Rattle.realm_inbox.specs.contracts.history.RealmHistoryOwedItem.TheImpl as owed
 use Rattle.realm_inbox.specs.contracts.joining.Joining as Joining
+use Rattle.realm_inbox.specs.contracts.letter.Halt as Halt
 use Rattle.realm_inbox.specs.contracts.letter.Letter as Letter
 use Rattle.realm_inbox.specs.contracts.letter.Post as Post
 use Rattle.realm_inbox.specs.contracts.room_bell.RoomBell as RoomBell
@@ -80,7 +81,7 @@ module _ (S : RattleType) where
   letter_send s = declared_send (Letter.the_type S) (search (crosses, sendable) depth 60, (act_send s, (search (crosses, sendable) depth 60, tt)))
 
   post_send : IsSend S → IsSend (Post.the_row S)
-  post_send s = variants_send (Post.enum S) ((letter_send s, tt), (tt, tt))
+  post_send s = variants_send (Post.enum S) ((letter_send s, tt), ((search (crosses, sendable) depth 60, tt), tt))
 
 module _ (S : RattleType) (shut : Ghosts S.Denot) where
   abbrev post : RattleType

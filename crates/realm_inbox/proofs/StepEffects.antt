@@ -3,18 +3,20 @@ use Rattle.std.proofs.Common.{◌≡◌, ℕ, ◌+◌, true, false, true≢false
 use Rattle.std.specs.declared.option.Option.{Option}
 use Rattle.std.specs.declared.result.Result.{Result}
 use Rattle.std.specs.Result.{result_ok}
-use Rattle.crossbeam_channel.specs.Fifo.{Pushes, Pops, Forks, Learns, Held}
+use mathlib.Core.List.{IsPrefix}
+use Rattle.crossbeam_channel.specs.Fifo.{Pushes, Pops, Forks, Merges, Learns, Held}
 use Rattle.wamp_ids.specs.Numbers.{seat_of}
+use Rattle.realm_inbox.specs.declared.letter.Halt.{Halt}
 use Rattle.realm_inbox.specs.declared.letter.Letter.{Letter}
 use Rattle.realm_inbox.specs.declared.letter.Post.{Post}
 use Rattle.realm_inbox.specs.declared.letter.Post.TheVariants.{Act, Stop}
 use Rattle.realm_inbox.specs.declared.rule.View.{View}
-use Rattle.realm_inbox.specs.declared.rule.View.TheVariants.{Reader, Seat, Door}
+use Rattle.realm_inbox.specs.declared.rule.View.TheVariants.{Reader, Seat, Door, Both, Nobody}
 use Rattle.realm_inbox.specs.Seats.{before, said, at_seat, stops_of, IsNext, InOrder}
-use Rattle.realm_inbox.specs.InTurn.{new_door, next_seat, after_cut, after_post, after_stop, Receipt, Keeps}
-use Rattle.realm_inbox.specs.Ends.{posted_in, received_in, stops_in, is_seat, is_reader, is_door}
+use Rattle.realm_inbox.specs.InTurn.{new_door, next_seat, after_cut, after_post, after_stop, nobody, with_seat, beside, without_seat, seat_in, Agrees, Receipt, Keeps}
+use Rattle.realm_inbox.specs.Ends.{posted_in, received_in, stops_in, number_in, is_seat, is_reader, is_door, reads_any, posts_any}
 use Rattle.realm_inbox.specs.Laws.{ReceivedBeginsPosted, StopsReceivedWerePosted, WaitingPostsAreInOrder}
-use Rattle.realm_inbox.proofs.RuleSteps.{at_seat_append, stops_append, adds_here, posts_seat, stops_door, receives_reader, cuts_seat, cuts_new_door}
+use Rattle.realm_inbox.proofs.RuleSteps.{at_seat_append, stops_append, adds_here, posts_seat, stops_door, receives_reader, cuts_seat, cuts_new_door, lends_seat, merges_seat, forks_seat, returns_seat, learns_both}
 
 is_not : {B : Type 0} → false ≡ true → B
 is_not e = absurd (true≢false (sym e))
@@ -24,16 +26,22 @@ module _ {S : Type 0} where
   reader_is n (Reader m r) e = ap (λ k. Reader k r) (eqb-true m n e)
   reader_is n (Seat k posted) e = is_not e
   reader_is n (Door m) e = is_not e
+  reader_is n (Both m r k posted) e = is_not e
+  reader_is n Nobody e = is_not e
 
   seat_is : (k : ℕ) (v : View S) → is_seat k v ≡ true → v ≡ Seat k (posted_in v)
   seat_is k (Reader n r) e = is_not e
   seat_is k (Seat j posted) e = ap (λ i. Seat i posted) (eqb-true j k e)
   seat_is k (Door n) e = is_not e
+  seat_is k (Both n r j posted) e = is_not e
+  seat_is k Nobody e = is_not e
 
   door_is : (v : View S) → is_door v ≡ true → v ≡ Door (stops_in v)
   door_is (Reader n r) e = is_not e
   door_is (Seat k posted) e = is_not e
   door_is (Door n) e = refl
+  door_is (Both n r k posted) e = is_not e
+  door_is Nobody e = is_not e
 
   pub receives_by : (pass n : ℕ) (v : View S) → is_reader n v ≡ true → Pops Keeps pass v (Receipt v) × Learns Keeps pass v (λ items. Unit {0})
   receives_by pass n v e = (subst (λ (u : View S). Pops Keeps pass u (λ x w. Receipt u x w)) (sym (reader_is n v e)) (receives_reader pass n (received_in v)), λ items views h at. tt)
@@ -43,8 +51,9 @@ module _ {S : Type 0} where
   posts_by n pass k v l e own told =
       (subst (λ (u : View S). Pushes Keeps n pass u (Act l) (λ w. w ≡ after_post u (Act l))) (sym (seat_is k v e)) (posts_seat n pass k (posted_in v) l own told), λ items views h at. tt)
 
-  pub stops_by : (n pass : ℕ) (v : View S) → is_door v ≡ true → Pushes Keeps n pass v Stop (λ w. w ≡ after_stop v) × Learns Keeps pass v (λ items. Unit {0})
-  stops_by n pass v e = (subst (λ (u : View S). Pushes Keeps n pass u Stop (λ w. w ≡ after_stop u)) (sym (door_is v e)) (stops_door n pass (stops_in v)), λ items views h at. tt)
+  pub stops_by : (n pass : ℕ) (v : View S) (halt : Halt) → is_door v ≡ true → Pushes Keeps n pass v (Stop halt) (λ w. w ≡ after_stop v) × Learns Keeps pass v (λ items. Unit {0})
+  stops_by n pass v halt e =
+      (subst (λ (u : View S). Pushes Keeps n pass u (Stop halt) (λ w. w ≡ after_stop u)) (sym (door_is v e)) (stops_door n pass (stops_in v) halt), λ items views h at. tt)
 
   pub cuts_by : (pass n : ℕ) (v : View S) → is_reader n v ≡ true → Forks Keeps pass v (after_cut v) (next_seat v)
   cuts_by pass n v e = subst (λ (u : View S). Forks Keeps pass u (after_cut u) (next_seat u)) (sym (reader_is n v e)) (cuts_seat pass n (received_in v))
@@ -57,24 +66,32 @@ module _ {S : Type 0} where
   post_told k (Reader n r) w l e own t = is_not e
   post_told k (Seat j posted) w l e own t = (ap (λ u. is_seat k u) t ∙ e, ap (λ u. posted_in u) t ∙ ap (λ s. posted ++ s) (adds_here j l (own ∙ sym (eqb-true j k e))))
   post_told k (Door n) w l e own t = is_not e
+  post_told k (Both n r j posted) w l e own t = is_not e
+  post_told k Nobody w l e own t = is_not e
 
   -- of a stop
   pub stop_told : (v w : View S) → is_door v ≡ true → w ≡ after_stop v → (is_door w ≡ true) × (stops_in w ≡ stops_in v + 1)
   stop_told (Reader n r) w e t = is_not e
   stop_told (Seat k posted) w e t = is_not e
   stop_told (Door n) w e t = (ap (λ u. is_door u) t, ap (λ u. stops_in u) t)
+  stop_told (Both n r k posted) w e t = is_not e
+  stop_told Nobody w e t = is_not e
 
   -- of the cut of a seat
   pub cut_told : (n : ℕ) (v w s : View S) → is_reader n v ≡ true → w ≡ after_cut v → s ≡ next_seat v → (is_reader (n + 1) w ≡ true) × (received_in w ≡ received_in v) × (is_seat n s ≡ true) × (posted_in s ≡ [])
   cut_told n (Reader m r) w s e is cut = (ap (λ u. is_reader (n + 1) u) is ∙ eq-eqb (m + 1) (n + 1) (ap (λ i. i + 1) (eqb-true m n e)), ap (λ u. received_in u) is, ap (λ u. is_seat n u) cut ∙ e, ap (λ u. posted_in u) cut)
   cut_told n (Seat k posted) w s e is cut = is_not e
   cut_told n (Door m) w s e is cut = is_not e
+  cut_told n (Both m r k posted) w s e is cut = is_not e
+  cut_told n Nobody w s e is cut = is_not e
 
   -- of a receive
   pub receipt_told : (n : ℕ) (v w : View S) (x : Post S) → is_reader n v ≡ true → Receipt v x w → (is_reader n w ≡ true) × (received_in w ≡ received_in v ++ x ∷ []) × IsNext (received_in v) x
   receipt_told n (Reader m r) w x e t = (ap (λ u. is_reader n u) t.0 ∙ e, ap (λ u. received_in u) t.0, t.1)
   receipt_told n (Seat k posted) w x e t = is_not e
   receipt_told n (Door m) w x e t = is_not e
+  receipt_told n (Both m r k posted) w x e t = is_not e
+  receipt_told n Nobody w x e t = is_not e
 
   -- of a look, whether a post was found or not
   pub looked : {E : Type 0} (n : ℕ) (v w : View S) (r : Result (Post S) E) → is_reader n v ≡ true → MatchResult r (λ x. Receipt v x w) (λ e. (w ≡ v) × Held {T = Post S} 0 (λ items. Unit {0}))
@@ -89,6 +106,83 @@ module _ {S : Type 0} where
   -- the same, where it isn't told why none was found
   pub given_by : {E : Type 0} (was now : List (Post S)) (r : Result (Post S) E) (o : Option (Post S)) → MatchResult r (λ x. now ≡ was ++ x ∷ []) (λ e. now ≡ was) → o ≡ result_ok r → MatchOption o (now ≡ was) (λ p. now ≡ was ++ p ∷ [])
   given_by was now r o t is = subst (λ k. MatchOption k (now ≡ was) (λ p. now ≡ was ++ p ∷ [])) (sym is) (given was now r t)
+
+module _ {S : Type 0} where
+  -- of the two views in one hand
+  any_reader : (v : View S) → reads_any v ≡ true → (n : ℕ) × (v ≡ Reader n (received_in v))
+  any_reader (Reader n r) e = (n, refl)
+  any_reader (Seat k posted) e = is_not e
+  any_reader (Door n) e = is_not e
+  any_reader (Both n r k posted) e = is_not e
+  any_reader Nobody e = is_not e
+
+  any_seat : (v : View S) → posts_any v ≡ true → v ≡ Seat (number_in v) (posted_in v)
+  any_seat (Reader n r) e = is_not e
+  any_seat (Seat k posted) e = refl
+  any_seat (Door n) e = is_not e
+  any_seat (Both n r k posted) e = is_not e
+  any_seat Nobody e = is_not e
+
+  pub reads_some : (n : ℕ) (v : View S) → is_reader n v ≡ true → reads_any v ≡ true
+  reads_some n v e = ap (λ u. reads_any u) (reader_is n v e)
+
+  pub posts_some : (k : ℕ) (v : View S) → is_seat k v ≡ true → posts_any v ≡ true
+  posts_some k v e = ap (λ u. posts_any u) (seat_is k v e)
+
+  pub number_is : (k : ℕ) (v : View S) → is_seat k v ≡ true → number_in v ≡ k
+  number_is k v e = ap (λ u. number_in u) (seat_is k v e)
+
+  -- a seat's view is lent to the reader's: what the passes know, step by step
+
+  seat_lent : (w m : View S) → posts_any w ≡ true → m ≡ seat_in w → m ≡ Seat (number_in w) (posted_in w)
+  seat_lent w m posts is = is ∙ ap (λ u. seat_in u) (any_seat w posts)
+
+  both_are : (v w m b : View S) (n : ℕ) → v ≡ Reader n (received_in v) → posts_any w ≡ true → m ≡ seat_in w → b ≡ beside v m → b ≡ Both n (received_in v) (number_in w) (posted_in w)
+  both_are v w m b n reads posts lent is = is ∙ (λ i. beside (reads i) (seat_lent w m posts lent i))
+
+  pub lends_by : (pass : ℕ) (w : View S) → posts_any w ≡ true → Forks Keeps pass w (without_seat w) (seat_in w)
+  lends_by pass w posts = subst (λ (u : View S). Forks Keeps pass u (without_seat u) (seat_in u)) (sym (any_seat w posts)) (lends_seat pass (number_in w) (posted_in w))
+
+  pub merges_by : (pass : ℕ) (v : View S) (other : ℕ) (w m : View S) → reads_any v ≡ true → posts_any w ≡ true → m ≡ seat_in w → Merges Keeps pass v other m (beside v m) nobody
+  merges_by pass v other w m reads posts lent =
+      let r = any_reader v reads in
+      subst (λ (u : View S). Merges Keeps pass u other m (beside u m) nobody) (sym r.1)
+      (subst (λ (u : View S). Merges Keeps pass (Reader r.0 (received_in v)) other u (with_seat r.0 (received_in v) u) nobody) (sym (seat_lent w m posts lent))
+      (merges_seat pass r.0 (received_in v) other (number_in w) (posted_in w)))
+
+  pub learns_by : (pass : ℕ) (v w m b : View S) → reads_any v ≡ true → posts_any w ≡ true → m ≡ seat_in w → b ≡ beside v m → Learns Keeps pass b (λ items. Agrees b)
+  learns_by pass v w m b reads posts lent is =
+      let r = any_reader v reads in
+      subst (λ (u : View S). Learns Keeps pass u (λ items. Agrees u)) (sym (both_are v w m b r.0 r.1 posts lent is)) (learns_both pass r.0 (received_in v) (number_in w) (posted_in w))
+
+  pub forks_by : (pass : ℕ) (v w m b : View S) → reads_any v ≡ true → posts_any w ≡ true → m ≡ seat_in w → b ≡ beside v m → Forks Keeps pass b (without_seat b) (seat_in b)
+  forks_by pass v w m b reads posts lent is =
+      let r = any_reader v reads in
+      subst (λ (u : View S). Forks Keeps pass u (without_seat u) (seat_in u)) (sym (both_are v w m b r.0 r.1 posts lent is)) (forks_seat pass r.0 (received_in v) (number_in w) (posted_in w))
+
+  pub returns_by : (pass other : ℕ) (v w m b empty back : View S) → reads_any v ≡ true → posts_any w ≡ true → m ≡ seat_in w → b ≡ beside v m → empty ≡ without_seat w → back ≡ seat_in b
+      → Merges Keeps pass empty other back (beside empty back) nobody
+  returns_by pass other v w m b empty back reads posts lent is left gone =
+      let r = any_reader v reads in
+      let none : empty ≡ nobody = left ∙ ap (λ u. without_seat u) (any_seat w posts) in
+      let seat : back ≡ Seat (number_in w) (posted_in w) = gone ∙ ap (λ u. seat_in u) (both_are v w m b r.0 r.1 posts lent is) in
+      subst (λ (u : View S). Merges Keeps pass u other back (beside u back) nobody) (sym none)
+      (subst (λ (u : View S). Merges Keeps pass nobody other u u nobody) (sym seat) (returns_seat pass other (number_in w) (posted_in w)))
+
+  -- what was learned
+  pub compared : (v w m b : View S) → reads_any v ≡ true → posts_any w ≡ true → m ≡ seat_in w → b ≡ beside v m → Agrees b → IsPrefix (at_seat (number_in w) (received_in v)) (posted_in w)
+  compared v w m b reads posts lent is agrees = let r = any_reader v reads in subst (λ u. Agrees u) (both_are v w m b r.0 r.1 posts lent is) agrees
+
+  -- both views are as before
+  pub reader_back : (v w m b new : View S) → reads_any v ≡ true → posts_any w ≡ true → m ≡ seat_in w → b ≡ beside v m → new ≡ without_seat b → new ≡ v
+  reader_back v w m b new reads posts lent is left = let r = any_reader v reads in left ∙ ap (λ u. without_seat u) (both_are v w m b r.0 r.1 posts lent is) ∙ sym r.1
+
+  pub seat_back : (v w m b empty back new : View S) → reads_any v ≡ true → posts_any w ≡ true → m ≡ seat_in w → b ≡ beside v m → empty ≡ without_seat w → back ≡ seat_in b → new ≡ beside empty back → new ≡ w
+  seat_back v w m b empty back new reads posts lent is left gone come =
+      let r = any_reader v reads in
+      let none : empty ≡ nobody = left ∙ ap (λ u. without_seat u) (any_seat w posts) in
+      let seat : back ≡ Seat (number_in w) (posted_in w) = gone ∙ ap (λ u. seat_in u) (both_are v w m b r.0 r.1 posts lent is) in
+      come ∙ (λ i. beside (none i) (seat i)) ∙ sym (any_seat w posts)
 
 pub begins_posted : (S : Type 0) → ReceivedBeginsPosted S
 begins_posted S items views reader seat n k got posted h at_reader at_seat' =

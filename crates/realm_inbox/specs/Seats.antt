@@ -14,6 +14,12 @@ module _ {S : Type 0} where
   abbrev pub BringsOwn : ℕ → Act S → Type 0
   BringsOwn c act = (joining : Joining S) → act ≡ Join joining → joining.outbox.conn ≡ c
 
+  abbrev pub conn_of_letter : Letter S → ℕ
+  conn_of_letter l = l.conn
+
+  abbrev pub act_of_letter : Letter S → Act S
+  act_of_letter l = l.act
+
   abbrev pub seat_of_letter : Letter S → ℕ
   seat_of_letter l = seat_of l.conn
 
@@ -27,7 +33,7 @@ module _ {S : Type 0} where
   -- what a post adds at the seat k. A stop stands at no seat
   abbrev pub adds_at : ℕ → Post S → List (ℕ × Act S)
   adds_at k (post.Act l) = if seat_of_letter l == k then said l ∷ [] else []
-  adds_at k post.Stop = []
+  adds_at k (post.Stop halt) = []
 
   -- what was posted at the seat k, of these posts, the oldest first
   abbrev pub at_seat : ℕ → List (Post S) → List (ℕ × Act S)
@@ -36,7 +42,7 @@ module _ {S : Type 0} where
 
   abbrev pub adds_stops : Post S → ℕ
   adds_stops (post.Act l) = 0
-  adds_stops post.Stop = 1
+  adds_stops (post.Stop halt) = 1
 
   -- how many of these posts are stops
   abbrev pub stops_of : List (Post S) → ℕ
@@ -46,7 +52,7 @@ module _ {S : Type 0} where
   -- the post is the next of its seat after these: what had been posted there before it is what these are there
   abbrev pub IsNext : List (Post S) → Post S → Type 0
   IsNext ps (post.Act l) = before l ≡ at_seat (seat_of_letter l) ps
-  IsNext ps post.Stop = Unit {0}
+  IsNext ps (post.Stop halt) = Unit {0}
 
   -- each of the posts is the next of its seat after those before it
   abbrev pub InOrder : List (Post S) → List (Post S) → Type 0

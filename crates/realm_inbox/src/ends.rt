@@ -4,14 +4,15 @@ ghost use Rattle.crossbeam_channel.specs.Claims.{view, IsSeatAt};
 ghost use Rattle.crossbeam_channel.specs.Ends.{sends_on, receives_on};
 ghost use Rattle.wamp_ids.specs.Numbers.{seat_of};
 ghost use Rattle.ghost_state.specs.GhostList.{items_of};
-ghost use Rattle.realm_inbox.specs.Seats.{IsNext, BringsOwn};
-ghost use Rattle.realm_inbox.specs.Ends.{posted_in, is_seat, is_reader, is_door};
+ghost use mathlib.Core.List.{IsPrefix};
+ghost use Rattle.realm_inbox.specs.Seats.{IsNext, BringsOwn, at_seat};
+ghost use Rattle.realm_inbox.specs.Ends.{place_of, posted_in, received_in, number_in, is_seat, is_reader, is_door, reads_any, posts_any};
 
 use crate::act::Act;
 use crate::bells::{Bells, send};
-use crate::letter::{Letter, Post};
+use crate::letter::{Halt, Letter, Post};
 use crate::room_bell::RoomBell;
-use crate::rule::{InTurn, Posts, Receives, Stops, View};
+use crate::rule::{Beside, InTurn, Posts, Receives, Stops, View};
 use crate::transport::Shut;
 use crossbeam_channel::{Pass, RuledReceiver, RuledSender, TryRecvError};
 use crossbeam_utils::sync::Parker;
@@ -77,7 +78,7 @@ pub struct Inbox<S: Shut> {
 }
 
 impl<S: Shut> Inbox<S> {
-    ghost use Rattle.realm_inbox.specs.EndViews.{received, capacity, inbox_of};
+    ghost use Rattle.realm_inbox.specs.EndViews.{received, capacity, posted, poster_conn, inbox_of, inbox_of_poster};
 
     /// Waits for a post. It is the next of its seat: what had been posted there before it is exactly what was received of the seat.
     /// `None` once each sender is gone: the door, each poster and each seat. It wakes who waits for room: with each post that it
@@ -131,11 +132,48 @@ impl<S: Shut> Inbox<S> {
         self.receiver.try_recv_as::<Receives, R>(rt, &mut self.pass)
     }
 
+    /// Tells what was received of a poster's seat: it begins what was posted there. The two are of one inbox, and neither changes;
+    /// nobody waits.
+    pub fn compare(&mut self, poster: &mut Poster<S>)
+        requires inbox { inbox_of self.old ≡ inbox_of_poster poster.old }
+        ensures begins { IsPrefix (at_seat (seat_of (poster_conn poster.new)) (received self.new))
+            (posted poster.new) }
+        ensures poster { (poster_conn poster.new ≡ poster_conn poster.old)
+            × (posted poster.new ≡ posted poster.old)
+            × (inbox_of_poster poster.new ≡ inbox_of_poster poster.old) }
+        ensures same { (received self.new ≡ received self.old)
+            × (inbox_of self.new ≡ inbox_of self.old)
+            × (capacity self.new ≡ capacity self.old) }
+    {
+        poster.seat.compare(&mut self.pass);
+    }
+
     /// Wakes the posters that wait for room. Who receives several posts by [`Inbox::try_receive`] wakes once, after the last; until
     /// then they may sleep on. Where nobody waits it is no system call.
     pub fn wake(&self) {
         self.room.ring();
     }
+}
+
+// Tells what the reader's pass and a seat's know together. Both know the same behind it.
+fn compare_passes<S: Shut>(sender: &Sending<S>, reading: &mut Ticket<S>, posting: &mut Ticket<S>)
+    requires reading { IsSeatAt (sends_on sender.now) reading.old
+        × (reads_any (view reading.old) ≡ true) }
+    requires posting { IsSeatAt (sends_on sender.now) posting.old
+        × (posts_any (view posting.old) ≡ true) }
+    ensures begins { IsPrefix
+        (at_seat (number_in (view posting.old)) (received_in (view reading.old)))
+        (posted_in (view posting.old)) }
+    ensures reading { IsSeatAt (sends_on sender.now) reading.new
+        × (view reading.new ≡ view reading.old) }
+    ensures posting { IsSeatAt (sends_on sender.now) posting.new
+        × (view posting.new ≡ view posting.old) }
+{
+    let lent = sender.another::<Beside>(posting);
+    sender.absorb::<Beside>(reading, lent);
+    sender.learn_as::<Beside>(reading);
+    let back = sender.another::<Beside>(reading);
+    sender.absorb::<Beside>(posting, back);
 }
 
 impl<S: Shut> Drop for Inbox<S> {
@@ -154,7 +192,7 @@ impl<S: Shut> Drop for Inbox<S> {
 }
 
 impl<S: Shut> Seat<S> {
-    ghost use Rattle.realm_inbox.specs.EndViews.{posted_at, seat_number, inbox_of_seat};
+    ghost use Rattle.realm_inbox.specs.EndViews.{posted, posted_at, poster_conn, seat_number, inbox_of_poster, inbox_of_seat};
 
     /// Its number, from 1 to 256. The connections of this seat take turns there.
     pub fn number(&self) -> u64
@@ -163,6 +201,39 @@ impl<S: Shut> Seat<S> {
         ensures most { result ≤ 256 }
     {
         self.number
+    }
+
+    /// A poster of the connection at this seat, of its inbox. The seat, where its number isn't [`wamp_ids::seat`] of the connection.
+    ///
+    /// # Errors
+    /// Only that.
+    pub fn into_poster(self, conn: Conn) -> Result<Poster<S>, Seat<S>>
+        ensures conn { IfOk result (λ p. poster_conn p ≡ conn) }
+        ensures posted { IfOk result (λ p. posted p ≡ posted_at self) }
+        ensures same { IfOk result (λ p. inbox_of_poster p ≡ inbox_of_seat self) }
+        ensures seat { IfErr result (λ s. s ≡ self) }
+        ensures which { MatchResult result (λ _. seat_of conn ≡ seat_number self)
+            (λ _. seat_of conn ≢ seat_number self) }
+    {
+        if self.number != seat(conn) {
+            return Err(self);
+        }
+        Ok(Poster { conn, seat: self })
+    }
+
+    // Tells what the reader's pass, which is of its inbox, and its own know together.
+    fn compare(&mut self, reading: &mut Ticket<S>)
+        requires place { place_of reading.old ≡ inbox_of_seat self.old }
+        requires reads { (reading.old.me.1 ≡ []) × (reads_any (view reading.old) ≡ true) }
+        ensures begins { IsPrefix (at_seat (seat_number self.new) (received_in (view reading.old)))
+            (posted_at self.new) }
+        ensures reading { (place_of reading.new ≡ place_of reading.old)
+            × (reading.new.me.1 ≡ []) × (view reading.new ≡ view reading.old) }
+        ensures same { (seat_number self.new ≡ seat_number self.old)
+            × (posted_at self.new ≡ posted_at self.old)
+            × (inbox_of_seat self.new ≡ inbox_of_seat self.old) }
+    {
+        compare_passes(&self.sender, reading, &mut self.pass);
     }
 
     // Posts an act of a connection of this seat.
@@ -187,7 +258,7 @@ impl<S: Shut> Seat<S> {
                 Ok(())
             }
             Err(Post::Act(letter)) => Err(letter.act),
-            Err(Post::Stop) => unreachable!(),
+            Err(Post::Stop(_)) => unreachable!(),
         }
     }
 }
@@ -246,7 +317,8 @@ impl<S: Shut> Poster<S> {
 impl<S: Shut> Door<S> {
     ghost use Rattle.realm_inbox.specs.EndViews.{posted, posted_at, poster_conn, seat_number, stops, inbox_of_poster, inbox_of_seat, inbox_of_door};
 
-    /// A poster of the connection at its seat, whose number is [`wamp_ids::seat`] of it.
+    /// A poster of the connection at its seat, whose number is [`wamp_ids::seat`] of it. The seat is one of this door's inbox. Where
+    /// the caller can't show this, [`Seat::into_poster`] makes one of the seat alone.
     ///
     /// # Errors
     /// None: it takes no memory and is never refused.
@@ -257,33 +329,13 @@ impl<S: Shut> Door<S> {
         conn: Conn,
     ) -> Result<Poster<S>, (AllocError, Seat<S>)>
         requires own { seat_of conn ≡ seat_number seat }
+        requires inbox { inbox_of_seat seat ≡ inbox_of_door self.now }
         ensures conn { MatchResult result (λ p. poster_conn p ≡ conn) (λ _. ⊥) }
         ensures posted { MatchResult result (λ p. posted p ≡ posted_at seat) (λ _. ⊥) }
-        ensures same { MatchResult result (λ p. inbox_of_poster p ≡ inbox_of_seat seat) (λ _. ⊥) }
+        ensures same { MatchResult result (λ p. inbox_of_poster p ≡ inbox_of_door self.now)
+            (λ _. ⊥) }
     {
         Ok(Poster { conn, seat })
-    }
-
-    /// A poster of the connection at the seat, or the seat, where its number isn't [`wamp_ids::seat`] of the connection: what
-    /// [`Door::poster`] demands is tested here.
-    ///
-    /// # Errors
-    /// Only that.
-    pub fn poster_at(&self, alloc: Global, at: Seat<S>, conn: Conn) -> Result<Poster<S>, Seat<S>>
-        ensures conn { IfOk result (λ p. poster_conn p ≡ conn) }
-        ensures posted { IfOk result (λ p. posted p ≡ posted_at at) }
-        ensures same { IfOk result (λ p. inbox_of_poster p ≡ inbox_of_seat at) }
-        ensures seat { IfErr result (λ s. s ≡ at) }
-        ensures which { MatchResult result (λ _. seat_of conn ≡ seat_number at)
-            (λ _. seat_of conn ≢ seat_number at) }
-    {
-        if at.number() != seat(conn) {
-            return Err(at);
-        }
-        match self.poster(alloc, at, conn) {
-            Ok(poster) => Ok(poster),
-            Err((_, at)) => Err(at),
-        }
     }
 
     /// Posts a stop, and waits while the inbox is full. False where the inbox is gone; nothing was posted then.
@@ -291,7 +343,8 @@ impl<S: Shut> Door<S> {
         ensures posted { stops self.new ≡ (if result then stops self.old + 1 else stops self.old) }
         ensures same { inbox_of_door self.new ≡ inbox_of_door self.old }
     {
-        match send::<_, _, _, Stops, R>(rt, &self.sender, &self.bells, &mut self.pass, Post::Stop) {
+        let stop = Post::Stop(Halt { of_door: () });
+        match send::<_, _, _, Stops, R>(rt, &self.sender, &self.bells, &mut self.pass, stop) {
             Ok(()) => true,
             Err(_) => false,
         }

@@ -1,4 +1,4 @@
-//! What an inbox carries.
+//! What an inbox carries. Nobody outside this crate makes a post: it comes out of an inbox, or not at all.
 ghost use Rattle.std.specs.Prelude.{◌≡◌};
 ghost use Rattle.realm_inbox.specs.declared.joining.Joining.{Joining as AJoining};
 ghost use Rattle.realm_inbox.specs.declared.act.Act.TheVariants.{Join};
@@ -10,15 +10,53 @@ use std::snapshot::Snapshot;
 use wamp_ids::Conn;
 
 /// An act of a connection, with what had been posted at its seat before it. A Join brings an outbox of this connection.
+///
+/// A poster alone makes one, as it posts. Contracts see the connection, the act, and what had been posted before.
 #[derive(Drop)]
 pub struct Letter<S: Shut> {
-    /// Whose act it is.
-    pub conn: Conn,
-    /// The act.
-    pub act: Act<S>,
-    /// What had been posted at its seat before it. It takes no bytes.
-    pub before: Snapshot<GhostList<(Conn, Act<S>)>>,
+    pub(crate) conn: Conn,
+    pub(crate) act: Act<S>,
+    // It takes no bytes.
+    pub(crate) before: Snapshot<GhostList<(Conn, Act<S>)>>,
     ghost own: { (joining : AJoining S) → act ≡ Join joining → joining.outbox.conn ≡ conn },
+}
+
+impl<S: Shut> Letter<S> {
+    ghost use Rattle.realm_inbox.specs.Seats.{BringsOwn, act_of_letter, conn_of_letter};
+
+    /// Whose act it is.
+    pub fn conn(&self) -> Conn
+        ensures { result ≡ conn_of_letter self.now }
+    {
+        self.conn
+    }
+
+    /// The act.
+    pub fn act(&self) -> &Act<S>
+        ensures { result.now ≡ act_of_letter self.now }
+    {
+        &self.act
+    }
+
+    /// Whose act it is, and the act. A Join brings an outbox of this connection.
+    pub fn into_parts(self) -> (Conn, Act<S>)
+        ensures conn { result.0 ≡ conn_of_letter self }
+        ensures act { result.1 ≡ act_of_letter self }
+        ensures own { BringsOwn result.0 result.1 }
+    {
+        let Letter {
+            conn,
+            act,
+            before: _,
+        } = self;
+        (conn, act)
+    }
+}
+
+/// What a stop is made of. A door alone has it, and posts it.
+#[derive(Drop)]
+pub struct Halt {
+    pub(crate) of_door: (),
 }
 
 /// What the actor is told.
@@ -27,5 +65,5 @@ pub enum Post<S: Shut> {
     /// An act of a connection.
     Act(Letter<S>),
     /// To stop. It stands at no seat.
-    Stop,
+    Stop(Halt),
 }

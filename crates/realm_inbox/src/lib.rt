@@ -33,7 +33,7 @@ pub use ends::{Door, Inbox, Poster, Seat};
 pub use ghost_state::GhostList;
 pub use history::RealmHistory;
 pub use joining::Joining;
-pub use letter::{Letter, Post};
+pub use letter::{Halt, Letter, Post};
 pub use posting::Posting;
 pub use rule::{InTurn, View};
 pub use transport::{IdSource, Shut};

@@ -16,9 +16,7 @@ use crossbeam_utils::sync::Parker;
 use ghost_state::GhostList;
 use std::alloc::{AllocError, Global};
 use std::sync::Arc;
-
-/// How many seats an inbox has.
-pub const SEATS: u64 = 256;
+use wamp_ids::SEATS;
 
 // What the door knows, cut before any seat.
 fn cut_door<S: Shut>(sender: &Sending<S>, pass: &mut Ticket<S>) -> Ticket<S>

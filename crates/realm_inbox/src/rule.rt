@@ -2,7 +2,7 @@
 use crate::act::Act;
 use crate::letter::Post;
 use crate::transport::Shut;
-use crossbeam_channel::protocol::{Lesson, Outcome, Protocol, Split};
+use crossbeam_channel::protocol::{Join, Lesson, Outcome, Protocol, Split};
 use std::collections::LinkedList;
 use wamp_ids::Conn;
 
@@ -14,6 +14,10 @@ pub enum View<S: Shut> {
     Seat(u64, LinkedList<(Conn, Act<S>)>),
     /// The door: how many stops it has posted.
     Door(u64),
+    /// The receiving end and a seat in one hand: what both know.
+    Both(u64, LinkedList<Post<S>>, u64, LinkedList<(Conn, Act<S>)>),
+    /// No end.
+    Nobody,
 }
 
 /// The rule of an inbox: what was posted at a seat is what was received of it, and then what waits of it.
@@ -47,6 +51,31 @@ impl<S: Shut> Split<View<S>> for CutDoor {
     ghost left = { after_cut };
 
     ghost right = { λ v. new_door };
+}
+
+// A seat's pass is lent to the reader's, and comes back.
+pub(crate) struct Beside;
+
+impl<S: Shut> Join<View<S>> for Beside {
+    ghost use Rattle.realm_inbox.specs.InTurn.{beside, nobody};
+
+    ghost both = { beside };
+
+    ghost spent = { nobody };
+}
+
+impl<S: Shut> Split<View<S>> for Beside {
+    ghost use Rattle.realm_inbox.specs.InTurn.{without_seat, seat_in};
+
+    ghost left = { without_seat };
+
+    ghost right = { seat_in };
+}
+
+impl<S: Shut> Lesson<Post<S>, View<S>> for Beside {
+    ghost use Rattle.realm_inbox.specs.InTurn.{Agrees};
+
+    ghost fact = { λ v items. Agrees v };
 }
 
 // A post at a seat.

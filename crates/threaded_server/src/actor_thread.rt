@@ -66,7 +66,7 @@ fn turn_away_rest<R: Wait, S: Shut>(rt: &R, mut inbox: Inbox<S>) {
 // Nobody joins any more: the outbox is closed, so that its writer ends, and the transport is shut. Another post says nothing to anybody.
 fn turn_away<S: Shut>(post: &Post<S>) {
     if let Post::Act(letter) = post {
-        if let Act::Join(joining) = &letter.act {
+        if let Act::Join(joining) = letter.act() {
             joining.transport.shut();
         }
     }

@@ -104,7 +104,7 @@ impl<S: Shut> ConnectionTable<S> {
     fn take_posters(&mut self, conn: Conn) -> Result<Posters<S>, AllocError> {
         let mut posters = Vec::with_capacity(self.alloc, self.realms.len())?;
         for realm in self.realms.iter_mut() {
-            match realm.take_poster(self.alloc, conn) {
+            match realm.take_poster(conn) {
                 Some(poster) => posters.push(Some(poster))?,
                 None => break,
             }

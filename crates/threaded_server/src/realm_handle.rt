@@ -58,9 +58,9 @@ impl<S: Shut> RealmHandle<S> {
     }
 
     /// The poster of a connection at its seat, which is free no longer. None where it isn't free.
-    pub fn take_poster(&mut self, alloc: Global, conn: Conn) -> Option<Poster<S>> {
+    pub fn take_poster(&mut self, conn: Conn) -> Option<Poster<S>> {
         let at = self.take_seat(seat(conn))?;
-        match self.door.poster_at(alloc, at, conn) {
+        match at.into_poster(conn) {
             Ok(poster) => Some(poster),
             Err(at) => {
                 self.put_seat(at);
