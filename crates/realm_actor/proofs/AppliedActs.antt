@@ -1,5 +1,5 @@
 -- An act was applied, or lost.
-use Rattle.std.proofs.Common.{length, ◌≡◌, ℕ, Bool, true, false, cond, not, List, [], ◌∷◌, ◌++◌, refl, sym, ap, ◌∙◌, subst, append_assoc}
+use Rattle.std.proofs.Common.{length, ◌≡◌, ℕ, Bool, true, false, cond, not, List, [], ◌∷◌, ◌++◌, refl, sym, ap, ◌∙◌, subst, append_assoc, append-nil}
 use Rattle.realm.specs.declared.entry.Entry.{Entry}
 use Rattle.realm.specs.declared.entry.Entry.TheVariants as entry
 use Rattle.std.specs.Prelude.{Some}
@@ -73,43 +73,27 @@ module _ {S : Type 0} where
   stays c Spoilt rows other = refl
   stays c Gone rows other = refl
 
-module _ {S : Type 0} (c : ℕ) (act : Act S) (old new : Working S) (e : Entry) (other : is_join act ≡ false) where
-  pub applies_plain : draws act ≡ false → e ≡ entry_of c act 0 → (drawn : List ℕ) × Accepted (standing_in old) e drawn (standing_in new) × (new.words ≡ old.words ++ drawn) → Applies c act old new
-  applies_plain quiet is a = record {
-    word = 0;
-    drawn = a.0;
-    rows = old.rows;
-    brought = stays c act old.rows other;
-    accepted = subst (λ x. Accepted (standing_in old) x a.0 (standing_in new)) is a.1;
-    words = a.2 ∙ ap (λ b. old.words ++ cond b (0 ∷ a.0) a.0) (sym quiet);
-  }
+-- the word of an act stands before those of the Cuts, where it has one
+drawn_before : (b : Bool) (before : List ℕ) (w : ℕ) (drawn : List ℕ) → (before ++ cond b (w ∷ []) []) ++ drawn ≡ before ++ cond b (w ∷ drawn) drawn
+drawn_before true before w drawn = append_assoc before (w ∷ []) drawn
+drawn_before false before w drawn = ap (λ s. s ++ drawn) (append-nil before)
 
-  pub applies_word : (w : ℕ) (start : List ℕ) → start ≡ old.words ++ w ∷ [] → draws act ≡ true → e ≡ entry_of c act w
+module _ {S : Type 0} (c : ℕ) (act : Act S) (old new : Working S) (e : Entry) (other : is_join act ≡ false) where
+  pub applies_drawn : (w : ℕ) (start : List ℕ) → start ≡ old.words ++ cond (draws act) (w ∷ []) [] → e ≡ entry_of c act w
       → (drawn : List ℕ) × Accepted (standing_in old) e drawn (standing_in new) × (new.words ≡ start ++ drawn) → Applies c act old new
-  applies_word w start begun told is a = record {
+  applies_drawn w start begun is a = record {
     word = w;
     drawn = a.0;
     rows = old.rows;
     brought = stays c act old.rows other;
     accepted = subst (λ x. Accepted (standing_in old) x a.0 (standing_in new)) is a.1;
-    words = a.2 ∙ ap (λ s. s ++ a.0) begun ∙ append_assoc old.words (w ∷ []) a.0 ∙ ap (λ b. old.words ++ cond b (w ∷ a.0) a.0) (sym told);
+    words = a.2 ∙ ap (λ s. s ++ a.0) begun ∙ drawn_before (draws act) old.words w a.0;
   }
 
--- no word is lost with an act that draws none, and one with an act that does
-quiet_lost : (b : Bool) (n : ℕ) → n ≡ 0 → b ≡ false → n ≡ cond b 1 0
-quiet_lost true n none is = absurd (true≢false is)
-quiet_lost false n none is = none
-
-told_lost : (b : Bool) (n : ℕ) → n ≡ 1 → b ≡ true → n ≡ cond b 1 0
-told_lost true n one is = one
-told_lost false n one is = absurd (true≢false (sym is))
-
-module _ {S : Type 0} (act : Act S) where
-  pub none_lost : (lost : List ℕ) → lost ≡ [] → draws act ≡ false → length lost ≡ cond (draws act) 1 0
-  none_lost lost none quiet = quiet_lost (draws act) (length lost) (ap length none) quiet
-
-  pub one_lost : (word : ℕ) → draws act ≡ true → length (word ∷ []) ≡ cond (draws act) 1 0
-  one_lost word told = told_lost (draws act) 1 refl told
+-- a word that is lost is the only one
+pub few_drawn : (b : Bool) (w : ℕ) → length (cond b (w ∷ []) []) ≡ cond b 1 0
+few_drawn true w = refl
+few_drawn false w = refl
 
 module _ {S : Type 0} (c : ℕ) (act : Act S) (old new : Working S) where
   pub loses_by : (lost : List ℕ) (start : List ℕ) → start ≡ old.words ++ lost → length lost ≡ cond (draws act) 1 0

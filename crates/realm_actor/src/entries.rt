@@ -1,5 +1,5 @@
 //! What a connection does enters the history.
-ghost use Rattle.std.specs.Prelude.{◌≡◌, ◌+◌, ◌<◌, ◌≤◌, OnOk, true, false, length, vec_capacity, vec_len};
+ghost use Rattle.std.specs.Prelude.{◌≡◌, ◌+◌, ◌<◌, ◌≤◌, ◌++◌, ◌∷◌, [], ℕ, cond, OnOk, true, false, length, vec_capacity, vec_len};
 ghost use Rattle.realm.specs.Sessions.{may_join};
 ghost use Rattle.realm_inbox.specs.declared.act.Act.TheVariants.{Join as AJoin};
 ghost use Rattle.realm_inbox.specs.Joins.{is_join};
@@ -19,31 +19,27 @@ use std::alloc::{AllocError, Global};
 use std::sync::Wait;
 use wamp_ids::Conn;
 
-// Whether the entry of an act has a word.
-fn draws<S: Shut>(act: &Act<S>) -> bool
-    ensures { result ≡ draws act.now }
-{
-    match act {
-        Act::Said(said) => says_with_word(said),
-        Act::Ping(_) => false,
-        Act::Join(_) | Act::Spoilt | Act::Gone => true,
-    }
-}
-
-// The entry of an act that is no Join, by this word. Where the act draws none, the word is of no account.
-fn entry_of<S: Shut>(conn: Conn, act: Act<S>, word: u64) -> Entry
+// The entry of an act that is no Join. Where the act draws a word, it is the next one of the words.
+fn entry_of<S: Shut, W: IdSource>(words: &mut W, conn: Conn, act: Act<S>) -> Entry
     requires { is_join act ≡ false }
-    ensures { result ≡ entry_of conn act word }
+    ensures { (word : ℕ) × (result ≡ entry_of conn act word)
+        × (W.given words.new ≡ W.given words.old ++ cond (draws act) (word ∷ []) []) }
 {
     match act {
         Act::Join(_) => unreachable!(),
         Act::Said(said) => {
-            let word = if says_with_word(&said) { word } else { 0 };
+            let word = if says_with_word(&said) { words.next_word() } else { 0 };
             Entry::Said { conn, word, said }
         }
         Act::Ping(payload) => Entry::Ping { conn, payload },
-        Act::Spoilt => Entry::Spoilt { conn, word },
-        Act::Gone => Entry::Gone { conn, word },
+        Act::Spoilt => {
+            let word = words.next_word();
+            Entry::Spoilt { conn, word }
+        }
+        Act::Gone => {
+            let word = words.next_word();
+            Entry::Gone { conn, word }
+        }
     }
 }
 
@@ -72,11 +68,8 @@ impl<S: Shut, W: IdSource> State<S, W> {
         if !self.table.realm.is_live(conn) {
             return Outcome::Dropped;
         }
-        if !draws(&act) {
-            return self.take_in(rt, alloc, entry_of(conn, act, 0), conn);
-        }
-        let word = self.words.next_word();
-        self.take_in(rt, alloc, entry_of(conn, act, word), conn)
+        let entry = entry_of(&mut self.words, conn, act);
+        self.take_in(rt, alloc, entry, conn)
     }
 
     // A connection joins, if it may.
