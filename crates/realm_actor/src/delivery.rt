@@ -4,7 +4,8 @@ ghost use Rattle.session.specs.declared.messages.item.Item.{Item as AnItem};
 ghost use Rattle.realm_actor.specs.Rows.{Ascending, EachDue, EachGoes, NoneRose};
 
 use crate::row::Row;
-use crate::row_search::find;
+use crate::row_search::find_by_seat;
+use crate::seat_guesses::SeatGuesses;
 use realm_inbox::{RealmHistory, Shut};
 use session::Item;
 use std::sync::Wait;
@@ -28,6 +29,7 @@ fn leave<S: Shut>(rows: &[Row<S>], place: usize) {
 fn offer_one<S: Shut, R: Wait>(
     rt: &R,
     rows: &mut [Row<S>],
+    guesses: &mut SeatGuesses,
     pass: Pass,
     conn: Conn,
     item: Item,
@@ -40,7 +42,7 @@ fn offer_one<S: Shut, R: Wait>(
     ensures goes { EachGoes rows.old rows.new }
     ensures none { result.is_full ≡ false → (pass.is_full ≡ false) × NoneRose rows.old rows.new }
 {
-    let Some(place) = find(rows, pass.place, conn) else {
+    let Some(place) = find_by_seat(rows, pass.place, guesses, conn) else {
         return pass;
     };
     if place != pass.place {
@@ -65,6 +67,7 @@ pub fn either(first: bool, second: bool) -> bool
 pub fn offer_all<S: Shut, R: Wait>(
     rt: &R,
     rows: &mut [Row<S>],
+    guesses: &mut SeatGuesses,
     given: Vec<(Conn, Item)>,
     history: &RealmHistory,
 ) -> bool
@@ -79,7 +82,7 @@ pub fn offer_all<S: Shut, R: Wait>(
         is_full: false,
     };
     for (conn, item) in given {
-        pass = offer_one(rt, rows, pass, conn, item, history);
+        pass = offer_one(rt, rows, guesses, pass, conn, item, history);
     }
     leave(rows, pass.place);
     pass.is_full

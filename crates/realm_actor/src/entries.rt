@@ -28,7 +28,11 @@ fn entry_of<S: Shut, W: IdSource>(words: &mut W, conn: Conn, act: Act<S>) -> Ent
     match act {
         Act::Join(_) => unreachable!(),
         Act::Said(said) => {
-            let word = if says_with_word(&said) { words.next_word() } else { 0 };
+            let word = if says_with_word(&said) {
+                words.next_word()
+            } else {
+                0
+            };
             Entry::Said { conn, word, said }
         }
         Act::Ping(payload) => Entry::Ping { conn, payload },

@@ -25,6 +25,7 @@ mod outcome;
 mod row;
 mod row_search;
 mod run;
+mod seat_guesses;
 mod settle;
 mod state;
 mod stop;

@@ -1,9 +1,10 @@
 //! Where a connection's row stands.
-ghost use Rattle.std.specs.Prelude.{◌≡◌, ◌≢◌, ◌<◌, MatchOption, true, false, slice_get};
+ghost use Rattle.std.specs.Prelude.{◌≡◌, ◌≢◌, ◌<◌, IfSome, MatchOption, true, false, slice_get};
 ghost use Rattle.realm_actor.specs.declared.row.Row.{Row as ARow};
 ghost use Rattle.realm_actor.specs.Rows.{Ascending, PartsAt, StandsAt, Each};
 
 use crate::row::Row;
+use crate::seat_guesses::SeatGuesses;
 use realm_inbox::Shut;
 use wamp_ids::Conn;
 
@@ -42,6 +43,19 @@ fn is_at<S: Shut>(rows: &[Row<S>], place: usize, number: u64) -> bool
     place < rows.len() && rows[place].conn.value() == number
 }
 
+// The place of the row of the connection of this number, where that is `near` or the next.
+fn find_near<S: Shut>(rows: &[Row<S>], near: usize, number: u64) -> Option<usize>
+    ensures { IfSome result (λ i. StandsAt rows.now number i) }
+{
+    if is_at(rows, near, number) {
+        return Some(near);
+    }
+    if near < rows.len() && is_at(rows, near + 1, number) {
+        return Some(near + 1);
+    }
+    None
+}
+
 /// The place of the connection's row. Where `near` is a row of it, or the row before it, nothing is searched.
 pub fn find<S: Shut>(rows: &[Row<S>], near: usize, conn: Conn) -> Option<usize>
     requires { Ascending rows.now }
@@ -57,11 +71,8 @@ pub fn find_number<S: Shut>(rows: &[Row<S>], near: usize, number: u64) -> Option
     ensures { MatchOption result (Each (λ r. r.conn ≢ number) rows.now)
         (λ i. StandsAt rows.now number i) }
 {
-    if is_at(rows, near, number) {
-        return Some(near);
-    }
-    if near < rows.len() && is_at(rows, near + 1, number) {
-        return Some(near + 1);
+    if let Some(place) = find_near(rows, near, number) {
+        return Some(place);
     }
     let place = place_by(rows, number);
     if is_at(rows, place, number) {
@@ -69,4 +80,24 @@ pub fn find_number<S: Shut>(rows: &[Row<S>], near: usize, number: u64) -> Option
     } else {
         None
     }
+}
+
+/// The place of the connection's row, as [`find`]. Where it isn't near, it is looked for by its seat before it is searched, and where
+/// it stands is noted.
+pub fn find_by_seat<S: Shut>(
+    rows: &[Row<S>],
+    near: usize,
+    guesses: &mut SeatGuesses,
+    conn: Conn,
+) -> Option<usize>
+    requires { Ascending rows.now }
+    ensures { MatchOption result (Each (λ r. r.conn ≢ conn) rows.now)
+        (λ i. StandsAt rows.now conn i) }
+{
+    if let Some(place) = find_near(rows, near, conn.value()) {
+        return Some(place);
+    }
+    let place = find(rows, guesses.of(conn), conn)?;
+    guesses.note(conn, place);
+    Some(place)
 }

@@ -13,6 +13,7 @@ ghost use Rattle.realm_actor.specs.Invariant.{Knows};
 
 use crate::delivery::wake_all;
 use crate::outcome::Outcome;
+use crate::seat_guesses::SeatGuesses;
 use crate::table::Table;
 use realm::{Entry, Fault, Realm, RealmConfig};
 use realm_inbox::{GhostList, IdSource, Letter, Shut};
@@ -45,6 +46,7 @@ impl<S: Shut, W: IdSource> State<S, W> {
             table: Table {
                 realm,
                 rows: Vec::new(alloc),
+                guesses: SeatGuesses::new(),
                 has_marks: false,
                 has_ended: false,
             },

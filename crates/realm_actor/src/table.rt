@@ -13,6 +13,7 @@ ghost use Rattle.realm_actor.specs.Invariant.{Knows};
 use crate::delivery::{either, offer_all};
 use crate::row::Row;
 use crate::row_search::{find, place_in};
+use crate::seat_guesses::SeatGuesses;
 use realm::{Entry, Fault, Realm};
 use realm_inbox::{RealmHistory, Shut};
 use session::Item;
@@ -25,6 +26,7 @@ use wamp_ids::Conn;
 pub struct Table<S: Shut> {
     pub realm: Realm,
     pub rows: Vec<Row<S>>,
+    pub guesses: SeatGuesses,
     /// Whether a row may have a mark.
     pub has_marks: bool,
     /// Whether a row's session may have ended.
@@ -51,6 +53,7 @@ fn close_ended<S: Shut>(rows: &mut [Row<S>], conn: Conn, is_live: bool)
 fn deliver<S: Shut, R: Wait>(
     rt: &R,
     rows: &mut Vec<Row<S>>,
+    guesses: &mut SeatGuesses,
     given: Vec<(Conn, Item)>,
     history: &RealmHistory,
     conn: Conn,
@@ -63,7 +66,7 @@ fn deliver<S: Shut, R: Wait>(
     ensures none { result ≡ false → NoneRose rows.old.items rows.new.items }
 {
     let rows = rows.as_mut_slice();
-    let is_full = offer_all(rt, rows, given, history);
+    let is_full = offer_all(rt, rows, guesses, given, history);
     close_ended(rows, conn, is_live);
     is_full
 }
@@ -93,7 +96,15 @@ impl<S: Shut> Table<S> {
         let given = self.realm.apply(alloc, entry)?;
         let history = RealmHistory::of(&self.realm);
         let is_live = self.realm.is_live(conn);
-        let is_full = deliver(rt, &mut self.rows, given, &history, conn, is_live);
+        let is_full = deliver(
+            rt,
+            &mut self.rows,
+            &mut self.guesses,
+            given,
+            &history,
+            conn,
+            is_live,
+        );
         self.has_marks = either(self.has_marks, is_full);
         self.has_ended = either(self.has_ended, !is_live);
         Ok(is_full)
@@ -132,7 +143,15 @@ impl<S: Shut> Table<S> {
         let is_live = self.realm.is_live(conn);
         let place = place_in(self.rows.as_slice(), conn);
         put(&mut self.rows, place, row);
-        let is_full = deliver(rt, &mut self.rows, given, &history, conn, is_live);
+        let is_full = deliver(
+            rt,
+            &mut self.rows,
+            &mut self.guesses,
+            given,
+            &history,
+            conn,
+            is_live,
+        );
         self.has_marks = either(self.has_marks, is_full);
         self.has_ended = either(self.has_ended, !is_live);
         Ok(is_full)
