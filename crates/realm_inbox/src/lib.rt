@@ -4,7 +4,8 @@
 //! seat; a seat serves one connection after another. What was posted at each seat, and what was received, are facts that contracts
 //! see and that take no bytes. Each post carries what had been posted at its seat before it; and when it is received, that is
 //! exactly what had been received of the seat. So of each seat the inbox gives what was posted there, whole and in order, and
-//! [`laws`] says so of every moment.
+//! [`laws`] says so of every moment. Nobody else makes a [`Post`]. Who has an inbox and a poster of it in one hand learns by
+//! [`Inbox::compare`] that what was received of the seat begins what was posted there.
 //!
 //! An end that finds the inbox full or empty waits by means of this crate's own: posters at a bell, the receiving end in a parker. Who
 //! receives many posts at once by [`Inbox::try_receive`] tells the posters afterwards that there is room, by [`Inbox::wake`].

@@ -33,5 +33,5 @@ pub returns-clause-posting : goal.returns-clause-posting
 returns-clause-posting g c = (
   c.absorb-2.ensures.channel.0,
   seat_back _ _ _ _ _ _ _ c.requires.reading.1 c.requires.posting.1 c.another-lent.ensures.rule.1 (c.learn_as.ensures.channel.2 ∙ c.absorb.ensures.rule)
-  c.another-lent.ensures.rule.0 c.another-back.ensures.rule.1 c.absorb-2.ensures.rule,
+      c.another-lent.ensures.rule.0 c.another-back.ensures.rule.1 c.absorb-2.ensures.rule,
 )
