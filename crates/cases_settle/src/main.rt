@@ -14,10 +14,10 @@
 
 mod case;
 mod desk;
-mod two_sides;
 mod passing;
 mod room;
 mod side;
+mod two_sides;
 
 use case::Case;
 use std::alloc::Global;

@@ -4,8 +4,8 @@ ghost use Rattle.wamp_ids.specs.Numbers.{seat_of};
 ghost use Rattle.realm_inbox.specs.EndViews.{posted, posted_at, poster_conn, seat_number, inbox_of_door, inbox_of_poster, inbox_of_seat};
 
 use crate::desk::{Acting, Desk};
-use crate::two_sides::TwoSides;
 use crate::side::Side;
+use crate::two_sides::TwoSides;
 use case_posts::{Counted, Watching, Wire, entrance_of};
 use case_text::line_of;
 use realm::RealmConfig;

@@ -7,6 +7,8 @@ use Rattle.std.proofs.lemmas.Bool.{true≢false, false_from_ne_true}
 use Rattle.std.specs.List.{insert}
 use Rattle.realm.specs.History.{History, ◌▷◌}
 use Rattle.realm.specs.Sessions.{conn_of, live, may_come, may_join}
+use Rattle.realm.specs.Words.{says_with_word}
+use Rattle.session.specs.declared.messages.said.Said.{Said as TheSaid}
 use Rattle.realm.proofs.Lemmas.{live-joined}
 use Rattle.realm_actor.proofs.EntryLemmas.{not_joined}
 use Rattle.realm_inbox.specs.declared.joining.Joining.{Joining}
@@ -20,7 +22,7 @@ use Rattle.realm_actor.specs.declared.outcome.Outcome.{Outcome}
 use Rattle.realm_actor.specs.declared.outcome.Outcome.TheVariants.{Applied, Dropped, NoMemory}
 use Rattle.realm_actor.specs.declared.row.Row.{Row}
 use Rattle.realm_actor.specs.Cuts.{Accepted, Cuts, IsCutOf, NoneFull}
-use Rattle.realm_actor.specs.Handle.{MatchOutcome, Applies, Loses, WithRow, draws, entry_of, is_dropped, cut, not_live, nothing_drawn}
+use Rattle.realm_actor.specs.Handle.{MatchOutcome, Applies, EntersAs, Loses, WithRow, draws, entry_of, is_dropped, cut, not_live, nothing_drawn}
 
 pub by_outcome : (r : Outcome) (A B D E : Type 0) → (A → D) → (B → E) → (C : Type 0) → MatchOutcome r A ⊥ B → MatchOutcome r D C E
 by_outcome Applied A B D E f g C m = f m
@@ -31,6 +33,17 @@ pub not_dropped : (r : Outcome) (A B : Type 0) → r ≡ Dropped → MatchOutcom
 not_dropped Applied A B is m = absurd (cc)
 not_dropped Dropped A B is m = m
 not_dropped NoMemory A B is m = absurd (cc)
+
+-- a message enters with the word that it draws, or with none
+pub enters_said : (S : Type 0) (c : ℕ) (said : TheSaid) (word : ℕ) → says_with_word said ≡ true → (before after : List ℕ) → after ≡ before ++ word ∷ []
+    → EntersAs {S = S} c (Said said) (entry.Said c word said) before after
+enters_said S c said word told before after is =
+    (word, ap (λ b. entry.Said c (cond b word 0) said) (sym told), is ∙ ap (λ b. before ++ cond b (word ∷ []) []) (sym told))
+
+pub enters_silently : (S : Type 0) (c : ℕ) (said : TheSaid) → says_with_word said ≡ false → (before : List ℕ)
+    → EntersAs {S = S} c (Said said) (entry.Said c 0 said) before before
+enters_silently S c said quiet before =
+    (0, ap (λ b. entry.Said c (cond b 0 0) said) (sym quiet), sym (append-nil before) ∙ ap (λ b. before ++ cond b (0 ∷ []) []) (sym quiet))
 
 -- an act that is no Join
 

@@ -1,5 +1,5 @@
 -- What a post does: which entry it is, whether it is dropped, and whose row comes.
-use Rattle.std.specs.Prelude.{◌≡◌, ℕ, Bool, true, false, not, cond, List, ◌∷◌, ◌++◌, Some, slice_get, length}
+use Rattle.std.specs.Prelude.{◌≡◌, ℕ, Bool, true, false, not, cond, List, [], ◌∷◌, ◌++◌, Some, slice_get, length}
 use Rattle.std.specs.List.{insert}
 use Rattle.realm.specs.declared.entry.Entry.{Entry}
 use Rattle.realm.specs.declared.entry.Entry.TheVariants as entry
@@ -42,6 +42,10 @@ module _ {S : Type 0} where
   entry_of c (Ping payload) word = entry.Ping c payload
   entry_of c Spoilt word = entry.Spoilt c word
   entry_of c Gone word = entry.Gone c word
+
+  -- the act enters as this entry; the words after it are those before it, and the one that it draws
+  abbrev pub EntersAs : ℕ → Act S → Entry → List ℕ → List ℕ → Type 0
+  EntersAs c act e before after = (word : ℕ) × (e ≡ entry_of c act word) × (after ≡ before ++ cond (draws act) (word ∷ []) [])
 
   -- dropped: a Join of c where c may not join, or another act of c where c isn't live
   abbrev pub is_dropped : History → ℕ → Act S → Bool

@@ -1,5 +1,5 @@
 //! What a connection does enters the history.
-ghost use Rattle.std.specs.Prelude.{◌≡◌, ◌+◌, ◌<◌, ◌≤◌, ◌++◌, ◌∷◌, [], ℕ, cond, OnOk, true, false, length, vec_capacity, vec_len};
+ghost use Rattle.std.specs.Prelude.{◌≡◌, ◌+◌, ◌<◌, ◌≤◌, OnOk, true, false, length, vec_capacity, vec_len};
 ghost use Rattle.realm.specs.Sessions.{may_join};
 ghost use Rattle.realm_inbox.specs.declared.act.Act.TheVariants.{Join as AJoin};
 ghost use Rattle.realm_inbox.specs.Joins.{is_join};
@@ -8,7 +8,7 @@ ghost use Rattle.realm_actor.specs.Tables.{Sound};
 ghost use Rattle.realm_actor.specs.Invariant.{IsRoomy, Knows};
 ghost use Rattle.realm_actor.specs.ActorView.{working};
 ghost use Rattle.realm_actor.specs.Cuts.{NoneFull};
-ghost use Rattle.realm_actor.specs.Handle.{Acts, draws, entry_of, is_dropped};
+ghost use Rattle.realm_actor.specs.Handle.{Acts, EntersAs, is_dropped};
 
 use crate::outcome::Outcome;
 use crate::row::Row;
@@ -22,18 +22,21 @@ use wamp_ids::Conn;
 // The entry of an act that is no Join. Where the act draws a word, it is the next one of the words.
 fn entry_of<S: Shut, W: IdSource>(words: &mut W, conn: Conn, act: Act<S>) -> Entry
     requires { is_join act ≡ false }
-    ensures { (word : ℕ) × (result ≡ entry_of conn act word)
-        × (W.given words.new ≡ W.given words.old ++ cond (draws act) (word ∷ []) []) }
+    ensures { EntersAs conn act result (W.given words.old) (W.given words.new) }
 {
     match act {
         Act::Join(_) => unreachable!(),
         Act::Said(said) => {
-            let word = if says_with_word(&said) {
-                words.next_word()
+            if says_with_word(&said) {
+                let word = words.next_word();
+                Entry::Said { conn, word, said }
             } else {
-                0
-            };
-            Entry::Said { conn, word, said }
+                Entry::Said {
+                    conn,
+                    word: 0,
+                    said,
+                }
+            }
         }
         Act::Ping(payload) => Entry::Ping { conn, payload },
         Act::Spoilt => {

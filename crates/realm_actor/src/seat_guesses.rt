@@ -26,8 +26,11 @@ impl SeatGuesses {
 
     /// It stands there.
     pub fn note(&mut self, conn: Conn, place: usize) {
-        if let Some(guess) = self.places.get_mut((seat(conn) - 1) as usize) {
-            *guess = place as u16;
+        if let (Some(guess), Ok(place)) = (
+            self.places.get_mut((seat(conn) - 1) as usize),
+            u16::try_from(place),
+        ) {
+            *guess = place;
         }
     }
 }

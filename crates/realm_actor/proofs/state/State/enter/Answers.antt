@@ -11,11 +11,11 @@ pub returns-clause-outcome : goal.returns-clause-outcome
 returns-clause-outcome g c =
     let old = working (g.W.IdSource.given c.args.self.now.words) c.args.self.now in
     let new = working (g.W.IdSource.given c.take_in.new.self.words) c.take_in.new.self in
-    let start = g.W.IdSource.given c.entry_of.new.words in
-    let drawn = c.entry_of.ensures in
+    let start = g.W.IdSource.given c.entry_of-entry.new.words in
+    let drawn = c.entry_of-entry.ensures in
     let lost = cond (draws c.args.act) (drawn.0 ∷ []) [] in
     by_outcome c.take_in.result _ _ _ _
-    (applies_drawn c.args.conn c.args.act old new c.entry_of.result c.requires.other drawn.0 start drawn.2 drawn.1)
+    (applies_drawn c.args.conn c.args.act old new c.entry_of-entry.result c.requires.other drawn.0 start drawn.2 drawn.1)
     (loses_by c.args.conn c.args.act old new lost start drawn.2 (few_drawn (draws c.args.act) drawn.0))
     _ c.take_in.ensures.outcome
 
