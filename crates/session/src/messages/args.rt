@@ -5,9 +5,8 @@ ghost use Rattle.message_tree.specs.Data.{depth, is_carried};
 ghost use Rattle.session.specs.Arguments.{FitMessages, is_all_carried, is_carried_if_any, is_args, is_kwargs};
 ghost use Rattle.session.specs.body.EncodedArguments.{IsTail};
 
-use crate::wire::appender::Appender;
 use crate::wire::item_frames::put_args;
-use message_tree::{Content, Octets};
+use message_tree::{Appender, Content, Octets};
 use rawsocket::Serializer;
 use std::alloc::{AllocError, Global};
 use std::marker::Model;
