@@ -4,7 +4,7 @@
 //! - `header KIND AT OCTETS`: these octets, once the header that begins at AT is filled in.
 use crate::frames::kind_of;
 use case_text::{line_of, number_of, octets_of, spell, spelled, text_of};
-use message_tree::Tree;
+use message_tree::{Appender, Tree};
 use rawsocket::fill_header;
 use std::alloc::Global;
 use std::io;
@@ -12,18 +12,18 @@ use std::io;
 /// What the buffer holds before.
 const BEFORE: &[u8] = b"ab";
 
-/// Begins a buffer.
-fn begun(alloc: Global) -> io::Result<Vec<u8>> {
+/// Begins behind a buffer.
+fn begun(alloc: Global) -> io::Result<Appender> {
     let mut out = Vec::new(alloc);
     out.extend_from_slice(BEFORE)?;
-    Ok(out)
+    Ok(Appender::new(out))
 }
 
 /// Adds what the buffer holds as a line; where memory was refused, that it is as before.
-fn tell(text: &mut String, out: &[u8], is_written: bool) -> io::Result<()> {
+fn tell(text: &mut String, out: Appender, is_written: bool) -> io::Result<()> {
     if is_written {
-        spell(text, out)?;
-    } else if out == BEFORE {
+        spell(text, &out.into_vec())?;
+    } else if out.into_before().as_slice() == BEFORE {
         text.push_str("E1 no memory")?;
     } else {
         text.push_str("the buffer is not as before")?;
@@ -38,10 +38,10 @@ pub fn number(alloc: Global, words: &str) -> io::Result<String> {
     let mut text = String::new(alloc);
     let mut out = begun(alloc)?;
     let is_written = json_codec::encode_number_into(number, &mut out).is_ok();
-    tell(&mut text, &out, is_written)?;
+    tell(&mut text, out, is_written)?;
     let mut out = begun(alloc)?;
-    let is_written = msgpack_codec::encode_number_into(alloc, number, &mut out).is_ok();
-    tell(&mut text, &out, is_written)?;
+    let is_written = msgpack_codec::encode_number_into(number, &mut out).is_ok();
+    tell(&mut text, out, is_written)?;
     Ok(text)
 }
 
@@ -51,10 +51,10 @@ pub fn letters(alloc: Global, words: &str) -> io::Result<String> {
     let mut text = String::new(alloc);
     let mut out = begun(alloc)?;
     let is_written = json_codec::encode_text_into(alloc, letters.as_str(), &mut out).is_ok();
-    tell(&mut text, &out, is_written)?;
+    tell(&mut text, out, is_written)?;
     let mut out = begun(alloc)?;
-    let is_written = msgpack_codec::encode_text_into(alloc, letters.as_str(), &mut out).is_ok();
-    tell(&mut text, &out, is_written)?;
+    let is_written = msgpack_codec::encode_text_into(letters.as_str(), &mut out).is_ok();
+    tell(&mut text, out, is_written)?;
     Ok(text)
 }
 
@@ -74,10 +74,10 @@ fn tree(alloc: Global, tree: &Tree) -> io::Result<String> {
     }
     let mut out = begun(alloc)?;
     let is_written = json_codec::encode_into(alloc, tree, &mut out).is_ok();
-    tell(&mut text, &out, is_written)?;
+    tell(&mut text, out, is_written)?;
     let mut out = begun(alloc)?;
-    let is_written = msgpack_codec::encode_into(alloc, tree, &mut out).is_ok();
-    tell(&mut text, &out, is_written)?;
+    let is_written = msgpack_codec::encode_into(tree, &mut out).is_ok();
+    tell(&mut text, out, is_written)?;
     Ok(text)
 }
 

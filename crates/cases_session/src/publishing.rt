@@ -18,7 +18,7 @@ pub fn arguments(alloc: Global) -> io::Result<String> {
 
 fn listed(alloc: Global) -> io::Result<String> {
     let list = Content::of(Tree::List(Vec::new(alloc)));
-    args_in_words(alloc, &Args::positional(list))
+    args_in_words(alloc, &Args::positional(alloc, list)?)
 }
 
 /// The arguments of a PUBLISH in JSON.

@@ -126,6 +126,9 @@ impl Lists {
         ensures ok { IfOk result (λ l. audience_of (dict_view options) ≡ Some l) }
         ensures bad { result ≡ Err Fault.Shape → audience_of (dict_view options) ≡ None }
     {
+        if options.is_empty() {
+            return Ok(Lists::everyone());
+        }
         let exclude_me = flag_at(&options, "exclude_me", true)?;
         let exclude = numbers_at(alloc, &options, "exclude")?;
         let eligible = numbers_at(alloc, &options, "eligible")?;

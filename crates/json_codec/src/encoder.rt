@@ -12,7 +12,7 @@ use crate::fault::Fault;
 use base64::engine::general_purpose::STANDARD;
 use itoa::Buffer;
 use json::Writer;
-use message_tree::{Dict, Message, Tree};
+use message_tree::{Appender, Dict, Message, Tree};
 use std::alloc::{AllocError, Global};
 
 /// The compact JSON text of a message (RFC 8259): no white space, the keys in ascending bytes. A
@@ -57,41 +57,44 @@ fn text_of(alloc: Global, tree: &Tree) -> Result<Vec<u8>, AllocError>
 /// ahead as stand there, up to 16,384.
 ///
 /// # Errors
-/// `AllocError` where a growth was refused; what was written stays as it was.
-pub fn encode_into(alloc: Global, tree: &Tree, out: &mut Vec<u8>) -> Result<(), AllocError>
+/// [`AllocError`] where a growth was refused; nothing is written then.
+pub fn encode_into(alloc: Global, tree: &Tree, out: &mut Appender) -> Result<(), AllocError>
     requires carried { is_carried (view tree.now) ≡ true }
-    ensures ok { OnOk result (out.new.items ≡ out.old.items ++ json_text (view tree.now)) }
+    ensures ok { OnOk result (out.new.since ≡ out.old.since ++ json_text (view tree.now)) }
     ensures reads_back { OnOk result (IsSound (view tree.now) → depth (view tree.now) ≤ 100
         → has_plain_texts (view tree.now) ≡ true
         → Reads (json_text (view tree.now)) (view tree.now)) }
-    ensures err { OnErr result (out.new.items ≡ out.old.items) }
+    ensures err { OnErr result (out.new.since ≡ out.old.since) }
+    ensures before { out.new.before ≡ out.old.before }
 {
     let text = text_of(alloc, tree)?;
-    out.extend_from_slice(&text)
+    out.put_all(&text)
 }
 
 /// Writes a whole number at the end, as [`encode_into`] does.
 ///
 /// # Errors
-/// `AllocError` where a growth was refused; what was written stays as it was.
-pub fn encode_number_into(number: u64, out: &mut Vec<u8>) -> Result<(), AllocError>
-    ensures ok { OnOk result (out.new.items ≡ out.old.items ++ json_text (whole (pos number))) }
-    ensures err { OnErr result (out.new.items ≡ out.old.items) }
+/// [`AllocError`] where a growth was refused; nothing is written then.
+pub fn encode_number_into(number: u64, out: &mut Appender) -> Result<(), AllocError>
+    ensures ok { OnOk result (out.new.since ≡ out.old.since ++ json_text (whole (pos number))) }
+    ensures err { OnErr result (out.new.since ≡ out.old.since) }
+    ensures before { out.new.before ≡ out.old.before }
 {
     let mut buffer = Buffer::new();
-    out.extend_from_slice(buffer.format(number).as_bytes())
+    out.put_all(buffer.format(number).as_bytes())
 }
 
 /// Writes a text at the end, as [`encode_into`] does.
 ///
 /// # Errors
-/// `AllocError` where a growth was refused; what was written stays as it was.
-pub fn encode_text_into(alloc: Global, of: &str, out: &mut Vec<u8>) -> Result<(), AllocError>
-    ensures ok { OnOk result (out.new.items ≡ out.old.items ++ json_text (text of.now)) }
-    ensures err { OnErr result (out.new.items ≡ out.old.items) }
+/// [`AllocError`] where a growth was refused; nothing is written then.
+pub fn encode_text_into(alloc: Global, of: &str, out: &mut Appender) -> Result<(), AllocError>
+    ensures ok { OnOk result (out.new.since ≡ out.old.since ++ json_text (text of.now)) }
+    ensures err { OnErr result (out.new.since ≡ out.old.since) }
+    ensures before { out.new.before ≡ out.old.before }
 {
     let string = string_of(alloc, of)?;
-    out.extend_from_slice(&string)
+    out.put_all(&string)
 }
 
 /// A text as a JSON string.

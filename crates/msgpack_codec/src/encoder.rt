@@ -6,11 +6,9 @@ ghost use Rattle.message_tree.specs.Meaning.{meaning};
 ghost use Rattle.msgpack_codec.specs.Grammar.{Spells};
 ghost use Rattle.msgpack_codec.specs.Short.{text_head, bytes_head, list_head, dict_head, whole_short, from_zero, below_zero, short, items_short, entries_short, item_count, has_short, items_have_short, entries_have_short};
 
-use crate::appender::Appender;
 use crate::fault::Fault;
-use message_tree::{Dict, Message, Tree};
+use message_tree::{Appender, Dict, Message, Tree};
 use std::alloc::{AllocError, Global};
-use std::mem;
 
 /// MessagePack counts octets and members in four octets at most.
 const LIMIT: usize = 0x1_0000_0000;
@@ -186,9 +184,14 @@ fn is_short(text: &str) -> bool
     text.len() < LIMIT
 }
 
-/// Writes a tree at the end. It ends where the tree has no spelling.
+/// Writes a carried tree at the end, as [`encode`] does, with no walk before.
+///
+/// # Errors
+/// [`Fault::UncarriedLeaf`] where a text, byte string, list or dictionary in it, keys among the
+/// texts, has 2^32 or more octets or members; [`Fault::NoMemory`] where a growth was refused. Some
+/// of it may have been written then; what stood before stays.
 #[cycle(write)]
-fn write(out: &mut Appender, tree: &Tree) -> Result<(), Fault>
+pub fn encode_into(tree: &Tree, out: &mut Appender) -> Result<(), Fault>
     requires carried { is_carried (view tree.now) ≡ true }
     ensures ok { OnOk result (out.new.since ≡ out.old.since ++ short (view tree.now)) }
     ensures fits { OnOk result (has_short (view tree.now) ≡ true) }
@@ -244,7 +247,7 @@ fn write_items(out: &mut Appender, items: &Vec<Tree>) -> Result<(), Fault>
 {
     put_list_head(out, count(items))?;
     for item in items {
-        write(out, item)?;
+        encode_into(item, out)?;
     }
     Ok(())
 }
@@ -267,91 +270,39 @@ fn write_entries(out: &mut Appender, dict: &Dict) -> Result<(), Fault>
             return Err(Fault::UncarriedLeaf);
         }
         put_text(out, key.as_str())?;
-        write(out, tree)?;
+        encode_into(tree, out)?;
     }
     Ok(())
-}
-
-/// Writes a carried tree at the end, as [`encode`] does, with no walk before.
-///
-/// # Errors
-/// [`Fault::UncarriedLeaf`] where a text, byte string, list or dictionary in it, keys among the
-/// texts, has 2^32 or more octets or members; [`Fault::NoMemory`] where a growth was refused. What
-/// was written stays as it was.
-pub fn encode_into(alloc: Global, tree: &Tree, out: &mut Vec<u8>) -> Result<(), Fault>
-    requires carried { is_carried (view tree.now) ≡ true }
-    ensures ok { OnOk result (out.new.items ≡ out.old.items ++ short (view tree.now)) }
-    ensures fits { OnOk result (has_short (view tree.now) ≡ true) }
-    ensures err { OnErr result (out.new.items ≡ out.old.items) }
-    ensures unfit { result ≡ Err Fault.UncarriedLeaf → has_short (view tree.now) ≡ false }
-    ensures fault { IfErr result (λ e. (e ≡ Fault.NoMemory) ⊎ (e ≡ Fault.UncarriedLeaf)) }
-{
-    let mut appender = Appender::new(mem::replace(out, Vec::new(alloc)));
-    let written = write(&mut appender, tree);
-    match written {
-        Ok(()) => {
-            *out = appender.into_vec();
-            Ok(())
-        }
-        Err(fault) => {
-            *out = appender.into_before();
-            Err(fault)
-        }
-    }
 }
 
 /// Writes a whole number at the end, as [`encode_into`] does.
 ///
 /// # Errors
-/// [`AllocError`] where a growth was refused; what was written stays as it was.
-#[tactic(auto, unfolding(crate::specs::Short::from_zero))]
-pub fn encode_number_into(alloc: Global, number: u64, out: &mut Vec<u8>) -> Result<(), AllocError>
-    ensures ok { OnOk result (out.new.items ≡ out.old.items ++ short (whole (pos number))) }
-    ensures err { OnErr result (out.new.items ≡ out.old.items) }
+/// [`AllocError`] where a growth was refused. Some of it may have been written then; what stood
+/// before stays.
+pub fn encode_number_into(number: u64, out: &mut Appender) -> Result<(), AllocError>
+    ensures ok { OnOk result (out.new.since ≡ out.old.since ++ short (whole (pos number))) }
+    ensures before { out.new.before ≡ out.old.before }
 {
-    if number <= 0x7f {
-        out.push(number as u8)?;
-        return Ok(());
-    }
-    let mut appender = Appender::new(mem::replace(out, Vec::new(alloc)));
-    match put_from_zero(&mut appender, number) {
-        Ok(()) => {
-            *out = appender.into_vec();
-            Ok(())
-        }
-        Err(fault) => {
-            *out = appender.into_before();
-            Err(fault)
-        }
-    }
+    put_from_zero(out, number)
 }
 
 /// Writes a text at the end, as [`encode_into`] does.
 ///
 /// # Errors
 /// [`Fault::UncarriedLeaf`] where it has 2^32 or more octets; [`Fault::NoMemory`] where a growth was
-/// refused. What was written stays as it was.
-pub fn encode_text_into(alloc: Global, of: &str, out: &mut Vec<u8>) -> Result<(), Fault>
-    ensures ok { OnOk result (out.new.items ≡ out.old.items ++ short (text of.now)) }
+/// refused. Some of it may have been written then; what stood before stays.
+pub fn encode_text_into(of: &str, out: &mut Appender) -> Result<(), Fault>
+    ensures ok { OnOk result (out.new.since ≡ out.old.since ++ short (text of.now)) }
     ensures fits { OnOk result (has_short (text of.now) ≡ true) }
-    ensures err { OnErr result (out.new.items ≡ out.old.items) }
     ensures unfit { result ≡ Err Fault.UncarriedLeaf → has_short (text of.now) ≡ false }
+    ensures before { out.new.before ≡ out.old.before }
     ensures fault { IfErr result (λ e. (e ≡ Fault.NoMemory) ⊎ (e ≡ Fault.UncarriedLeaf)) }
 {
     if !is_short(of) {
         return Err(Fault::UncarriedLeaf);
     }
-    let mut appender = Appender::new(mem::replace(out, Vec::new(alloc)));
-    match put_text(&mut appender, of) {
-        Ok(()) => {
-            *out = appender.into_vec();
-            Ok(())
-        }
-        Err(_) => {
-            *out = appender.into_before();
-            Err(Fault::NoMemory)
-        }
-    }
+    Ok(put_text(out, of)?)
 }
 
 /// The octets of a message: the shortest spelling of each value (MessagePack specification,
@@ -374,7 +325,7 @@ pub fn encode(alloc: Global, message: &Message) -> Result<Vec<u8>, Fault>
     if !message.is_carried() {
         return Err(Fault::UncarriedLeaf);
     }
-    let mut out = Vec::new(alloc);
-    encode_into(alloc, message.tree(), &mut out)?;
-    Ok(out)
+    let mut out = Appender::new(Vec::new(alloc));
+    encode_into(message.tree(), &mut out)?;
+    Ok(out.into_vec())
 }

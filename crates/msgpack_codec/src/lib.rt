@@ -8,7 +8,6 @@
 //!
 //! It stands on `message_tree`. Contracts say which octets spell a message, that reading accepts each spelling of it and
 //! nothing else, and that what is written is the shortest.
-mod appender;
 mod decoder;
 mod encoder;
 mod fault;

@@ -42,14 +42,14 @@ fn text(alloc: Global, of: &Text) -> Result<Tree, Fault>
 }
 
 /// Arguments that are a list of these values.
-fn listed(items: Vec<Tree>) -> CarriedArgs
+fn listed(alloc: Global, items: Vec<Tree>) -> Result<CarriedArgs, AllocError>
     requires carried { items_carried (items_view items.items) ≡ true }
     requires shallow { items_depth (items_view items.items) ≤ 1 }
-    ensures { result ≡ listed (items_view items.items) }
+    ensures { IfOk result (λ args. args ≡ listed (items_view items.items)) }
 {
-    let args = Args::positional(Content::of(Tree::List(items)));
+    let args = Args::positional(alloc, Content::of(Tree::List(items)))?;
     match CarriedArgs::of(args) {
-        Ok(args) => args,
+        Ok(args) => Ok(args),
         Err(_) => unreachable!(),
     }
 }
@@ -80,7 +80,7 @@ fn joined_args(alloc: Global, who: &Who) -> Result<CarriedArgs, Fault>
         "authid",
         text(alloc, who.authid.value())?,
     )?;
-    Ok(listed(vec![in alloc; Tree::Dict(details)]?))
+    Ok(listed(alloc, vec![in alloc; Tree::Dict(details)]?)?)
 }
 
 /// The arguments of what is published where a session leaves.
@@ -89,7 +89,7 @@ fn left_args(alloc: Global, who: &Who) -> Result<CarriedArgs, Fault>
 {
     let authid = text(alloc, who.authid.value())?;
     let authrole = text(alloc, who.authrole.value())?;
-    Ok(listed(vec![in alloc; number(who.id), authid, authrole]?))
+    Ok(listed(alloc, vec![in alloc; number(who.id), authid, authrole]?)?)
 }
 
 /// What is published of a session.

@@ -6,15 +6,16 @@ use Rattle.rawsocket.specs.declared.frame.Kind.{Kind}
 use Rattle.rawsocket.specs.declared.frame.Kind.TheVariants.{Message, Ping, Pong}
 use Rattle.rawsocket.specs.declared.handshake.Serializer.{Serializer}
 use Rattle.rawsocket.proofs.Lemmas.{pieces_join}
-use Rattle.session.specs.Opened.{IsAnswer, IsEnd, Leads, LeadsBy, Session, Verdict, Undecided, pong}
-use Rattle.session.specs.FrameWalk.{ConversesSince, GoesOn}
+use Rattle.session.specs.Opened.{IsAnswer, IsEnd, Leads, Session, Verdict, Undecided, exchange, pong, terms}
+use Rattle.session.specs.FrameWalk.{ConversesSince, GoesOn, stand}
 use Rattle.session.specs.declared.fault.Fault.{Fault}
 use Rattle.session.specs.declared.fault.Fault.TheVariants.{Ended, ReadFault}
+use Rattle.session.proofs.FrameWalkLemmas.{LeadsBy}
 
 module _ (s : Serializer) (limit : ℕ) (realms : List (List ℕ)) where
   join_by : (fault : Option stream.Fault) (k : Kind) (payload : List ℕ) (a b : List Content) (before more : Option stream.Fault) (x y : List ℕ) (v : Verdict)
-      → ((z : List ℕ) → Leads s limit realms before a z Undecided → Leads s limit realms more (a ++ b) (z ++ y) v)
-      → LeadsBy s limit realms payload a (Leads s limit realms before a) k x Undecided → LeadsBy s limit realms payload (a ++ b) (Leads s limit realms more (a ++ b)) k (x ++ y) v
+      → ((z : List ℕ) → Leads (terms s limit realms) before a z Undecided → Leads (terms s limit realms) more (a ++ b) (z ++ y) v)
+      → LeadsBy s limit realms payload a (Leads (terms s limit realms) before a) k x Undecided → LeadsBy s limit realms payload (a ++ b) (Leads (terms s limit realms) more (a ++ b)) k (x ++ y) v
   join_by fault Message payload a b before more x y v next (inl greets) = absurd (cc)
   join_by fault Message payload a b before more x y v next (inr fails) = absurd (cc)
   join_by fault Ping payload a b before more x y v next (inl answers) = inl (record {
@@ -28,8 +29,8 @@ module _ (s : Serializer) (limit : ℕ) (realms : List (List ℕ)) where
 
   -- where nothing is decided, the next frames lead on
   pub Leads-join : (before more : Option stream.Fault) (a b : List Content) (x y : List ℕ) (v : Verdict)
-      → Leads s limit realms before a x Undecided → Leads s limit realms more b y v → Leads s limit realms more (a ++ b) (x ++ y) v
-  Leads-join None more [] b x y v w next = subst (λ o. Leads s limit realms more b (o ++ y) v) (sym w.0) next
+      → Leads (terms s limit realms) before a x Undecided → Leads (terms s limit realms) more b y v → Leads (terms s limit realms) more (a ++ b) (x ++ y) v
+  Leads-join None more [] b x y v w next = subst (λ o. Leads (terms s limit realms) more b (o ++ y) v) (sym w.0) next
   Leads-join (Some fault) more [] b x y v w next = absurd (cc)
   Leads-join before more (c ∷ a) b x y v w next = join_by before c.kind c.payload a b before more x y v (λ z u. Leads-join before more a b z y v u next) w
 
@@ -41,7 +42,7 @@ module _ (s : Serializer) (limit : ℕ) (realms : List (List ℕ)) where
     pub read : given ≡ given_before ++ octets
     pub wrote : taken ≡ taken_before ++ written
     pub reads : Reads octets frames held
-    pub leads : Leads s limit realms (fault_of held) frames written v
+    pub leads : Leads (terms s limit realms) (fault_of held) frames written v
 
   pub Conversing-start : (given taken held : List ℕ) → held ≡ [] → Reads [] [] held → Conversing given given taken taken held Undecided
   Conversing-start given taken held empty reads = record {
@@ -51,11 +52,11 @@ module _ (s : Serializer) (limit : ℕ) (realms : List (List ℕ)) where
     read = sym (append-nil given);
     wrote = sym (append-nil taken);
     reads = reads;
-    leads = subst (λ h. Leads s limit realms (fault_of h) [] [] Undecided) (sym empty) (refl, refl);
+    leads = subst (λ h. Leads (terms s limit realms) (fault_of h) [] [] Undecided) (sym empty) (refl, refl);
   }
 
   pub Conversing-more : (given_before given after taken_before taken taken_after held new piece : List ℕ) (v : Verdict) → after ≡ given ++ piece
-      → GoesOn s limit realms held piece new taken taken_after v → Conversing given_before given taken_before taken held Undecided → Conversing given_before after taken_before taken_after new v
+      → GoesOn (terms s limit realms) piece (stand held taken) (stand new taken_after) v → Conversing given_before given taken_before taken held Undecided → Conversing given_before after taken_before taken_after new v
   Conversing-more given_before given after taken_before taken taken_after held new piece v more goes so_far = record {
     octets = so_far.octets ++ piece;
     written = so_far.written ++ goes.out;
@@ -67,7 +68,7 @@ module _ (s : Serializer) (limit : ℕ) (realms : List (List ℕ)) where
   }
 
   pub Conversing-answered : (given_before given taken_before taken held : List ℕ) (v : Verdict) (answer : Result Session Fault) → Conversing given_before given taken_before taken held v
-      → IsAnswer s limit held v answer → ConversesSince s limit realms given_before given taken_before taken answer
+      → IsAnswer s limit held v answer → ConversesSince (terms s limit realms) (exchange given_before taken_before) (exchange given taken) answer
   Conversing-answered given_before given taken_before taken held v answer so_far answers = record {
     octets = so_far.octets;
     written = so_far.written;

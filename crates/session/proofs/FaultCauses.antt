@@ -9,9 +9,10 @@ use Rattle.rawsocket.specs.declared.handshake.Serializer.{Serializer}
 use Rattle.rawsocket.specs.declared.handshake.Serializer.TheVariants.{Json, MsgPack}
 use Rattle.rawsocket.specs.Steps.{Fine}
 use Rattle.session.specs.Faults.{stream_fault, read_told, write_told}
-use Rattle.session.specs.Opened.{HasCause, IsRefused, Leads, LeadsBy, Verdict, Undecided, Opens, Refuses}
+use Rattle.session.specs.Opened.{HasCause, IsRefused, Leads, Verdict, Undecided, Opens, Refuses, terms}
 use Rattle.session.specs.declared.fault.Fault.{Fault}
 use Rattle.session.specs.declared.fault.Fault.TheVariants.{NoMemory, TooDeep, Malformed, NotRawSocket, SerializerUnsupported, ReservedBits, FrameTooLong, FrameType, Shape, ReadFault, WriteFault, TooLongForClient, Ended, NoSuchRealm, TooManyTurns}
+use Rattle.session.proofs.FrameWalkLemmas.{LeadsBy}
 
 -- the same cause, seen from further before
 pub weaker : (f : Fault) (ended later : Bool) (r r2 w w2 u u2 : Type 0) → (ended ≡ true → later ≡ true) → (r → r2) → (w → w2) → (u → u2) → HasCause ended r w u f → HasCause later r2 w2 u2 f
@@ -118,10 +119,10 @@ module _ (s : Serializer) (limit : ℕ) (realms : List (List ℕ)) where
   by_kind Pong payload frames Next out v next w = next out w
 
   at_end : (fault : Option stream.Fault) (out : List ℕ) (v : Verdict) → ((f : stream.Fault) → fault ≡ Some f → (f ≡ of_stream.FrameType) ⊎ (f ≡ of_stream.FrameTooLong))
-      → Leads s limit realms fault [] out v → NeedsNoCause v
+      → Leads (terms s limit realms) fault [] out v → NeedsNoCause v
   at_end None out v two w = subst NeedsNoCause (sym w.1) (λ e r t u. tt)
   at_end (Some f) out v two w = subst NeedsNoCause (sym w.1) (rest_refused f (two f refl))
 
-  pub Leads-needs_no_cause : (held : List ℕ) (frames : List Content) (out : List ℕ) (v : Verdict) → Leads s limit realms (fault_of held) frames out v → NeedsNoCause v
+  pub Leads-needs_no_cause : (held : List ℕ) (frames : List Content) (out : List ℕ) (v : Verdict) → Leads (terms s limit realms) (fault_of held) frames out v → NeedsNoCause v
   Leads-needs_no_cause held [] out v w = at_end (fault_of held) out v (header_faults held) w
-  Leads-needs_no_cause held (c ∷ frames) out v w = by_kind c.kind c.payload frames (Leads s limit realms (fault_of held) frames) out v (λ o next. Leads-needs_no_cause held frames o v next) w
+  Leads-needs_no_cause held (c ∷ frames) out v w = by_kind c.kind c.payload frames (Leads (terms s limit realms) (fault_of held) frames) out v (λ o next. Leads-needs_no_cause held frames o v next) w

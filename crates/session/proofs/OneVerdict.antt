@@ -14,7 +14,7 @@ use Rattle.rawsocket.specs.declared.handshake.Handshake.{Handshake}
 use Rattle.rawsocket.specs.declared.handshake.Handshake.TheVariants.{Accept, Refuse, Dropped}
 use Rattle.rawsocket.proofs.Lemmas.{one_split}
 use Rattle.session.specs.Laws.{AreAlike, OneOpening, OneVerdict}
-use Rattle.session.specs.Opened.{Asks, Converses, Follows, IsAnswer, IsNoHello, IsRefused, Leads, LeadsBy, Session, Verdict, Undecided, Opens, Refuses, pong, refusal}
+use Rattle.session.specs.Opened.{Asks, Converses, Follows, IsAnswer, IsNoHello, IsRefused, Leads, Session, Verdict, Undecided, Opens, Refuses, pong, refusal, terms}
 use Rattle.session.specs.FirstMessage.{first_of, is_hello}
 use Rattle.session.specs.FromClient.{said_of}
 use Rattle.session.specs.Serializer.{Decodes, IsUndecodable}
@@ -22,6 +22,7 @@ use Rattle.session.specs.declared.fault.Fault.{Fault}
 use Rattle.session.specs.declared.fault.Fault.TheVariants.{NoMemory, TooDeep, Malformed, NotRawSocket, SerializerUnsupported, ReservedBits, FrameTooLong, FrameType, Shape, ReadFault, WriteFault, TooLongForClient, Ended, NoSuchRealm, TooManyTurns}
 use Rattle.session.specs.declared.messages.said.Said.{Said}
 use Rattle.session.specs.declared.messages.said.Said.TheVariants as say
+use Rattle.session.proofs.FrameWalkLemmas.{LeadsBy}
 
 -- octets are one message at most
 one-message : (s : Serializer) (octets : List ℕ) (d e : Data) → Decodes s octets d → Decodes s octets e → d ≡ e
@@ -166,11 +167,11 @@ by-kind s limit realms payload frames Next once kind.Ping out told v w (inr x) (
 by-kind s limit realms payload frames Next once kind.Pong out told v w x y = once out told v w x y
 
 leads-once : (s : Serializer) (limit : ℕ) (realms : List (List ℕ)) (fault : Option stream.Fault) (frames : List Content) (out told : List ℕ) (v w : Verdict)
-    → Leads s limit realms fault frames out v → Leads s limit realms fault frames told w → (out ≡ told) × (v ≡ w)
+    → Leads (terms s limit realms) fault frames out v → Leads (terms s limit realms) fault frames told w → (out ≡ told) × (v ≡ w)
 leads-once s limit realms None [] out told v w x y = (x.0 ∙ sym y.0, x.1 ∙ sym y.1)
 leads-once s limit realms (Some f) [] out told v w x y = (x.0 ∙ sym y.0, x.1 ∙ sym y.1)
 leads-once s limit realms fault (c ∷ frames) out told v w x y =
-    by-kind s limit realms c.payload frames (Leads s limit realms fault frames) (leads-once s limit realms fault frames) c.kind out told v w x y
+    by-kind s limit realms c.payload frames (Leads (terms s limit realms) fault frames) (leads-once s limit realms fault frames) c.kind out told v w x y
 
 -- octets are split in one way, and one rest is held
 reads-once : (octets : List ℕ) (frames others : List Content) (held left : List ℕ) → Reads octets frames held → Reads octets others left → (others ≡ frames) × (left ≡ held)
@@ -182,7 +183,7 @@ pub one-verdict : OneVerdict
 one-verdict s limit realms octets frames others held left written told v w x y leads other =
     let same = reads-once octets frames others held left x y in
     leads-once s limit realms (fault_of held) frames written told v w leads
-    (subst (λ fs. Leads s limit realms (fault_of held) fs told w) same.0 (subst (λ h. Leads s limit realms (fault_of h) others told w) same.1 other))
+    (subst (λ fs. Leads (terms s limit realms) (fault_of held) fs told w) same.0 (subst (λ h. Leads (terms s limit realms) (fault_of h) others told w) same.1 other))
 
 one-answer : (s : Serializer) (limit : ℕ) (held : List ℕ) (v : Verdict) (a b : Result Session Fault) → IsAnswer s limit held v a → IsAnswer s limit held v b → AreAlike a b
 one-answer s limit held Undecided a b x y = inr (x, y)
@@ -190,7 +191,7 @@ one-answer s limit held (Opens realm authid early) a b x y = inl (x ∙ sym y)
 one-answer s limit held (Refuses fault) a b x y = inl (x ∙ sym y)
 
 converses-once : (s : Serializer) (limit : ℕ) (realms : List (List ℕ)) (octets written told : List ℕ) (a b : Result Session Fault)
-    → Converses s limit realms octets written a → Converses s limit realms octets told b → (written ≡ told) × AreAlike a b
+    → Converses (terms s limit realms) octets written a → Converses (terms s limit realms) octets told b → (written ≡ told) × AreAlike a b
 converses-once s limit realms octets written told a b x y =
     let held = (reads-once octets x.frames y.frames x.held y.held x.reads y.reads).1 in
     let same = one-verdict s limit realms octets x.frames y.frames x.held y.held written told x.verdict y.verdict x.reads y.reads x.leads y.leads in

@@ -10,7 +10,7 @@ use Rattle.rawsocket.specs.declared.handshake.Serializer.TheVariants.{Json, MsgP
 use Rattle.rawsocket.specs.declared.handshake.Handshake.TheVariants.{Accept, Refuse, Dropped}
 use Rattle.rawsocket.specs.Steps.{Fine}
 use Rattle.session.specs.Faults.{stream_fault, read_told, write_told}
-use Rattle.session.specs.Opened.{Converses, Follows, IsOpening, OpensSince, Proceeds, Session, or_nothing}
+use Rattle.session.specs.Opened.{Converses, Follows, IsOpening, OpensSince, Proceeds, Session, exchange, or_nothing, terms}
 use Rattle.session.specs.FrameWalk.{ConversesSince}
 use Rattle.session.specs.declared.fault.Fault.{Fault}
 
@@ -57,18 +57,18 @@ refused_told h f e = two_rules f (refused_by (get_or h 0 0 == 127) (get_or h 2 0
 
 -- an accepted handshake and the octets after it
 pub accepted_opening : (realms : List (List ℕ)) (h octets written : List ℕ) (s : Serializer) (most : ℕ) (answer : Result Session Fault) → length h ≡ 4 → answered h ≡ Accept s most
-    → Converses s most realms octets written answer → IsOpening realms (h ++ octets) (accepting s ++ written) answer
+    → Converses (terms s most realms) octets written answer → IsOpening realms (h ++ octets) (accepting s ++ written) answer
 accepted_opening realms h octets written s most answer four is converses =
-    let proceeds : Proceeds s most realms octets (accepting s ++ written) answer = record { more = written; written_is = refl; converses = converses } in
+    let proceeds : Proceeds (terms s most realms) octets (accepting s ++ written) answer = record { more = written; written_is = refl; converses = converses } in
     inr (
       omega (arith, four, length-append h octets),
       subst (λ a. Follows a realms (drop 4 (h ++ octets)) (accepting s ++ written) answer) (sym (first_four h octets four ∙ is))
-          (subst (λ x. Proceeds s most realms x (accepting s ++ written) answer) (sym (drop_at h octets 4 four)) proceeds),
+          (subst (λ x. Proceeds (terms s most realms) x (accepting s ++ written) answer) (sym (drop_at h octets 4 four)) proceeds),
     )
 
 module _ (realms : List (List ℕ)) (given_before given taken_before taken h : List ℕ) (read : given ≡ given_before ++ h) (four : length h ≡ 4) where
   pub opens_accepted : (s : Serializer) (most : ℕ) (after taken_after : List ℕ) (answer : Result Session Fault) → answered h ≡ Accept s most → taken ≡ taken_before ++ or_nothing (reply_of (Accept s most))
-      → ConversesSince s most realms given after taken taken_after answer → OpensSince realms given_before after taken_before taken_after answer
+      → ConversesSince (terms s most realms) (exchange given taken) (exchange after taken_after) answer → OpensSince realms (exchange given_before taken_before) (exchange after taken_after) answer
   opens_accepted s most after taken_after answer is wrote more = record {
     octets = h ++ more.octets;
     written = accepting s ++ more.written;

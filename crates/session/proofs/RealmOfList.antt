@@ -10,9 +10,10 @@ use Rattle.rawsocket.specs.declared.fault.Fault as stream
 use Rattle.rawsocket.specs.declared.frame.Kind.{Kind}
 use Rattle.rawsocket.specs.declared.frame.Kind.TheVariants.{Message, Ping, Pong}
 use Rattle.rawsocket.specs.declared.handshake.Serializer.{Serializer}
-use Rattle.session.specs.Opened.{Converses, IsAnswer, Leads, LeadsBy, Session, Verdict, Undecided, Opens, Refuses}
+use Rattle.session.specs.Opened.{Converses, IsAnswer, Leads, Session, Verdict, Undecided, Opens, Refuses, terms}
 use Rattle.session.specs.FirstMessage.{first_of}
 use Rattle.session.specs.declared.messages.said.Said.{Said}
+use Rattle.session.proofs.FrameWalkLemmas.{LeadsBy}
 use Rattle.session.specs.declared.messages.said.Said.TheVariants.{Hello, Abort, Goodbye, Publish, Subscribe, Unsubscribe}
 
 place_within : (realms : List (List ℕ)) (realm : List ℕ) (authid : Option (List ℕ)) (asked : ℕ × Option (List ℕ)) (o : Option ℕ) → position (λ r. bytes_eq r realm) realms ≡ o
@@ -44,13 +45,13 @@ module _ (s : Serializer) (limit : ℕ) (realms : List (List ℕ)) where
   within_by Ping payload frames Next out v next (inr long) = subst (IsWithin realms) (sym long.verdict) tt
   within_by Pong payload frames Next out v next w = next out w
 
-  at_end : (fault : Option stream.Fault) (out : List ℕ) (v : Verdict) → Leads s limit realms fault [] out v → IsWithin realms v
+  at_end : (fault : Option stream.Fault) (out : List ℕ) (v : Verdict) → Leads (terms s limit realms) fault [] out v → IsWithin realms v
   at_end None out v w = subst (IsWithin realms) (sym w.1) tt
   at_end (Some f) out v w = subst (IsWithin realms) (sym w.1) tt
 
-  Leads-within : (fault : Option stream.Fault) (frames : List Content) (out : List ℕ) (v : Verdict) → Leads s limit realms fault frames out v → IsWithin realms v
+  Leads-within : (fault : Option stream.Fault) (frames : List Content) (out : List ℕ) (v : Verdict) → Leads (terms s limit realms) fault frames out v → IsWithin realms v
   Leads-within fault [] out v w = at_end fault out v w
-  Leads-within fault (c ∷ frames) out v w = within_by c.kind c.payload frames (Leads s limit realms fault frames) out v (λ o next. Leads-within fault frames o v next) w
+  Leads-within fault (c ∷ frames) out v w = within_by c.kind c.payload frames (Leads (terms s limit realms) fault frames) out v (λ o next. Leads-within fault frames o v next) w
 
   answer_within : (held : List ℕ) (v : Verdict) (session : Session) → IsWithin realms v → IsAnswer s limit held v (Ok session) → session.realm < length realms
   answer_within held Undecided session within (inl e) = absurd (cc)
@@ -58,5 +59,5 @@ module _ (s : Serializer) (limit : ℕ) (realms : List (List ℕ)) where
   answer_within held (Opens realm authid early) session within e = let same : realm ≡ session.realm = cc in subst (λ n. n < length realms) same within
   answer_within held (Refuses f) session within e = absurd (cc)
 
-  pub opened_within : (octets written : List ℕ) (session : Session) → Converses s limit realms octets written (Ok session) → session.realm < length realms
+  pub opened_within : (octets written : List ℕ) (session : Session) → Converses (terms s limit realms) octets written (Ok session) → session.realm < length realms
   opened_within octets written session c = answer_within c.held c.verdict session (Leads-within (fault_of c.held) c.frames written c.verdict c.leads) c.answers

@@ -27,10 +27,10 @@ topic_sync : IsSync topic.the_row
 topic_sync = search (maps, crosses, sendable) depth 60 fits 20000
 
 pub args_send : IsSend args.the_row
-args_send = search (content_send, octets_send, sendable) depth 60 fits 20000
+args_send = search (content_send, octets_send, crosses, sendable) depth 60 fits 20000
 
 pub args_sync : IsSync args.the_row
-args_sync = search (content_sync, octets_sync, sendable) depth 60 fits 20000
+args_sync = search (content_sync, octets_sync, crosses, sendable) depth 60 fits 20000
 
 pub carried_send : IsSend carried.the_row
 carried_send = search (args_send, sendable) depth 60 fits 20000

@@ -9,8 +9,8 @@ use Rattle.rawsocket.specs.declared.handshake.Handshake.{Handshake}
 use Rattle.rawsocket.specs.declared.handshake.Handshake.TheVariants.{Accept, Refuse, Dropped}
 use Rattle.rawsocket.proofs.Lemmas.{nothing_grown, whole_grown, grown_further, nothing_read, pieces_join}
 use Rattle.session.specs.Faults.{stream_fault}
-use Rattle.session.specs.Opened.{BeginsOpening, Follows, IsAnswer, Session, Verdict, Undecided, Opens, Refuses, or_nothing}
-use Rattle.session.specs.FrameWalk.{BeginsConversing, Extends, GoesOnPartly}
+use Rattle.session.specs.Opened.{BeginsOpening, Follows, IsAnswer, Session, Verdict, Undecided, Opens, Refuses, exchange, or_nothing, terms}
+use Rattle.session.specs.FrameWalk.{BeginsConversing, Extends, GoesOnPartly, stand}
 use Rattle.session.specs.declared.fault.Fault.{Fault}
 use Rattle.session.specs.declared.fault.Fault.TheVariants.{Ended, NotRawSocket}
 use Rattle.session.proofs.ConverseLemmas.{Conversing, Leads-join}
@@ -30,7 +30,7 @@ answer_is s limit held (Refuses fault) = refl
 module _ (s : Serializer) (limit : ℕ) (realms : List (List ℕ)) where
   -- all that is due so far is written, and more octets were read
   pub begun_whole : (given_before given after taken_before taken held more : List ℕ) (v : Verdict) → after ≡ given ++ more → Conversing s limit realms given_before given taken_before taken held v
-      → BeginsConversing s limit realms given_before after taken_before taken
+      → BeginsConversing (terms s limit realms) (exchange given_before taken_before) (exchange after taken)
   begun_whole given_before given after taken_before taken held more v e so_far = record {
     octets = so_far.octets;
     more = more;
@@ -41,8 +41,8 @@ module _ (s : Serializer) (limit : ℕ) (realms : List (List ℕ)) where
     converses = record { frames = so_far.frames; held = held; reads = so_far.reads; verdict = v; leads = so_far.leads; answers = answer_is s limit held v };
   }
 
-  begun_partly : (given_before given after taken_before taken now held piece : List ℕ) → after ≡ given ++ piece → GoesOnPartly s limit realms held piece taken now
-      → Conversing s limit realms given_before given taken_before taken held Undecided → BeginsConversing s limit realms given_before after taken_before now
+  begun_partly : (given_before given after taken_before taken now held piece : List ℕ) → after ≡ given ++ piece → GoesOnPartly (terms s limit realms) piece (stand held taken) now
+      → Conversing s limit realms given_before given taken_before taken held Undecided → BeginsConversing (terms s limit realms) (exchange given_before taken_before) (exchange after now)
   begun_partly given_before given after taken_before taken now held piece e goes so_far = record {
     octets = so_far.octets ++ piece;
     more = [];
@@ -61,10 +61,10 @@ module _ (s : Serializer) (limit : ℕ) (realms : List (List ℕ)) where
   }
 
   -- where the next octets were refused
-  pub begun_so_far : (given_before given after taken_before taken now held piece : List ℕ) → after ≡ given ++ piece → (now ≡ taken) ⊎ GoesOnPartly s limit realms held piece taken now
-      → Conversing s limit realms given_before given taken_before taken held Undecided → BeginsConversing s limit realms given_before after taken_before now
+  pub begun_so_far : (given_before given after taken_before taken now held piece : List ℕ) → after ≡ given ++ piece → (now ≡ taken) ⊎ GoesOnPartly (terms s limit realms) piece (stand held taken) now
+      → Conversing s limit realms given_before given taken_before taken held Undecided → BeginsConversing (terms s limit realms) (exchange given_before taken_before) (exchange after now)
   begun_so_far given_before given after taken_before taken now held piece e (inl same) so_far =
-      subst (λ t. BeginsConversing s limit realms given_before after taken_before t) (sym same) (begun_whole given_before given after taken_before taken held piece Undecided e so_far)
+      subst (λ t. BeginsConversing (terms s limit realms) (exchange given_before taken_before) (exchange after t)) (sym same) (begun_whole given_before given after taken_before taken held piece Undecided e so_far)
   begun_so_far given_before given after taken_before taken now held piece e (inr goes) so_far = begun_partly given_before given after taken_before taken now held piece e goes so_far
 
 -- an answer that a handshake allows, where nothing was read after it
@@ -84,7 +84,7 @@ follows_alone realms Dropped octets e = (refl, refl)
 
 module _ (realms : List (List ℕ)) (given_before given taken_before taken : List ℕ) where
   -- while the handshake is read
-  pub begun_unanswered : taken ≡ taken_before → Extends given_before given → BeginsOpening realms given_before given taken_before taken
+  pub begun_unanswered : taken ≡ taken_before → Extends given_before given → BeginsOpening realms (exchange given_before taken_before) (exchange given taken)
   begun_unanswered same more = record {
     octets = [];
     more = more.0;
@@ -97,7 +97,7 @@ module _ (realms : List (List ℕ)) (given_before given taken_before taken : Lis
 
   module _ (h : List ℕ) (read : given ≡ given_before ++ h) (four : length h ≡ 4) where
     -- while it is answered
-    pub begun_reply : (a : Handshake) → a ≡ answered h → GrowsByBeginning taken_before taken (or_nothing (reply_of a)) → BeginsOpening realms given_before given taken_before taken
+    pub begun_reply : (a : Handshake) → a ≡ answered h → GrowsByBeginning taken_before taken (or_nothing (reply_of a)) → BeginsOpening realms (exchange given_before taken_before) (exchange given taken)
     begun_reply a is wrote = record {
       octets = h;
       more = [];
@@ -113,7 +113,7 @@ module _ (realms : List (List ℕ)) (given_before given taken_before taken : Lis
 
     -- while what follows it is answered
     pub begun_after : (s : Serializer) (most : ℕ) (after now : List ℕ) → answered h ≡ Accept s most → taken ≡ taken_before ++ or_nothing (reply_of (Accept s most))
-        → BeginsConversing s most realms given after taken now → BeginsOpening realms given_before after taken_before now
+        → BeginsConversing (terms s most realms) (exchange given taken) (exchange after now) → BeginsOpening realms (exchange given_before taken_before) (exchange after now)
     begun_after s most after now is wrote b = record {
       octets = h ++ b.octets;
       more = b.more;

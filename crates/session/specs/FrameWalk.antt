@@ -4,9 +4,7 @@ use Rattle.std.specs.declared.option.Option.{Option}
 use Rattle.rawsocket.specs.Devices.{GrowsByBeginning}
 use Rattle.rawsocket.specs.Frames.{Content, contents, fault_of, Reads}
 use Rattle.rawsocket.specs.declared.fault.Fault as stream
-use Rattle.rawsocket.specs.declared.frame.Kind.{Kind}
-use Rattle.rawsocket.specs.declared.handshake.Serializer.{Serializer}
-use Rattle.session.specs.Opened.{Converses, Leads, Session, Verdict, Undecided, Opens, Refuses}
+use Rattle.session.specs.Opened.{Converses, Exchange, Leads, Session, Terms, Verdict, Undecided, Opens, Refuses}
 use Rattle.session.specs.declared.fault.Fault.{Fault}
 use Rattle.session.specs.declared.fault.Fault.TheVariants.{Ended, ReadFault}
 use Rattle.session.specs.declared.opening.verdict.Verdict as declared
@@ -18,16 +16,15 @@ verdict_of seen.Undecided = Undecided
 verdict_of (seen.Opens first early) = Opens first.realm (option_map string_bytes first.authid) (contents early.items)
 verdict_of (seen.Refuses fault) = Refuses fault
 
--- the frames decide so, and what is written for them stands at the end
-pub record Adds (s : Serializer) (limit : ℕ) (realms : List (List ℕ)) (fault : Option stream.Fault) (frames : List Content) (before after : List ℕ) (v : Verdict) : Type 0 where
+-- what is to be written where this is decided stands at the end
+pub record Adds (Decides : List ℕ → Verdict → Type 0) (before after : List ℕ) (v : Verdict) : Type 0 where
   pub out : List ℕ
   pub is : after ≡ before ++ out
-  pub leads : Leads s limit realms fault frames out v
+  pub leads : Decides out v
 
--- the same of a frame of this kind and those behind it, whatever comes after them
-abbrev pub AddsFor : Serializer → ℕ → List (List ℕ) → Kind → List ℕ → List Content → List ℕ → List ℕ → Verdict → Type 0
-AddsFor s limit realms kind payload frames before after v =
-    (fault : Option stream.Fault) → Adds s limit realms fault (record { kind = kind; payload = payload } ∷ frames) before after v
+-- the frames decide so, whatever comes after them
+abbrev pub AddsFor : Terms → List Content → List ℕ → List ℕ → Verdict → Type 0
+AddsFor t frames before after v = (fault : Option stream.Fault) → Adds (Leads t fault frames) before after v
 
 -- the later list begins with the earlier one
 abbrev pub Extends : List ℕ → List ℕ → Type 0
@@ -40,38 +37,46 @@ pub record EndsWithin (most : ℕ) (given_before given : List ℕ) (fault : Faul
   pub short : length part < most
   pub is_end : (fault ≡ Ended) ⊎ (fault ≡ ReadFault)
 
+-- what is held of the octets behind the last frame, and what was written to the client
+pub record Stand : Type 0 where
+  pub held : List ℕ
+  pub taken : List ℕ
+
+abbrev pub stand : List ℕ → List ℕ → Stand
+stand held taken = record { held = held; taken = taken }
+
 -- the next octets complete frames that decide so, and what is written for them is written
-pub record GoesOn (s : Serializer) (limit : ℕ) (realms : List (List ℕ)) (held piece new taken_before taken : List ℕ) (v : Verdict) : Type 0 where
+pub record GoesOn (t : Terms) (piece : List ℕ) (before now : Stand) (v : Verdict) : Type 0 where
   pub frames : List Content
-  pub reads : Reads (held ++ piece) frames new
+  pub reads : Reads (before.held ++ piece) frames now.held
   pub out : List ℕ
-  pub wrote : taken ≡ taken_before ++ out
-  pub leads : Leads s limit realms (fault_of new) frames out v
+  pub wrote : now.taken ≡ before.taken ++ out
+  pub leads : Leads t (fault_of now.held) frames out v
 
 -- of what is written for the frames that the next octets complete a beginning is written
-pub record GoesOnPartly (s : Serializer) (limit : ℕ) (realms : List (List ℕ)) (held piece taken_before taken : List ℕ) : Type 0 where
+pub record GoesOnPartly (t : Terms) (piece : List ℕ) (before : Stand) (taken : List ℕ) : Type 0 where
   pub new : List ℕ
   pub frames : List Content
-  pub reads : Reads (held ++ piece) frames new
+  pub reads : Reads (before.held ++ piece) frames new
   pub verdict : Verdict
   pub out : List ℕ
-  pub wrote : GrowsByBeginning taken_before taken out
-  pub leads : Leads s limit realms (fault_of new) frames out verdict
+  pub wrote : GrowsByBeginning before.taken taken out
+  pub leads : Leads t (fault_of new) frames out verdict
 
 -- the octets after a handshake, of what was read and written since
-pub record ConversesSince (s : Serializer) (limit : ℕ) (realms : List (List ℕ)) (given_before given taken_before taken : List ℕ) (answer : Result Session Fault) : Type 0 where
+pub record ConversesSince (t : Terms) (before now : Exchange) (answer : Result Session Fault) : Type 0 where
   pub octets : List ℕ
   pub written : List ℕ
-  pub read : given ≡ given_before ++ octets
-  pub wrote : taken ≡ taken_before ++ written
-  pub converses : Converses s limit realms octets written answer
+  pub read : now.given ≡ before.given ++ octets
+  pub wrote : now.taken ≡ before.taken ++ written
+  pub converses : Converses t octets written answer
 
 -- of what is written for the octets after a handshake, or for the first of them, a beginning is written
-pub record BeginsConversing (s : Serializer) (limit : ℕ) (realms : List (List ℕ)) (given_before given taken_before taken : List ℕ) : Type 0 where
+pub record BeginsConversing (t : Terms) (before now : Exchange) : Type 0 where
   pub octets : List ℕ
   pub more : List ℕ
   pub written : List ℕ
   pub answer : Result Session Fault
-  pub read : given ≡ given_before ++ (octets ++ more)
-  pub wrote : GrowsByBeginning taken_before taken written
-  pub converses : Converses s limit realms octets written answer
+  pub read : now.given ≡ before.given ++ (octets ++ more)
+  pub wrote : GrowsByBeginning before.taken now.taken written
+  pub converses : Converses t octets written answer

@@ -1,7 +1,7 @@
 //! The octets of frames: items and payloads in either serialization.
 
-pub(crate) mod appender;
 pub(crate) mod event_details;
 pub(crate) mod event_head;
 pub(crate) mod item_frames;
+pub(crate) mod serialized_parts;
 pub(crate) mod serializer;

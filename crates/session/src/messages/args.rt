@@ -5,9 +5,8 @@ ghost use Rattle.message_tree.specs.Data.{depth, is_carried};
 ghost use Rattle.session.specs.Arguments.{FitMessages, is_all_carried, is_carried_if_any, is_args, is_kwargs};
 ghost use Rattle.session.specs.body.EncodedArguments.{IsTail};
 
-use crate::wire::appender::Appender;
 use crate::wire::item_frames::put_args;
-use message_tree::{Content, Octets};
+use message_tree::{Appender, Content, Octets};
 use rawsocket::Serializer;
 use std::alloc::{AllocError, Global};
 use std::marker::Model;
@@ -15,21 +14,32 @@ use std::marker::Model;
 /// The octets that are reserved at once for encoded arguments: enough for a small message.
 const ENCODED_ROOM: usize = 64;
 
+/// Arguments that are there, in a place of their own, and what they are in a message of either
+/// serialization.
+#[derive(Drop)]
+struct Held {
+    args: Content,
+    kwargs: Option<Content>,
+    json: Option<Octets>,
+    msgpack: Option<Octets>,
+}
+
 /// The arguments of a PUBLISH, as they came: Arguments and ArgumentsKw, each where it was given.
 /// Arguments is a list, ArgumentsKw a dictionary, or either is uncarried as a whole. Each nests at
 /// most 99 levels, and there is no ArgumentsKw without Arguments.
 ///
 /// Beside them may stand the octets that they are in a message of either serialization, so that an
 /// event for many receivers is encoded once. No contract shows whether they do.
+///
+/// They stand in one box, so that they are moved as one pointer on their way to the realm's actor;
+/// no arguments take no memory.
 #[derive(Drop)]
 pub struct Args {
-    args: Option<Content>,
-    kwargs: Option<Content>,
-    json: Option<Octets>,
-    msgpack: Option<Octets>,
+    held: Option<Box<Held>>,
 }
 
 impl Model for Args {
+    ghost use Rattle.std.specs.Option.{option_map, option_and_then};
     ghost use Rattle.session.specs.Arguments.{Arguments, arguments_code};
     ghost use Rattle.session.specs.body.EncodedArguments.{Encoded};
 
@@ -37,50 +47,67 @@ impl Model for Args {
 
     ghost coded = { arguments_code };
 
-    ghost view = { λ a. record { args = a.args; kwargs = a.kwargs } };
+    ghost view = { λ a. record {
+      args = option_map (λ h. h.value.args) a.held;
+      kwargs = option_and_then (λ h. h.value.kwargs) a.held;
+    } };
 
-    ghost invariant = { λ a.
-        Encoded (record { args = a.args; kwargs = a.kwargs }) a.json a.msgpack };
+    ghost invariant = { λ a. Encoded
+        (record {
+          args = option_map (λ h. h.value.args) a.held;
+          kwargs = option_and_then (λ h. h.value.kwargs) a.held;
+        })
+        (option_and_then (λ h. h.value.json) a.held)
+        (option_and_then (λ h. h.value.msgpack) a.held) };
 }
 
 impl Args {
-    fn plain(args: Option<Content>, kwargs: Option<Content>) -> Args
-        requires { FitMessages (record { args = args; kwargs = kwargs }) }
-        ensures { result ≡ record { args = args; kwargs = kwargs } }
+    fn plain(alloc: Global, args: Content, kwargs: Option<Content>) -> Result<Args, AllocError>
+        requires { FitMessages (record { args = Some args; kwargs = kwargs }) }
+        ensures { IfOk result (λ a. a ≡ record { args = Some args; kwargs = kwargs }) }
     {
-        Args {
+        let held = Held {
             args,
             kwargs,
             json: None,
             msgpack: None,
-        }
+        };
+        Ok(Args {
+            held: Some(Box::new(alloc, held)?),
+        })
     }
 
     /// No arguments.
     pub fn none() -> Args
         ensures { result ≡ record { args = None; kwargs = None } }
     {
-        Args::plain(None, None)
+        Args { held: None }
     }
 
     /// Arguments alone.
-    pub fn positional(args: Content) -> Args
+    ///
+    /// # Errors
+    /// [`AllocError`] where a growth was refused; the arguments are dropped then.
+    pub fn positional(alloc: Global, args: Content) -> Result<Args, AllocError>
         requires kind { is_args args ≡ true }
         requires shallow { depth args ≤ 99 }
-        ensures { result ≡ record { args = Some args; kwargs = None } }
+        ensures { IfOk result (λ a. a ≡ record { args = Some args; kwargs = None }) }
     {
-        Args::plain(Some(args), None)
+        Args::plain(alloc, args, None)
     }
 
     /// Arguments and ArgumentsKw.
-    pub fn both(args: Content, kwargs: Content) -> Args
+    ///
+    /// # Errors
+    /// [`AllocError`] where a growth was refused; both are dropped then.
+    pub fn both(alloc: Global, args: Content, kwargs: Content) -> Result<Args, AllocError>
         requires args_kind { is_args args ≡ true }
         requires kwargs_kind { is_kwargs kwargs ≡ true }
         requires args_shallow { depth args ≤ 99 }
         requires kwargs_shallow { depth kwargs ≤ 99 }
-        ensures { result ≡ record { args = Some args; kwargs = Some kwargs } }
+        ensures { IfOk result (λ a. a ≡ record { args = Some args; kwargs = Some kwargs }) }
     {
-        Args::plain(Some(args), Some(kwargs))
+        Args::plain(alloc, args, Some(kwargs))
     }
 
     /// Arguments: a list, or uncarried.
@@ -89,7 +116,10 @@ impl Args {
         ensures bounded { IfSome result (λ c. depth c.now ≤ 99) }
         ensures kind { IfSome result (λ c. is_args c.now ≡ true) }
     {
-        self.args.as_ref()
+        match &self.held {
+            None => None,
+            Some(held) => Some(&held.args),
+        }
     }
 
     /// ArgumentsKw: a dictionary, or uncarried.
@@ -99,25 +129,31 @@ impl Args {
         ensures kind { IfSome result (λ c. is_kwargs c.now ≡ true) }
         ensures alone { self.now.args ≡ None → self.now.kwargs ≡ None }
     {
-        self.kwargs.as_ref()
+        match &self.held {
+            None => None,
+            Some(held) => held.kwargs.as_ref(),
+        }
     }
 
-    /// Whether every serialization writes them: nothing in them is uncarried.
+    /// Whether nothing in them is uncarried.
     pub fn is_carried(&self) -> bool
         ensures { result ≡ is_all_carried self.now }
     {
-        if self.json.is_some() {
+        let Some(held) = &self.held else {
+            return true;
+        };
+        if held.json.is_some() {
             return true;
         }
-        if self.msgpack.is_some() {
+        if held.msgpack.is_some() {
             return true;
         }
-        is_carried_if_any(&self.args) && is_carried_if_any(&self.kwargs)
+        held.args.is_carried() && is_carried_if_any(&held.kwargs)
     }
 
-    /// The same arguments, encoded for the messages of a serialization, unless they aren't carried,
-    /// have no spelling there, or a growth is refused.
-    pub fn encoded(self, alloc: Global, serializer: Serializer) -> Args
+    /// The same arguments, encoded for the messages of a serialization, unless something in them is
+    /// uncarried, they have no spelling there, or a growth is refused.
+    pub fn encoded(mut self, alloc: Global, serializer: Serializer) -> Args
         ensures { result ≡ self }
     {
         if !self.is_carried() || self.tail(serializer).is_some() {
@@ -128,31 +164,32 @@ impl Args {
             return self;
         }
         let mut out = Appender::new(octets);
-        match put_args(&mut out, alloc, serializer, &self) {
-            Err(_) => self,
-            Ok(()) => {
-                let tail = Some(Octets::from_vec(out.into_vec()));
-                let Args {
-                    args,
-                    kwargs,
-                    json,
-                    msgpack,
-                } = self;
-                match serializer {
-                    Serializer::Json => Args {
-                        args,
-                        kwargs,
-                        json: tail,
-                        msgpack,
-                    },
-                    Serializer::MsgPack => Args {
-                        args,
-                        kwargs,
-                        json,
-                        msgpack: tail,
-                    },
-                }
+        if put_args(&mut out, alloc, serializer, &self).is_ok() {
+            self.keep(serializer, Octets::from_vec(out.into_vec()));
+        }
+        self
+    }
+
+    /// Keeps the octets that they are at the end of a message, beside them.
+    fn keep(&mut self, serializer: Serializer, octets: Octets)
+        requires { IsTail serializer self.old octets }
+        ensures { self.new ≡ self.old }
+    {
+        if let Some(held) = &mut self.held {
+            match serializer {
+                Serializer::Json => held.json = Some(octets),
+                Serializer::MsgPack => held.msgpack = Some(octets),
             }
+        }
+    }
+
+    /// Keeps the arguments alone.
+    fn strip(&mut self)
+        ensures { self.new ≡ self.old }
+    {
+        if let Some(held) = &mut self.held {
+            held.json = None;
+            held.msgpack = None;
         }
     }
 
@@ -160,9 +197,12 @@ impl Args {
     pub(crate) fn tail(&self, serializer: Serializer) -> Option<&[u8]>
         ensures { IfSome result (λ octets. IsTail serializer self.now octets.now) }
     {
+        let Some(held) = &self.held else {
+            return None;
+        };
         let tail = match serializer {
-            Serializer::Json => &self.json,
-            Serializer::MsgPack => &self.msgpack,
+            Serializer::Json => &held.json,
+            Serializer::MsgPack => &held.msgpack,
         };
         match tail {
             Some(octets) => Some(octets.as_slice()),
@@ -177,9 +217,12 @@ impl Args {
     pub fn try_copy(&self, alloc: Global) -> Result<Args, AllocError>
         ensures ok { IfOk result (λ a. a ≡ self.now) }
     {
-        let args = copy_if_any(alloc, &self.args)?;
-        let kwargs = copy_if_any(alloc, &self.kwargs)?;
-        Ok(Args::plain(args, kwargs))
+        let Some(held) = &self.held else {
+            return Ok(Args::none());
+        };
+        let args = held.args.try_copy(alloc)?;
+        let kwargs = copy_if_any(alloc, &held.kwargs)?;
+        Args::plain(alloc, args, kwargs)
     }
 }
 
@@ -201,7 +244,8 @@ fn copy_if_any(alloc: Global, content: &Option<Content>) -> Result<Option<Conten
     }
 }
 
-/// Arguments that every serialization writes: nothing in them is uncarried.
+/// Arguments in which nothing is uncarried. JSON writes each of them; MessagePack has no spelling
+/// where a text, byte string, list or dictionary in them has 2^32 or more octets or members.
 #[derive(Drop)]
 pub struct CarriedArgs {
     args: Args,
@@ -221,7 +265,7 @@ impl Model for CarriedArgs {
 }
 
 impl CarriedArgs {
-    /// These arguments, where all of them is carried; else they come back.
+    /// These arguments, where nothing in them is uncarried; else they come back.
     pub fn of(args: Args) -> Result<CarriedArgs, Args>
         ensures ok { IfOk result (λ carried. carried ≡ args) }
         ensures err { IfErr result (λ back. back ≡ args) }
@@ -238,16 +282,9 @@ impl CarriedArgs {
     pub fn unencoded(self) -> CarriedArgs
         ensures { result ≡ self }
     {
-        let CarriedArgs { args } = self;
-        let Args {
-            args,
-            kwargs,
-            json: _,
-            msgpack: _,
-        } = args;
-        CarriedArgs {
-            args: Args::plain(args, kwargs),
-        }
+        let CarriedArgs { mut args } = self;
+        args.strip();
+        CarriedArgs { args }
     }
 
     /// The arguments.

@@ -134,12 +134,12 @@ fn arguments(alloc: Global, mut elements: Elements) -> Result<Args, Fault>
     };
     let Some(second) = elements.next() else {
         let args = args_of(alloc, first)?;
-        return Ok(Args::positional(args));
+        return Ok(Args::positional(alloc, args)?);
     };
     elements.end()?;
     let args = args_of(alloc, first)?;
     let kwargs = kwargs_of(alloc, second)?;
-    Ok(Args::both(args, kwargs))
+    Ok(Args::both(alloc, args, kwargs)?)
 }
 
 fn args_of(alloc: Global, tree: Tree) -> Result<Content, Fault>

@@ -13,7 +13,8 @@ use std::alloc::{AllocError, Global};
 use wamp_ids::Id;
 
 /// The message that tells a client an item (WAMP, "Messages"); `None` for a PONG, which is a frame
-/// and no message. Every serialization writes it: nothing in it is uncarried.
+/// and no message. Nothing in it is uncarried; still MessagePack has no spelling for it where
+/// something in it has 2^32 or more octets or members.
 ///
 /// # Errors
 /// [`AllocError`] where a growth was refused.

@@ -1,7 +1,7 @@
 //! What the frames of a client decide up to its HELLO.
-ghost use Rattle.std.specs.Prelude.{◌≡◌, ◌≢◌, ◌≤◌, ◌<◌, ◌++◌, [], Some, Ok, true, false, length, option_map, string_bytes, IfOk, IfErr, OnOk};
+ghost use Rattle.std.specs.Prelude.{◌≡◌, ◌≢◌, ◌≤◌, ◌<◌, ◌++◌, ◌∷◌, [], Some, Ok, true, false, length, option_map, string_bytes, IfOk, IfErr, OnOk};
 ghost use Rattle.rawsocket.specs.Frames.{contents, spelled};
-ghost use Rattle.session.specs.Opened.{Asks, IsRefused, abort_frame, pong, refusal};
+ghost use Rattle.session.specs.Opened.{Asks, IsRefused, Leads, abort_frame, pong, refusal, terms};
 ghost use Rattle.session.specs.FrameWalk.{Adds, AddsFor, verdict_of};
 
 use crate::fault::Fault;
@@ -102,9 +102,10 @@ fn decide(
     early: Vec<Frame>,
     out: &mut Vec<u8>,
 ) -> Result<Verdict, AllocError>
-    ensures decided { IfOk result (λ v. AddsFor client.serializer client.limit realms.now
-        Kind.Message payload.now (contents early.items) out.old.items
-        out.new.items (verdict_of v)) }
+    ensures decided { IfOk result (λ v. AddsFor
+        (terms client.serializer client.limit realms.now)
+        (record { kind = Kind.Message; payload = payload.now } ∷ contents early.items)
+        out.old.items out.new.items (verdict_of v)) }
 {
     match ask(alloc, client.serializer, realms, payload) {
         Ok(first) => Ok(Verdict::Opens(first, early)),
@@ -143,8 +144,8 @@ fn judge_rest(
     fault: Option<rawsocket::Fault>,
     out: &mut Vec<u8>,
 ) -> Result<Verdict, AllocError>
-    ensures decided { IfOk result (λ v. Adds serializer 0 [] fault [] out.old.items
-        out.new.items (verdict_of v)) }
+    ensures decided { IfOk result (λ v. Adds (Leads (terms serializer 0 []) fault [])
+        out.old.items out.new.items (verdict_of v)) }
 {
     match fault {
         None => Ok(Verdict::Undecided),
@@ -163,8 +164,9 @@ pub(crate) fn judge(
     out: &mut Vec<u8>,
 ) -> Result<Verdict, AllocError>
     requires { client.limit ≤ 16777215 }
-    ensures decided { IfOk result (λ v. Adds client.serializer client.limit realms.now
-        fault (contents frames.items) out.old.items out.new.items (verdict_of v)) }
+    ensures decided { IfOk result (λ v. Adds
+        (Leads (terms client.serializer client.limit realms.now) fault (contents frames.items))
+        out.old.items out.new.items (verdict_of v)) }
 {
     let mut left = VecDeque::from_vec(frames);
     while let Some(frame) = left.pop_front() {

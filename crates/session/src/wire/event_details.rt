@@ -8,7 +8,10 @@ ghost use Rattle.session.specs.ToClient.{event_details};
 
 use crate::fault::Fault;
 use crate::messages::item::Publication;
-use crate::wire::appender::Appender;
+use crate::wire::serialized_parts::{
+    close_dict, open_dict, put_key, put_number, put_text, put_true,
+};
+use message_tree::Appender;
 use rawsocket::Serializer;
 use std::alloc::{AllocError, Global};
 
@@ -32,12 +35,12 @@ fn put_publisher(
         return Ok(());
     }
     let publisher = &made.publisher;
-    out.put_key(alloc, serializer, false, "publisher")?;
-    out.put_number(alloc, serializer, publisher.id.value())?;
-    out.put_key(alloc, serializer, true, "publisher_authid")?;
-    out.put_text(alloc, serializer, publisher.authid.value().as_str())?;
-    out.put_key(alloc, serializer, true, "publisher_authrole")?;
-    out.put_text(alloc, serializer, publisher.authrole.value().as_str())?;
+    put_key(out, alloc, serializer, false, "publisher")?;
+    put_number(out, serializer, publisher.id.value())?;
+    put_key(out, alloc, serializer, true, "publisher_authid")?;
+    put_text(out, alloc, serializer, publisher.authid.value().as_str())?;
+    put_key(out, alloc, serializer, true, "publisher_authrole")?;
+    put_text(out, alloc, serializer, publisher.authrole.value().as_str())?;
     Ok(())
 }
 
@@ -56,8 +59,8 @@ fn put_retained(
     if !retained {
         return Ok(());
     }
-    out.put_key(alloc, serializer, later, "retained")?;
-    out.put_true(serializer)
+    put_key(out, alloc, serializer, later, "retained")?;
+    put_true(out, serializer)
 }
 
 /// The topic, where it is wanted.
@@ -81,8 +84,8 @@ fn put_topic(
     if !with_topic {
         return Ok(());
     }
-    out.put_key(alloc, serializer, later, "topic")?;
-    out.put_text(alloc, serializer, topic)
+    put_key(out, alloc, serializer, later, "topic")?;
+    put_text(out, alloc, serializer, topic)
 }
 
 /// How many details there are.
@@ -128,10 +131,10 @@ pub(crate) fn put_details(
     ensures before { out.new.before ≡ out.old.before }
     ensures fault { IfErr result (λ f. (f ≡ Fault.NoMemory) ⊎ (f ≡ Fault.TooLongForClient)) }
 {
-    out.open_dict(serializer, count_of(made, with_topic, retained))?;
+    open_dict(out, serializer, count_of(made, with_topic, retained))?;
     put_publisher(out, alloc, serializer, made)?;
     put_retained(out, alloc, serializer, made.disclosed, retained)?;
     let later = either(made.disclosed, retained);
     put_topic(out, alloc, serializer, later, with_topic, made.topic.text())?;
-    Ok(out.close_dict(serializer)?)
+    Ok(close_dict(out, serializer)?)
 }

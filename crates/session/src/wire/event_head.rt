@@ -11,7 +11,7 @@ use itoa::write_digits;
 use rawsocket::{Kind, Serializer, header};
 use std::marker::Model;
 
-/// How many octets there is room for. A header has 4, and an EVENT at most 49 before its arguments.
+/// How many octets there is room for. A header has 4, and an EVENT at most 48 before its arguments.
 const ROOM: usize = 64;
 
 /// Octets, the last of which was put first.

@@ -16,9 +16,10 @@ use crate::fault::Fault;
 use crate::messages::args::{Args, CarriedArgs};
 use crate::messages::item::{Item, Publication};
 use crate::messages::to_client::item_message;
-use crate::wire::appender::Appender;
 use crate::wire::event_details::put_details;
 use crate::wire::event_head::EventHead;
+use crate::wire::serialized_parts::{close_list, open_list, put_number, put_tree, separate};
+use message_tree::Appender;
 use rawsocket::{Kind, Serializer, fill_header};
 use std::alloc::{AllocError, Global};
 use std::mem;
@@ -38,7 +39,6 @@ fn count_of(args: &Args) -> u8
 /// Three numbers as the first elements of a list of so many.
 fn put_numbers(
     out: &mut Appender,
-    alloc: Global,
     serializer: Serializer,
     count: u8,
     numbers: (u64, u64, u64),
@@ -49,12 +49,12 @@ fn put_numbers(
         ++ further serializer (item (number numbers.1) (item (number numbers.2) no_items))))) }
     ensures before { out.new.before ≡ out.old.before }
 {
-    out.open_list(serializer, count)?;
-    out.put_number(alloc, serializer, numbers.0)?;
-    out.separate(serializer)?;
-    out.put_number(alloc, serializer, numbers.1)?;
-    out.separate(serializer)?;
-    out.put_number(alloc, serializer, numbers.2)
+    open_list(out, serializer, count)?;
+    put_number(out, serializer, numbers.0)?;
+    separate(out, serializer)?;
+    put_number(out, serializer, numbers.1)?;
+    separate(out, serializer)?;
+    put_number(out, serializer, numbers.2)
 }
 
 /// Arguments, each behind a separator.
@@ -77,14 +77,14 @@ pub(crate) fn put_args(
     match (args.args(), args.kwargs()) {
         (None, _) => Ok(()),
         (Some(args), None) => {
-            out.separate(serializer)?;
-            out.put_tree(alloc, serializer, args.tree())
+            separate(out, serializer)?;
+            put_tree(out, alloc, serializer, args.tree())
         }
         (Some(args), Some(kwargs)) => {
-            out.separate(serializer)?;
-            out.put_tree(alloc, serializer, args.tree())?;
-            out.separate(serializer)?;
-            out.put_tree(alloc, serializer, kwargs.tree())
+            separate(out, serializer)?;
+            put_tree(out, alloc, serializer, args.tree())?;
+            separate(out, serializer)?;
+            put_tree(out, alloc, serializer, kwargs.tree())
         }
     }
 }
@@ -133,17 +133,16 @@ fn put_event(
 {
     let count = 4 + count_of(made.args.args());
     let numbers = (36, subscription.value(), made.id.value());
-    put_numbers(out, alloc, serializer, count, numbers)?;
-    out.separate(serializer)?;
+    put_numbers(out, serializer, count, numbers)?;
+    separate(out, serializer)?;
     put_details(out, alloc, serializer, made, with_topic, retained)?;
     put_tail(out, alloc, serializer, &made.args)?;
-    Ok(out.close_list(serializer)?)
+    Ok(close_list(out, serializer)?)
 }
 
 /// PUBLISHED or SUBSCRIBED.
 fn put_triple(
     out: &mut Appender,
-    alloc: Global,
     serializer: Serializer,
     kind: u64,
     request: Id,
@@ -155,8 +154,8 @@ fn put_triple(
     ensures before { out.new.before ≡ out.old.before }
 {
     let numbers = (kind, request.value(), other.value());
-    put_numbers(out, alloc, serializer, 3, numbers)?;
-    out.close_list(serializer)
+    put_numbers(out, serializer, 3, numbers)?;
+    close_list(out, serializer)
 }
 
 /// The payload of an item's frame.
@@ -192,11 +191,11 @@ fn put_item(
         Item::Published {
             request,
             publication,
-        } => Ok(put_triple(out, alloc, serializer, 17, *request, *publication)?),
+        } => Ok(put_triple(out, serializer, 17, *request, *publication)?),
         Item::Subscribed {
             request,
             subscription,
-        } => Ok(put_triple(out, alloc, serializer, 33, *request, *subscription)?),
+        } => Ok(put_triple(out, serializer, 33, *request, *subscription)?),
         _ => put_message(out, alloc, serializer, item),
     }
 }
@@ -217,7 +216,7 @@ fn put_message(
     ensures fault { IfErr result (λ f. (f ≡ Fault.NoMemory) ⊎ (f ≡ Fault.TooLongForClient)) }
 {
     match item_message(alloc, item)? {
-        Some(message) => out.put_tree(alloc, serializer, message.tree()),
+        Some(message) => put_tree(out, alloc, serializer, message.tree()),
         None => match item {
             Item::Pong(octets) => Ok(out.put_all(octets.as_slice())?),
             _ => unreachable!(),

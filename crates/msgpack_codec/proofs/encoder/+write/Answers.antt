@@ -7,8 +7,8 @@ use Rattle.msgpack_codec.specs.Short.{short, has_short, entries_have_short, entr
 use Rattle.msgpack_codec.proofs.Members.{Entry, depth_within, both_pass}
 use Rattle.msgpack_codec.proofs.encoder.+write.Goals as goal
 
-pub write_items-write-requires : goal.write_items-write-requires
-write_items-write-requires t c =
+pub write_items-encode_into-requires : goal.write_items-encode_into-requires
+write_items-encode_into-requires t c =
     let l = c.loop-item in
     let ts = c.args.items.now.items in
     let i = l.item-index in
@@ -20,8 +20,8 @@ write_items-write-requires t c =
     let carried = ap items_carried (sym (items_from ts i c.item-item.result inside)) ∙ l.invariant.carried in
     (omega (arith, within, c.decreases), ap (λ x. is_carried (view x)) is ∙ (and_parts _ _ carried).0)
 
-pub write_entries-write-requires : goal.write_entries-write-requires
-write_entries-write-requires t c =
+pub write_entries-encode_into-requires : goal.write_entries-encode_into-requires
+write_entries-encode_into-requires t c =
     let l = c.loop-key in
     let e : Entry = (c.in-Some.key.now, c.in-Some.tree.now) in
     let left = c.next.new.self in
@@ -41,10 +41,10 @@ write_entries-loop-key-preserved t c =
     let all : dict_view c.args.dict.now ≡ entries_view (done ++ e ∷ left) = l.invariant.all ∙ ap (λ es. entries_view (done ++ es)) here in
     let carried : entries_carried (entries_view (e ∷ left)) ≡ true = ap (λ es. entries_carried (entries_view es)) (sym here) ∙ l.invariant.carried in
     let text = c.in_ok-put_text.ensures.ok ∙ ap (λ s. l.out.since ++ (text_head (length s) ++ s)) c.as_str-in-loop-key.ensures.value in
-    let grown = c.in_ok-write.ensures.ok ∙ ap (λ o. o ++ short (view e.1)) text in
-    let joined : c.write.new.out.since ++ entries_short (entries_view left) ≡ l.out.since ++ entries_short (entries_view (e ∷ left)) = ap (λ o. o ++ entries_short (entries_view left)) grown ∙ simp append_assoc in
+    let grown = c.in_ok-encode_into.ensures.ok ∙ ap (λ o. o ++ short (view e.1)) text in
+    let joined : c.encode_into.new.out.since ++ entries_short (entries_view left) ≡ l.out.since ++ entries_short (entries_view (e ∷ left)) = ap (λ o. o ++ entries_short (entries_view left)) grown ∙ simp append_assoc in
     let short_key : nat_lt (length (string_bytes e.0)) 4294967296 ≡ true = ap (λ s. nat_lt (length s) 4294967296) (sym c.as_str.ensures.value) ∙ search rules in
-    let one : has_short (view e.1) ≡ true = c.in_ok-write.ensures.fits in
+    let one : has_short (view e.1) ≡ true = c.in_ok-encode_into.ensures.fits in
     record {
       done = done ++ e ∷ [];
       all = all ∙ ap entries_view (sym (append_assoc done (e ∷ []) left));

@@ -5,8 +5,8 @@ use Rattle.msgpack_codec.specs.Short.{items_have_short, entries_have_short, item
 use Rattle.msgpack_codec.proofs.Members.{Entry}
 use Rattle.msgpack_codec.proofs.encoder.+write.Given as goal
 
-abbrev pub decreases-write : goal.decreases-write
-decreases-write l = 2 * depth (view l.tree.now)
+abbrev pub decreases-encode_into : goal.decreases-encode_into
+decreases-encode_into l = 2 * depth (view l.tree.now)
 
 abbrev pub decreases-write_items : goal.decreases-write_items
 decreases-write_items l = 2 * items_depth (items_view l.items.now.items) + 1

@@ -2,7 +2,7 @@ use Rattle.std.proofs.Common.{◌≡◌, ◌<◌, ◌≤◌, ◌++◌, List, [],
 use Rattle.rawsocket.specs.Frames.{contents, spelled}
 use Rattle.rawsocket.specs.declared.frame.Frame.{Frame}
 use Rattle.rawsocket.specs.declared.frame.Kind.TheVariants.{Message}
-use Rattle.session.specs.Opened.{pong}
+use Rattle.session.specs.Opened.{pong, terms}
 use Rattle.session.specs.FrameWalk.{AddsFor, verdict_of}
 use Rattle.session.proofs.FrameWalkLemmas.{Walking, Walking-pong, Walking-ping, Walking-long, Walking-decided, Walking-ends, if_ok}
 use Rattle.session.proofs.opening.verdict.judge.Goals.{in-Pong, in-Ping+in-Ok-true}
@@ -28,8 +28,8 @@ returns-in-Message c =
       decided = if_ok c.decide.result _ _
           (λ v adds. Walking-decided c.args.client.serializer c.args.client.limit c.args.realms.now c.args.fault (contents c.args.frames.items) (contents c.pop_front.new.self.items) c.in-Some.frame.kind c.in-Some.frame.payload.items
           c.args.out.now.items c.loop-frame.out.items c.decide.new.out.items (verdict_of v) c.in-Message.is
-          (subst (λ (p : List ℕ). AddsFor c.args.client.serializer c.args.client.limit c.args.realms.now Message p (contents c.pop_front.new.self.items) c.loop-frame.out.items c.decide.new.out.items (verdict_of v)) c.deref-in-Message.ensures.value
-          (subst (λ (xs : List Frame). AddsFor c.args.client.serializer c.args.client.limit c.args.realms.now Message c.deref-in-Message.result.now (contents xs) c.loop-frame.out.items c.decide.new.out.items (verdict_of v)) c.into_vec.ensures.items adds))
+          (subst (λ (p : List ℕ). AddsFor (terms c.args.client.serializer c.args.client.limit c.args.realms.now) (record { kind = Message; payload = p } ∷ contents c.pop_front.new.self.items) c.loop-frame.out.items c.decide.new.out.items (verdict_of v)) c.deref-in-Message.ensures.value
+          (subst (λ (xs : List Frame). AddsFor (terms c.args.client.serializer c.args.client.limit c.args.realms.now) (record { kind = Message; payload = c.deref-in-Message.result.now } ∷ contents xs) c.loop-frame.out.items c.decide.new.out.items (verdict_of v)) c.into_vec.ensures.items adds))
           here)
           c.decide.ensures.decided;
     }

@@ -43,7 +43,7 @@ returns-clause-ok c =
     let y = entries_from s p.disclosed (retained_entries r) in
     let z = entries_from s c.either-later.result (topic_entries t c.text.result.now) in
     let e = dict_closing s in
-    let written : c.close_dict.new.self.since ≡ ((((old ++ b) ++ x) ++ y) ++ z) ++ e =
+    let written : c.close_dict.new.out.since ≡ ((((old ++ b) ++ x) ++ y) ++ z) ++ e =
     c.in_ok-close_dict.ensures.ok ∙ ap (λ o. o ++ e) (c.in_ok-put_topic.ensures.ok ∙ ap (λ o. o ++ z) (c.in_ok-put_retained.ensures.ok ∙ ap (λ o. o ++ y) (c.in_ok-put_publisher.ensures.ok ∙ ap (λ o. o ++ x) c.in_ok-open_dict.ensures.ok))) in
     let same_z : z ≡ entries_from s (p.disclosed || r) (topic_entries t p.topic) = ap₂ (λ later topic. entries_from s later (topic_entries t topic)) c.either-later.ensures c.text.ensures.same in
     let same : b ++ ((x ++ (y ++ z)) ++ e) ≡ serialized s (dict (event_details p t r)) =

@@ -22,7 +22,7 @@ returns-clause-ok c =
     let a = serialized s (text c.as_str.result.now) in
     let o = serialized s (text c.as_str-2.result.now) in
     let disclosed : p.disclosed ≡ true = search rules in
-    let written : c.put_text-2.new.self.since ≡ (((((old ++ k) ++ n) ++ l) ++ a) ++ m) ++ o =
+    let written : c.put_text-2.new.out.since ≡ (((((old ++ k) ++ n) ++ l) ++ a) ++ m) ++ o =
     c.in_ok-put_text-2.ensures.ok ∙ ap (λ x. x ++ o) (c.in_ok-put_key-3.ensures.ok ∙ ap (λ x. x ++ m) (c.in_ok-put_text.ensures.ok ∙ ap (λ x. x ++ a) (c.in_ok-put_key-2.ensures.ok ∙ ap (λ x. x ++ l) (c.in_ok-put_number.ensures.ok ∙ ap (λ x. x ++ n) c.in_ok-put_key.ensures.ok)))) in
     let full = λ (n : ℕ) (a o : List ℕ). old ++ entries_from s false (entry (codes "publisher") (number n) (entry (codes "publisher_authid") (text a) (entry (codes "publisher_authrole") (text o) no_entries))) in
     let named : full c.value.result c.as_str.result.now c.as_str-2.result.now ≡ full p.publisher.id p.publisher.authid p.publisher.authrole = rw (c.value.ensures.number, c.as_str.ensures, c.as_str-2.ensures, c.value-2.ensures, c.value-3.ensures) refl in

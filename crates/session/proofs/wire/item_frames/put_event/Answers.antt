@@ -29,7 +29,7 @@ returns-clause-ok c =
     let m = c.value-2.result in
     let k = 4 + c.count_of-count.result in
     let ds = item (number n) (item (number m) (item det rest)) in
-    let written : c.close_list.new.self.since ≡ ((((old ++ (list_opening s k ++ (serialized s (number 36) ++ further s (item (number n) (item (number m) no_items))))) ++ separator s) ++ serialized s det) ++ further s rest) ++ list_closing s =
+    let written : c.close_list.new.out.since ≡ ((((old ++ (list_opening s k ++ (serialized s (number 36) ++ further s (item (number n) (item (number m) no_items))))) ++ separator s) ++ serialized s det) ++ further s rest) ++ list_closing s =
     c.in_ok-close_list.ensures.ok
     ∙ ap (λ o. o ++ list_closing s) (c.in_ok-put_tail.ensures.ok ∙ ap (λ o. o ++ further s rest) (c.in_ok-put_details.ensures.ok ∙ ap (λ o. o ++ serialized s det) (c.in_ok-separate.ensures.ok ∙ ap (λ o. o ++ separator s) c.in_ok-put_numbers.ensures.ok))) in
     let counts : c.count_of-count.result ≡ item_count rest = c.count_of-count.ensures ∙ ap (λ a. item_count (last_items a.args a.kwargs)) c.args-2.ensures.same in
