@@ -5,14 +5,17 @@
 //! most 2^53 are opened; a refusal changes nothing.
 #![tactic(auto)]
 
+mod conns;
 mod fault;
 mod index;
 pub mod laws;
 mod names;
 mod node;
+mod receiver;
 mod rows;
 mod shares;
 mod table;
 
 pub use fault::Fault;
 pub use index::Index;
+pub use receiver::Receiver;
