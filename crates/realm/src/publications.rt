@@ -9,7 +9,7 @@ ghost use Rattle.realm.specs.body.LiveSessions.{session_of};
 ghost use Rattle.realm.specs.Publications.{published_by, publish_options_of, made_by};
 ghost use Rattle.realm.specs.body.Transitions.{IsPublished, made_with, is_some_true, refused, told};
 
-use crate::events::{Given, events_at, matching, one, put_before};
+use crate::events::{Given, events_to, one, put_before, receivers};
 use crate::fault::Fault;
 use crate::publish_options::{PublishOptions, flag, read_publish_options};
 use crate::state::State;
@@ -190,8 +190,8 @@ fn told(
         given.items ≡ told state.now requester.now.conn requester.now.request
         requester.now.acknowledge made.now) }
 {
-    let keys = matching(alloc, &state.index, &made.value().topic)?;
-    let mut given = events_at(alloc, &state.sessions, &state.index, made, &keys)?;
+    let found = receivers(alloc, &state.index, &made.value().topic)?;
+    let mut given = events_to(alloc, &state.sessions, made, &found)?;
     if is_acknowledged(requester) {
         let published = Item::Published {
             request: requester.request,
