@@ -3,11 +3,12 @@ ghost use Rattle.std.specs.Prelude.{◌≡◌, ◌≤◌, ◌<◌, ◌+◌, ◌+
 ghost use Rattle.std.specs.Vec.{vec_capacity};
 ghost use Rattle.std.specs.List.{insert};
 ghost use Rattle.subscription_index.specs.Receiver.{receivers};
+ghost use Rattle.eligibility.specs.Lists.{everyone};
 ghost use Rattle.session.specs.declared.messages.item.Item.{Item};
 ghost use Rattle.realm.specs.Yield.{names_topic};
 ghost use Rattle.realm.specs.Publications.{admits};
 ghost use Rattle.realm.specs.Yield.{admits_who};
-ghost use Rattle.realm.specs.body.LiveSessions.{session_of};
+ghost use Rattle.realm.specs.body.LiveSessions.{session_of, AreLive};
 ghost use Rattle.realm.specs.body.Outputs.{all_for, event_for, events_to, put_before, put_first, IsAnswer};
 
 use crate::fault::Fault;
@@ -146,6 +147,28 @@ pub fn receivers(alloc: Global, index: &Index, topic: &Topic) -> Result<Vec<Rece
         Ok(found) => Ok(found),
         Err(_) => Err(Fault::NoMemory),
     }
+}
+
+/// The EVENTs of a publication that leaves nobody out but its publisher, for these receivers, with
+/// room for one item more. They are live, so that none of them is looked up.
+pub fn events_to_all(
+    alloc: Global,
+    _sessions: &Sessions,
+    made: &Shared<Publication>,
+    receivers: &[Receiver],
+) -> Result<Given, Fault>
+    requires everyone { made.now.lists ≡ everyone }
+    requires live { AreLive _sessions.now receivers.now }
+    ensures { IfOk result (λ given.
+        given.items ≡ events_to _sessions.now made.now receivers.now) }
+{
+    let publisher = made.value().publisher.conn;
+    let mut given = Vec::with_capacity(alloc, receivers.len() + 1)?;
+    for receiver in receivers {
+        let is_other = receiver.conn != publisher;
+        add_event(&mut given, is_other, made, receiver)?;
+    }
+    Ok(given)
 }
 
 /// The EVENTs of a publication for these receivers, with room for one item more; `admits` is asked
