@@ -11,6 +11,7 @@ mod index;
 pub mod laws;
 mod names;
 mod node;
+mod parts;
 mod receiver;
 mod rows;
 mod shares;
