@@ -1,10 +1,10 @@
 -- The EVENTs of a publication, subscription by subscription.
-use Rattle.std.proofs.Common.{◌≡◌, ℕ, ◌≤◌, Bool, true, false, cond, ◌||◌, ◌&&◌, eqb, ltb, List, [], ◌∷◌, ◌++◌, map, refl, sym, ap, ◌∙◌, None, Some, arith}
-use Rattle.std.specs.declared.option.Option.{Option}
+use Rattle.std.proofs.Common.{◌≡◌, ℕ, ◌≤◌, Bool, true, false, cond, ◌||◌, ◌&&◌, eqb, ltb, List, [], ◌∷◌, ◌++◌, map, refl, sym, ap, ◌∙◌, Some, arith}
 use Rattle.std.specs.List.{filter}
 use Rattle.std.proofs.lemmas.Bool.{eqb-true, or_right}
 use Rattle.std.proofs.lemmas.Bool.Decides.{nat_tests}
 use Rattle.wamp_ids.specs.Pattern.{PatternText, matches}
+use Rattle.subscription_index.specs.Receiver.{is_named, receiver_at}
 use Rattle.subscription_index.specs.Index.{Row, IsStrictlyAscending, IsBeforeAll, keys, pattern_of, matching}
 use Rattle.subscription_index.specs.Members.{has_row, same_row, rows_of}
 use Rattle.subscription_index.proofs.Lemmas.{pattern_of-has_row, same_row_self, ascending-filter}
@@ -15,7 +15,7 @@ use Rattle.session.specs.declared.messages.item.Item.TheVariants.{Event}
 use Rattle.realm.specs.Yield.{events_of, names_topic, admits_who}
 use Rattle.realm.specs.body.LiveSessions.{session_of}
 use Rattle.realm.specs.Given.{items_for, StartsAbove, IsAscending, GivesEach}
-use Rattle.realm.specs.body.Outputs.{all_for, event_by, event_at, events_at, all_events}
+use Rattle.realm.specs.body.Outputs.{all_for, event_for, event_to, events_to, all_events}
 use Rattle.realm.proofs.Conditionals.{cond-same}
 use Rattle.realm.proofs.ForEach.{items_for-all}
 
@@ -52,32 +52,38 @@ module _ (ws : List Who) (rows : List Row) (p : Publication) where
   abbrev event : ℕ × PatternText → Item
   event s = Event s.0 p (names_topic s.1.policy) false
 
-  each-for : (rs : List Row) (c : ℕ) → AllFound rows rs → items_for c (events_at ws rows p (keys (filter m rs))) ≡ events_of p (session_of ws c) (rows_of c rs)
+  abbrev event_at : ℕ × ℕ → List Item
+  event_at k = event_to ws p (receiver_at rows k)
+
+  abbrev events_at : List (ℕ × ℕ) → List (ℕ × Item)
+  events_at ks = events_to ws p (map (receiver_at rows) ks)
+
+  each-for : (rs : List Row) (c : ℕ) → AllFound rows rs → items_for c (events_at (keys (filter m rs))) ≡ events_of p (session_of ws c) (rows_of c rs)
   each-for [] c found = sym (cond-same (admits_who p (session_of ws c)) [])
   each-for (r ∷ rs) c found = at (each-for rs c found.1) (m r) refl (eqb r.0.0 c) refl
     where
-      one : event_at ws rows p r.0 ≡ cond (admits_who p (session_of ws r.0.0)) (event (r.0.1, r.1) ∷ []) []
-      one = ap (λ o. cond (admits_who p (session_of ws r.0.0)) (event_by r.0.1 p o) []) found.0
+      one : event_at r.0 ≡ cond (admits_who p (session_of ws r.0.0)) (event (r.0.1, r.1) ∷ []) []
+      one = ap (λ o. cond (admits_who p (session_of ws r.0.0)) (Event r.0.1 p (is_named o) false ∷ []) []) found.0
 
       joined : (b : Bool) (xs : List Item) (ys : List Item) → cond b (event (r.0.1, r.1) ∷ []) [] ++ cond b ys [] ≡ cond b (event (r.0.1, r.1) ∷ ys) []
       joined true xs ys = refl
       joined false xs ys = refl
 
-      at : items_for c (events_at ws rows p (keys (filter m rs))) ≡ events_of p (session_of ws c) (rows_of c rs) → (fits : Bool) → m r ≡ fits → (own : Bool) → eqb r.0.0 c ≡ own
-          → items_for c (events_at ws rows p (keys (cond fits (r ∷ filter m rs) (filter m rs)))) ≡ events_of p (session_of ws c) (cond own ((r.0.1, r.1) ∷ rows_of c rs) (rows_of c rs))
+      at : items_for c (events_at (keys (filter m rs))) ≡ events_of p (session_of ws c) (rows_of c rs) → (fits : Bool) → m r ≡ fits → (own : Bool) → eqb r.0.0 c ≡ own
+          → items_for c (events_at (keys (cond fits (r ∷ filter m rs) (filter m rs)))) ≡ events_of p (session_of ws c) (cond own ((r.0.1, r.1) ∷ rows_of c rs) (rows_of c rs))
       at rest false fits_is true own_is = rw fits_is rest
       at rest false fits_is false own_is = rest
       at rest true fits_is own own_is =
-          items_for-append c (all_for r.0.0 (event_at ws rows p r.0)) (events_at ws rows p (keys (filter m rs)))
-          ∙ (ap (λ l. l ++ items_for c (events_at ws rows p (keys (filter m rs)))) (items_for-all r.0.0 c (event_at ws rows p r.0))
+          items_for-append c (all_for r.0.0 (event_at r.0)) (events_at (keys (filter m rs)))
+          ∙ (ap (λ l. l ++ items_for c (events_at (keys (filter m rs)))) (items_for-all r.0.0 c (event_at r.0))
           ∙ own_or_not own own_is)
         where
           own_or_not : (b : Bool) → eqb r.0.0 c ≡ b
-              → cond (eqb r.0.0 c) (event_at ws rows p r.0) [] ++ items_for c (events_at ws rows p (keys (filter m rs)))
+              → cond (eqb r.0.0 c) (event_at r.0) [] ++ items_for c (events_at (keys (filter m rs)))
               ≡ events_of p (session_of ws c) (cond b ((r.0.1, r.1) ∷ rows_of c rs) (rows_of c rs))
           own_or_not true is =
               let same : r.0.0 ≡ c = eqb-true r.0.0 c is in
-              let here : event_at ws rows p r.0 ≡ cond (admits_who p (session_of ws c)) (event (r.0.1, r.1) ∷ []) [] =
+              let here : event_at r.0 ≡ cond (admits_who p (session_of ws c)) (event (r.0.1, r.1) ∷ []) [] =
               one ∙ ap (λ d. cond (admits_who p (session_of ws d)) (event (r.0.1, r.1) ∷ []) []) same in
               rw (is, here, rest, fits_is) (joined (admits_who p (session_of ws c)) [] (map event (filter (λ s. matches s.1 p.topic) (rows_of c rs))))
           own_or_not false is = rw is rest
@@ -95,27 +101,23 @@ module _ (ws : List Who) (rows : List Row) (p : Publication) where
           same true e all = let k_is : k.0 ≡ x.0 = eqb-true k.0 x.0 e in omega (arith, k_is)
           same false e all = absurd (cc)
 
-  starts-one : (b c n : ℕ) (o : Option PatternText) (admitted : Bool) (rest : List (ℕ × Item)) → b ≤ c → StartsAbove b rest → StartsAbove b (all_for c (cond admitted (event_by n p o) []) ++ rest)
-  starts-one b c n None true rest small starts = starts
-  starts-one b c n (Some q) true rest small starts = small
-  starts-one b c n None false rest small starts = starts
-  starts-one b c n (Some q) false rest small starts = starts
+  starts-one : (b c : ℕ) (i : Item) (admitted : Bool) (rest : List (ℕ × Item)) → b ≤ c → StartsAbove b rest → StartsAbove b (all_for c (cond admitted (i ∷ []) []) ++ rest)
+  starts-one b c i true rest small starts = small
+  starts-one b c i false rest small starts = starts
 
-  ascending-one : (c n : ℕ) (o : Option PatternText) (admitted : Bool) (rest : List (ℕ × Item)) → StartsAbove c rest → IsAscending rest → IsAscending (all_for c (cond admitted (event_by n p o) []) ++ rest)
-  ascending-one c n None true rest starts ascending = ascending
-  ascending-one c n (Some q) true rest starts ascending = (starts, ascending)
-  ascending-one c n None false rest starts ascending = ascending
-  ascending-one c n (Some q) false rest starts ascending = ascending
+  ascending-one : (c : ℕ) (i : Item) (admitted : Bool) (rest : List (ℕ × Item)) → StartsAbove c rest → IsAscending rest → IsAscending (all_for c (cond admitted (i ∷ []) []) ++ rest)
+  ascending-one c i true rest starts ascending = (starts, ascending)
+  ascending-one c i false rest starts ascending = ascending
 
-  starts-events : (b : ℕ) (ks : List (ℕ × ℕ)) → AllAtLeast b ks → StartsAbove b (events_at ws rows p ks)
+  starts-events : (b : ℕ) (ks : List (ℕ × ℕ)) → AllAtLeast b ks → StartsAbove b (events_at ks)
   starts-events b [] all = tt
   starts-events b (k ∷ ks) all =
-      starts-one b k.0 k.1 (pattern_of rows k.0 k.1) (admits_who p (session_of ws k.0)) (events_at ws rows p ks) all.0 (starts-events b ks all.1)
+      starts-one b k.0 (event_for p (receiver_at rows k)) (admits_who p (session_of ws k.0)) (events_at ks) all.0 (starts-events b ks all.1)
 
-  ascending-events : (ks : List (ℕ × ℕ)) → IsStrictlyAscending ks → IsAscending (events_at ws rows p ks)
+  ascending-events : (ks : List (ℕ × ℕ)) → IsStrictlyAscending ks → IsAscending (events_at ks)
   ascending-events [] ascending = tt
   ascending-events (k ∷ ks) ascending =
-      ascending-one k.0 k.1 (pattern_of rows k.0 k.1) (admits_who p (session_of ws k.0)) (events_at ws rows p ks)
+      ascending-one k.0 (event_for p (receiver_at rows k)) (admits_who p (session_of ws k.0)) (events_at ks)
       (starts-events k.0 ks (at-least k ks ascending.0)) (ascending-events ks ascending.1)
 
   pub gives-events : IsStrictlyAscending (keys rows) → GivesEach (λ c. events_of p (session_of ws c) (rows_of c rows)) (all_events ws rows p)

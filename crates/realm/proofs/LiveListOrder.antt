@@ -95,7 +95,12 @@ length-added w (v ∷ vs) = at (ltb v.conn w.conn) (length-added w vs)
 
 -- ---- a place
 
-here : (ws : List Who) (i c : ℕ) (d : Who) → AreByConn ws → i < length ws → (get_or ws i d).conn ≡ c → session_of ws c ≡ Some (get_or ws i d)
+pub same-at : (ws : List Who) (i : ℕ) (d e : Who) → i < length ws → get_or ws i d ≡ get_or ws i e
+same-at [] i d e small = absurd (omega arith)
+same-at (w ∷ ws) zero d e small = refl
+same-at (w ∷ ws) (suc i) d e small = same-at ws i d e (omega arith)
+
+pub here : (ws : List Who) (i c : ℕ) (d : Who) → AreByConn ws → i < length ws → (get_or ws i d).conn ≡ c → session_of ws c ≡ Some (get_or ws i d)
 here [] i c d ordered small is = absurd (omega arith)
 here (w ∷ ws) zero c d ordered small is = let own : eqb w.conn c ≡ true = grind (arith, nat_tests) in rw own refl
 here (w ∷ ws) (suc i) c d ordered small is =

@@ -5,8 +5,7 @@ use Rattle.std.specs.declared.result.Result.{Result}
 use Rattle.std.specs.Result.{result_ok}
 use Rattle.std.specs.List.{filter}
 use Rattle.wamp_ids.specs.Pattern.{PatternText, matches}
-use Rattle.wamp_ids.specs.declared.pattern.Policy.{Policy}
-use Rattle.wamp_ids.specs.declared.pattern.Policy.TheVariants.{Exact, Prefix, Wildcard}
+pub use Rattle.subscription_index.specs.Receiver.{names_topic}
 use Rattle.realm.specs.declared.entry.Entry.{Entry}
 use Rattle.realm.specs.declared.entry.Entry.TheVariants.{Join, Said, Ping, Spoilt, Gone, Cut, Closed}
 use Rattle.session.specs.declared.messages.said.Said.TheVariants.{Hello, Publish, Subscribe, Unsubscribe}
@@ -77,12 +76,6 @@ publication_of h (Gone c word) = option_map (departure word) (who h c)
 publication_of h (Cut c None) = None
 publication_of h (Cut c (Some word)) = option_map (departure word) (who h c)
 publication_of h (Closed c word) = option_map (departure word) (who h c)
-
--- EVENT.Details names the topic where the pattern does not
-abbrev pub names_topic : Policy → Bool
-names_topic Exact = false
-names_topic Prefix = true
-names_topic Wildcard = true
 
 abbrev pub admits_who : Publication → Option Who → Bool
 admits_who p None = false

@@ -1,7 +1,7 @@
 //! Each kind of entry to the part of the realm that answers it; and how sessions end.
 ghost use Rattle.std.specs.Prelude.{◌≡◌, true, is_some, IfOk, IsOk, OnErr};
 ghost use Rattle.realm.specs.declared.entry.Entry.TheVariants as entries;
-ghost use Rattle.realm.specs.body.LiveSessions.{session_of};
+ghost use Rattle.realm.specs.body.LiveSessions.{session_of, AreHeld};
 ghost use Rattle.realm.specs.body.Transitions.{ended, HasBeenCut, HasLeft};
 ghost use Rattle.realm.specs.body.Apply.{Turns, may_turn};
 ghost use Rattle.realm.specs.Words.{is_silent};
@@ -67,7 +67,8 @@ fn cut(alloc: Global, state: &mut State, conn: Conn, word: Option<u64>) -> Resul
 
 /// What an entry gives; what is kept after it.
 pub fn answer(alloc: Global, state: &mut State, entry: Entry) -> Result<Given, Fault>
-    requires { may_turn state.old entry ≡ true }
+    requires turn { may_turn state.old entry ≡ true }
+    requires held { AreHeld state.old.sessions state.old.index.rows }
     ensures ok { IfOk result (λ given. Turns state.old entry state.new given.items) }
     ensures unchanged { OnErr result (state.new ≡ state.old) }
     ensures silent { is_silent entry ≡ true → IsOk result }
@@ -97,7 +98,8 @@ fn answer_said(
     word: u64,
     said: Said,
 ) -> Result<Given, Fault>
-    requires { is_some (session_of state.old.sessions conn) ≡ true }
+    requires live { is_some (session_of state.old.sessions conn) ≡ true }
+    requires held { AreHeld state.old.sessions state.old.index.rows }
     ensures ok { IfOk result (λ given.
         Turns state.old (entries.Said conn word said) state.new given.items) }
     ensures unchanged { OnErr result (state.new ≡ state.old) }

@@ -1,21 +1,23 @@
 //! The EVENTs of a publication: who gets one, under which number, in which order.
-ghost use Rattle.std.specs.Prelude.{◌≡◌, ◌≤◌, ◌++◌, cond, length, [], ◌∷◌, IfOk, OnOk};
+ghost use Rattle.std.specs.Prelude.{◌≡◌, ◌≤◌, ◌<◌, ◌+◌, ◌++◌, cond, length, vec_len, [], ◌∷◌, IfOk, OnOk};
+ghost use Rattle.std.specs.Vec.{vec_capacity};
 ghost use Rattle.std.specs.List.{insert};
-ghost use Rattle.subscription_index.specs.Index.{matching, pattern_of};
+ghost use Rattle.subscription_index.specs.Receiver.{receivers};
+ghost use Rattle.eligibility.specs.Lists.{everyone};
 ghost use Rattle.session.specs.declared.messages.item.Item.{Item};
 ghost use Rattle.realm.specs.Yield.{names_topic};
 ghost use Rattle.realm.specs.Publications.{admits};
 ghost use Rattle.realm.specs.Yield.{admits_who};
-ghost use Rattle.realm.specs.body.LiveSessions.{session_of};
-ghost use Rattle.realm.specs.body.Outputs.{all_for, event_by, events_at, put_before, put_first, IsAnswer};
+ghost use Rattle.realm.specs.body.LiveSessions.{session_of, AreLive};
+ghost use Rattle.realm.specs.body.Outputs.{all_for, event_for, events_to, put_before, put_first, IsAnswer};
 
 use crate::fault::Fault;
 use crate::sessions::Sessions;
 use message_tree::Shared;
 use session::{Item, Publication, Who};
 use std::alloc::Global;
-use subscription_index::Index;
-use wamp_ids::{Conn, Id, Policy, Topic};
+use subscription_index::{Index, Receiver};
+use wamp_ids::{Conn, Policy, Topic};
 
 /// What an entry gives: for each item the connection that it is for.
 pub type Given = Vec<(Conn, Item)>;
@@ -108,66 +110,84 @@ fn is_admitted_after(
     is_admitted(sessions, publication, conn)
 }
 
-/// Adds the EVENT of a publication for one subscription, where its session is admitted.
+/// Adds the EVENT of a publication for one receiver, where it is admitted.
 fn add_event(
     given: &mut Given,
     admitted: bool,
-    index: &Index,
     made: &Shared<Publication>,
-    conn: Conn,
-    number: Id,
+    receiver: &Receiver,
 ) -> Result<(), Fault>
-    ensures { OnOk result (given.new.items ≡ given.old.items ++ all_for
-        conn (cond admitted (event_by number made.now (pattern_of index.now.rows conn number))
-        [])) }
+    requires { vec_len given.old < vec_capacity given.old }
+    ensures items { OnOk result (given.new.items ≡ given.old.items ++ all_for
+        receiver.now.conn (cond admitted (event_for made.now receiver.now ∷ []) [])) }
+    ensures len { vec_len given.new ≤ vec_len given.old + 1 }
+    ensures capacity { vec_capacity given.new ≡ vec_capacity given.old }
 {
     if !admitted {
         return Ok(());
     }
-    let Some(pattern) = index.pattern_of(conn, number) else {
-        return Ok(());
-    };
-    given.push((
-        conn,
+    let publication = made.twin()?;
+    given.push_reserved((
+        receiver.conn,
         Item::Event {
-            subscription: number,
-            publication: made.twin()?,
-            with_topic: names_topic(pattern.policy()),
+            subscription: receiver.number,
+            publication,
+            with_topic: receiver.names_topic,
             retained: false,
         },
-    ))?;
+    ));
     Ok(())
 }
 
-/// The subscriptions that match a topic.
-pub fn matching(alloc: Global, index: &Index, topic: &Topic) -> Result<Vec<(Conn, Id)>, Fault>
-    ensures { IfOk result (λ keys. keys.items ≡ matching index.now.rows topic.now) }
+/// Who holds a pattern that matches the topic.
+pub fn receivers(alloc: Global, index: &Index, topic: &Topic) -> Result<Vec<Receiver>, Fault>
+    ensures { IfOk result (λ found. found.items ≡ receivers index.now.rows topic.now) }
 {
-    match index.matching(alloc, topic) {
-        Ok(keys) => Ok(keys),
+    match index.receivers(alloc, topic) {
+        Ok(found) => Ok(found),
         Err(_) => Err(Fault::NoMemory),
     }
 }
 
-/// The EVENTs of a publication, for these subscriptions; `admits` is asked once where those of one
-/// connection stand together.
-pub fn events_at(
+/// The EVENTs of a publication that leaves nobody out but its publisher, for these receivers, with
+/// room for one item more. They are live, so that none of them is looked up.
+pub fn events_to_all(
+    alloc: Global,
+    _sessions: &Sessions,
+    made: &Shared<Publication>,
+    receivers: &[Receiver],
+) -> Result<Given, Fault>
+    requires everyone { made.now.lists ≡ everyone }
+    requires live { AreLive _sessions.now receivers.now }
+    ensures { IfOk result (λ given.
+        given.items ≡ events_to _sessions.now made.now receivers.now) }
+{
+    let publisher = made.value().publisher.conn;
+    let mut given = Vec::with_capacity(alloc, receivers.len() + 1)?;
+    for receiver in receivers {
+        let is_other = receiver.conn != publisher;
+        add_event(&mut given, is_other, made, receiver)?;
+    }
+    Ok(given)
+}
+
+/// The EVENTs of a publication for these receivers, with room for one item more; `admits` is asked
+/// once where those of one connection stand together.
+pub fn events_to(
     alloc: Global,
     sessions: &Sessions,
-    index: &Index,
     made: &Shared<Publication>,
-    keys: &[(Conn, Id)],
+    receivers: &[Receiver],
 ) -> Result<Given, Fault>
     ensures { IfOk result (λ given.
-        given.items ≡ events_at sessions.now index.now.rows made.now keys.now) }
+        given.items ≡ events_to sessions.now made.now receivers.now) }
 {
-    let mut given = Vec::new(alloc);
-    given.reserve_exact(keys.len())?;
+    let mut given = Vec::with_capacity(alloc, receivers.len() + 1)?;
     let mut last = None;
-    for (conn, number) in keys {
-        let admitted = is_admitted_after(last, sessions, made.value(), *conn);
-        last = Some((*conn, admitted));
-        add_event(&mut given, admitted, index, made, *conn, *number)?;
+    for receiver in receivers {
+        let admitted = is_admitted_after(last, sessions, made.value(), receiver.conn);
+        last = Some((receiver.conn, admitted));
+        add_event(&mut given, admitted, made, receiver)?;
     }
     Ok(given)
 }

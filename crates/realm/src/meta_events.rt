@@ -6,7 +6,7 @@ ghost use Rattle.wamp_ids.specs.Uri.{is_topic};
 ghost use Rattle.realm.specs.MetaEvents.{announcement, arrival, departure, joined_items, left_items, listed};
 ghost use Rattle.realm.specs.body.Outputs.{all_events};
 
-use crate::events::{Given, events_at, matching};
+use crate::events::{Given, events_to, receivers};
 use crate::fault::Fault;
 use crate::state::State;
 use message_tree::{Content, Dict, Shared, Text, Tree};
@@ -120,13 +120,13 @@ pub fn arrival_events(alloc: Global, state: &State, word: u64, who: &Who) -> Res
         given.items ≡ all_events state.now.sessions state.now.index.rows (arrival word who.now)) }
 {
     let topic = topic_of(alloc, "wamp.session.on_join")?;
-    let keys = matching(alloc, &state.index, &topic)?;
-    if keys.is_empty() {
+    let found = receivers(alloc, &state.index, &topic)?;
+    if found.is_empty() {
         return Ok(Vec::new(alloc));
     }
     let args = joined_args(alloc, who)?;
     let made = announcement(alloc, word, who, topic, args)?;
-    events_at(alloc, &state.sessions, &state.index, &made, &keys)
+    events_to(alloc, &state.sessions, &made, &found)
 }
 
 /// The EVENTs of a session's departure. Where nobody holds a pattern that matches, nothing is made of it.
@@ -135,11 +135,11 @@ pub fn departure_events(alloc: Global, state: &State, word: u64, who: &Who) -> R
         given.items ≡ all_events state.now.sessions state.now.index.rows (departure word who.now)) }
 {
     let topic = topic_of(alloc, "wamp.session.on_leave")?;
-    let keys = matching(alloc, &state.index, &topic)?;
-    if keys.is_empty() {
+    let found = receivers(alloc, &state.index, &topic)?;
+    if found.is_empty() {
         return Ok(Vec::new(alloc));
     }
     let args = left_args(alloc, who)?;
     let made = announcement(alloc, word, who, topic, args)?;
-    events_at(alloc, &state.sessions, &state.index, &made, &keys)
+    events_to(alloc, &state.sessions, &made, &found)
 }

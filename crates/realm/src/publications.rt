@@ -3,15 +3,17 @@ ghost use Rattle.std.specs.Prelude.{◌≡◌, ℕ, true, not, ◌&&◌, is_some
 ghost use Rattle.wamp_ids.specs.Uri.{is_topic, is_reserved};
 ghost use Rattle.session.specs.Arguments.{is_all_carried};
 ghost use Rattle.retained.specs.Store.{has_room, set_topic};
+ghost use Rattle.eligibility.specs.Lists.{everyone};
 ghost use Rattle.eligibility.specs.declared.who.Who.{Who};
 ghost use Rattle.realm.specs.Options.{acknowledge_of};
-ghost use Rattle.realm.specs.body.LiveSessions.{session_of};
+ghost use Rattle.realm.specs.body.LiveSessions.{session_of, AreHeld};
 ghost use Rattle.realm.specs.Publications.{published_by, publish_options_of, made_by};
+ghost use Rattle.realm.specs.body.Outputs.{all_events};
 ghost use Rattle.realm.specs.body.Transitions.{IsPublished, made_with, is_some_true, refused, told};
 
-use crate::events::{Given, events_at, matching, one, put_before};
+use crate::events::{Given, events_to, events_to_all, one, put_before, receivers};
 use crate::fault::Fault;
-use crate::publish_options::{PublishOptions, flag, read_publish_options};
+use crate::publish_options::{PublishOptions, flag, is_empty, read_publish_options};
 use crate::state::State;
 use message_tree::{Options, Shared, Text};
 use retained::Store;
@@ -80,6 +82,7 @@ fn accepted_with(
         ≡ made_with word w result }
     ensures room { IfOk result (λ a. a.publish_options.retained ≡ true
         → has_room store.now a.topic ≡ true) }
+    ensures options { IfOk result (λ a. a.publish_options ≡ publish_options) }
 {
     let Some(topic) = open_topic(topic) else {
         return Err(Reason::InvalidUri);
@@ -111,6 +114,8 @@ fn accepted(
     ensures room { IfOk result (λ accepted.
         IfOk accepted (λ a. a.publish_options.retained ≡ true
         → has_room store.now a.topic ≡ true)) }
+    ensures options { IfOk result (λ accepted.
+        IfOk accepted (λ a. publish_options_of options ≡ Some a.publish_options)) }
 {
     match read_publish_options(alloc, options)? {
         Some(publish_options) => Ok(accepted_with(store, publish_options, topic, args)),
@@ -179,19 +184,41 @@ fn refused(alloc: Global, requester: &Requester, reason: Reason) -> Result<Given
     one(alloc, requester.conn, item)
 }
 
+/// The EVENTs of an accepted publication. One without options leaves nobody out but its publisher.
+fn events(
+    alloc: Global,
+    state: &State,
+    made: &Shared<Publication>,
+    is_for_all: bool,
+) -> Result<Given, Fault>
+    requires everyone { is_for_all ≡ true → made.now.lists ≡ everyone }
+    requires held { AreHeld state.now.sessions state.now.index.rows }
+    ensures { IfOk result (λ given.
+        given.items ≡ all_events state.now.sessions state.now.index.rows made.now) }
+{
+    let found = receivers(alloc, &state.index, &made.value().topic)?;
+    if is_for_all {
+        events_to_all(alloc, &state.sessions, made, &found)
+    } else {
+        events_to(alloc, &state.sessions, made, &found)
+    }
+}
+
 /// What an accepted publication gives: EVENTs, and PUBLISHED where that was asked for.
 fn told(
     alloc: Global,
     state: &State,
     requester: &Requester,
     made: &Shared<Publication>,
+    is_for_all: bool,
 ) -> Result<Given, Fault>
+    requires everyone { is_for_all ≡ true → made.now.lists ≡ everyone }
+    requires held { AreHeld state.now.sessions state.now.index.rows }
     ensures { IfOk result (λ given.
         given.items ≡ told state.now requester.now.conn requester.now.request
         requester.now.acknowledge made.now) }
 {
-    let keys = matching(alloc, &state.index, &made.value().topic)?;
-    let mut given = events_at(alloc, &state.sessions, &state.index, made, &keys)?;
+    let mut given = events(alloc, state, made, is_for_all)?;
     if is_acknowledged(requester) {
         let published = Item::Published {
             request: requester.request,
@@ -217,7 +244,8 @@ fn retain(alloc: Global, store: &mut Store, made: Shared<Publication>) -> Result
 
 /// Answers a PUBLISH of a live session.
 pub fn publish(alloc: Global, state: &mut State, asked: PublishRequest) -> Result<Given, Fault>
-    requires { is_some (session_of state.old.sessions asked.conn) ≡ true }
+    requires live { is_some (session_of state.old.sessions asked.conn) ≡ true }
+    requires held { AreHeld state.old.sessions state.old.index.rows }
     ensures ok { IfOk result (λ given. (w : Who) → session_of state.old.sessions asked.conn ≡ Some w
         → IsPublished (record { old = state.old; new = state.new; given = given.items })
         (record { conn = asked.conn; request = asked.request }) (acknowledge_of asked.options)
@@ -233,6 +261,7 @@ pub fn publish(alloc: Global, state: &mut State, asked: PublishRequest) -> Resul
         topic,
         args,
     } = asked;
+    let is_for_all = is_empty(&options);
     let requester = Requester {
         conn,
         request,
@@ -248,7 +277,7 @@ pub fn publish(alloc: Global, state: &mut State, asked: PublishRequest) -> Resul
     let retained = accepted.publish_options.retained;
     let made = publication(alloc, publisher, word, accepted)?;
     let made = Shared::new(alloc, made)?;
-    let given = told(alloc, state, &requester, &made)?;
+    let given = told(alloc, state, &requester, &made, is_for_all)?;
     if retained {
         retain(alloc, &mut state.store, made)?;
     }

@@ -1,6 +1,6 @@
 //! What the options of a PUBLISH ask for.
-ghost use Rattle.std.specs.Prelude.{◌≡◌, false, IfOk};
-ghost use Rattle.message_tree.specs.Data.{find_entry};
+ghost use Rattle.std.specs.Prelude.{◌≡◌, true, false, Some, IfOk};
+ghost use Rattle.message_tree.specs.Data.{find_entry, no_entries};
 ghost use Rattle.eligibility.specs.Options.{flag_or};
 ghost use Rattle.realm.specs.Publications.{publish_options_of};
 
@@ -20,10 +20,31 @@ pub struct PublishOptions {
     pub retained: bool,
 }
 
+/// Whether there are no options at all, as in most requests.
+pub fn is_empty(options: &Options) -> bool
+    ensures { result ≡ true → options.now ≡ no_entries }
+{
+    options.dict().len() == 0
+}
+
+/// What a PUBLISH without options asks for.
+fn none_asked() -> PublishOptions
+    ensures { Some result ≡ publish_options_of no_entries }
+{
+    PublishOptions {
+        lists: Lists::everyone(),
+        disclosed: false,
+        retained: false,
+    }
+}
+
 /// A flag of the options, false where it is absent; `None` where it has a wrong type.
 pub fn flag(options: &Options, key: &str) -> Option<bool>
     ensures { result ≡ flag_or false (find_entry key.now options.now) }
 {
+    if is_empty(options) {
+        return Some(false);
+    }
     match options.get(key) {
         None => Some(false),
         Some(Tree::Null) => Some(false),
@@ -39,6 +60,9 @@ pub fn read_publish_options(
 ) -> Result<Option<PublishOptions>, Fault>
     ensures { IfOk result (λ publish_options. publish_options ≡ publish_options_of options) }
 {
+    if is_empty(&options) {
+        return Ok(Some(none_asked()));
+    }
     if flag(&options, "acknowledge").is_none() {
         return Ok(None);
     }

@@ -40,7 +40,7 @@ impl Seats {
     pub fn may_join(&self, conn: Conn) -> bool
         ensures { result ≡ may_join_by self.now conn }
     {
-        match self.last[place_of(conn)] {
+        match self.last[seat_index(conn)] {
             None => true,
             Some(last) => last.value() < conn.value(),
         }
@@ -50,12 +50,12 @@ impl Seats {
     pub fn note(&mut self, conn: Conn)
         ensures { self.new ≡ set self.old (seat_of conn - 1) (Some conn) }
     {
-        self.last[place_of(conn)] = Some(conn);
+        self.last[seat_index(conn)] = Some(conn);
     }
 }
 
 /// The place of a connection's seat, from 0.
-fn place_of(conn: Conn) -> usize
+pub fn seat_index(conn: Conn) -> usize
     ensures { result ≡ seat_of conn - 1 }
 {
     (seat(conn) - 1) as usize

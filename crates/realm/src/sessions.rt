@@ -4,15 +4,22 @@ ghost use Rattle.std.specs.List.{list_any};
 ghost use Rattle.std.specs.Option.{option_copied};
 ghost use Rattle.realm.specs.body.LiveSessions.{session_of, others, added, AreByConn, StandsAt, BelongsAt};
 
+use crate::seats::seat_index;
 use session::Who;
 use std::alloc::{AllocError, Global};
 use std::marker::Model;
 use wamp_ids::{Conn, Id};
 
+/// How many seats there are.
+const PLACES: usize = 256;
+
 /// The live sessions. Contracts see a list of them, ascending by connection.
 #[derive(Drop)]
 pub struct Sessions {
     live: Vec<Who>,
+    /// For each seat where its session stands in the list: a guess, which is compared before it is
+    /// used, so that nothing rests on it.
+    guesses: [usize; PLACES],
 }
 
 impl Model for Sessions {
@@ -34,6 +41,7 @@ impl Sessions {
     {
         Sessions {
             live: Vec::new(alloc),
+            guesses: [0; PLACES],
         }
     }
 
@@ -48,6 +56,10 @@ impl Sessions {
     pub fn find(&self, conn: Conn) -> Option<&Who>
         ensures { option_copied result ≡ session_of self.now conn }
     {
+        let guess = self.guesses[seat_index(conn)];
+        if guess < self.live.len() && self.live[guess].conn == conn {
+            return Some(&self.live[guess]);
+        }
         match place_of(&self.live, conn) {
             Ok(place) => Some(&self.live[place]),
             Err(_) => None,
@@ -74,7 +86,11 @@ impl Sessions {
     {
         match place_of(&self.live, who.conn) {
             Ok(_) => unreachable!(),
-            Err(place) => Ok(self.live.insert(place, who)?),
+            Err(place) => {
+                self.live.insert(place, who)?;
+                note_places(&mut self.guesses, &self.live);
+                Ok(())
+            }
         }
     }
 
@@ -84,7 +100,15 @@ impl Sessions {
     {
         if let Ok(place) = place_of(&self.live, conn) {
             self.live.remove(place);
+            note_places(&mut self.guesses, &self.live);
         }
+    }
+}
+
+/// Notes for each seat where its session stands.
+fn note_places(guesses: &mut [usize; PLACES], live: &[Who]) {
+    for (place, who) in live.iter().enumerate() {
+        guesses[seat_index(who.conn)] = place;
     }
 }
 

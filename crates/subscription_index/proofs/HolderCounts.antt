@@ -1,5 +1,5 @@
 -- Holders by number, and counts by connection.
-use Rattle.std.proofs.Common.{◌≡◌, ℕ, suc, zero, Bool, true, false, cond, not, ◌&&◌, ◌||◌, ◌+◌, eqb, List, [], ◌∷◌, ◌++◌, take, drop, length, Option, Some, None, Vec, Global, Ordering, Less, refl, sym, ap, ◌∙◌, arith, rules}
+use Rattle.std.proofs.Common.{◌≡◌, ℕ, suc, zero, Bool, true, false, cond, not, ◌&&◌, ◌||◌, ◌+◌, eqb, List, [], ◌∷◌, ◌++◌, take, drop, length, Option, Some, None, Ordering, Less, refl, sym, ap, ◌∙◌, arith, rules}
 use Rattle.std.proofs.lemmas.Bool.Decides.{nat_tests}
 use Rattle.std.specs.List.{filter, dedup, dedup_from, AllByRecursion}
 use Rattle.std.specs.List.Sorted.{IsStrictlySortedBy}
@@ -51,21 +51,21 @@ zero_dropped old new k set e c = ap count_or_none (set c ∙ ap (λ b. cond b No
     by_value false h = refl
 
 -- the list of one number was set
-pub list_set : (old new : Holders) (k : ℕ) (v : Option (Vec ℕ Global)) → ((n : ℕ) → get nat_cmp new n ≡ cond (is_eq (nat_cmp k n)) v (get nat_cmp old n)) → (c n : ℕ) → is_holder new c n ≡ cond (eqb k n) (among v c) (is_holder old c n)
+pub list_set : (old new : Holders) (k : ℕ) (v : Option (List ℕ)) → ((n : ℕ) → get nat_cmp new n ≡ cond (is_eq (nat_cmp k n)) v (get nat_cmp old n)) → (c n : ℕ) → is_holder new c n ≡ cond (eqb k n) (among v c) (is_holder old c n)
 list_set old new k v set c n = ap (λ o. among o c) (set n ∙ ap (λ b. cond b v (get nat_cmp old n)) (same_order k n)) ∙ by_value (eqb k n)
   where
     by_value : (b : Bool) → among (cond b v (get nat_cmp old n)) c ≡ cond b (among v c) (is_holder old c n)
     by_value true = refl
     by_value false = refl
 
-pub list_same : (old new : Holders) (k : ℕ) (v : Option (Vec ℕ Global)) → ((n : ℕ) → get nat_cmp new n ≡ cond (is_eq (nat_cmp k n)) v (get nat_cmp old n)) → ((c : ℕ) → among v c ≡ is_holder old c k) → (c n : ℕ) → is_holder new c n ≡ is_holder old c n
+pub list_same : (old new : Holders) (k : ℕ) (v : Option (List ℕ)) → ((n : ℕ) → get nat_cmp new n ≡ cond (is_eq (nat_cmp k n)) v (get nat_cmp old n)) → ((c : ℕ) → among v c ≡ is_holder old c k) → (c n : ℕ) → is_holder new c n ≡ is_holder old c n
 list_same old new k v set same c n = list_set old new k v set c n ∙ by_value (eqb k n) refl
   where
     by_value : (b : Bool) → eqb k n ≡ b → cond b (among v c) (is_holder old c n) ≡ is_holder old c n
     by_value true h = same c ∙ ap (λ m. is_holder old c m) (eqb-true k n h)
     by_value false h = refl
 
-pub list_raised : (old new : Holders) (conn k : ℕ) (v : Option (Vec ℕ Global)) → ((n : ℕ) → get nat_cmp new n ≡ cond (is_eq (nat_cmp k n)) v (get nat_cmp old n)) → ((c : ℕ) → among v c ≡ eqb conn c || is_holder old c k)
+pub list_raised : (old new : Holders) (conn k : ℕ) (v : Option (List ℕ)) → ((n : ℕ) → get nat_cmp new n ≡ cond (is_eq (nat_cmp k n)) v (get nat_cmp old n)) → ((c : ℕ) → among v c ≡ eqb conn c || is_holder old c k)
     → (c n : ℕ) → is_holder new c n ≡ (eqb conn c && eqb k n) || is_holder old c n
 list_raised old new conn k v set more c n = list_set old new k v set c n ∙ by_value (eqb k n) refl
   where
@@ -73,7 +73,7 @@ list_raised old new conn k v set more c n = list_set old new k v set c n ∙ by_
     by_value true h = more c ∙ ap (λ m. eqb conn c || is_holder old c m) (eqb-true k n h) ∙ ap (λ b. b || is_holder old c n) (sym (and-true (eqb conn c)))
     by_value false h = ap (λ b. b || is_holder old c n) (sym (and-false (eqb conn c)))
 
-pub list_lowered : (old new : Holders) (conn k : ℕ) (v : Option (Vec ℕ Global)) → ((n : ℕ) → get nat_cmp new n ≡ cond (is_eq (nat_cmp k n)) v (get nat_cmp old n)) → ((c : ℕ) → among v c ≡ not (eqb conn c) && is_holder old c k)
+pub list_lowered : (old new : Holders) (conn k : ℕ) (v : Option (List ℕ)) → ((n : ℕ) → get nat_cmp new n ≡ cond (is_eq (nat_cmp k n)) v (get nat_cmp old n)) → ((c : ℕ) → among v c ≡ not (eqb conn c) && is_holder old c k)
     → (c n : ℕ) → is_holder new c n ≡ not (eqb conn c && eqb k n) && is_holder old c n
 list_lowered old new conn k v set fewer c n = list_set old new k v set c n ∙ by_value (eqb k n) refl
   where

@@ -39,7 +39,7 @@ adds_nothing_behind n part parts a at = adds_none (λ q. number_on q n) (λ q. f
         none-some m (sym (ap (λ o. number_below (number_on xs) o) (ap (λ y. behind y (out-Node n).branches.entries) (sym (bytes_eq-true part x k.0)) ∙ at)) ∙ is)
 
 -- the number of the node that the last component leads to
-adds_end : (below : Node) (n : ℕ) (a b : List ℕ) → (out-Node below).number ≡ Some n → b ≡ a ++ n ∷ [] → Adds (λ q. number_on q below) (λ q. fits q []) a b
+pub adds_end : (below : Node) (n : ℕ) (a b : List ℕ) → (out-Node below).number ≡ Some n → b ≡ a ++ n ∷ [] → Adds (λ q. number_on q below) (λ q. fits q []) a b
 adds_end below n a b own e =
     adds_append (λ q. number_on q below) (λ q. fits q []) a (n ∷ []) b e ends (λ m k. ([], own ∙ ap (λ j. Some j) (one_more n m k), refl))
   where
@@ -47,12 +47,8 @@ adds_end below n a b own e =
     ends [] m is h = subst (λ j. has (n ∷ []) j ≡ true) (same_Some n m (sym own ∙ is)) (has_first n [])
     ends (x ∷ xs) m is h = absurd (false≢true h)
 
-pub adds_last : (n below : Node) (part : List ℕ) (number : ℕ) (a b : List ℕ) → behind part (out-Node n).branches.entries ≡ Some below → (out-Node below).number ≡ Some number → b ≡ a ++ number ∷ []
-    → Adds (λ q. number_on q n) (λ q. fits_behind part [] q) a b
-adds_last n below part number a b at own e = adds_behind n below part [] a b at (adds_end below number a b own e)
-
-pub adds_no_last : (n below : Node) (part : List ℕ) (a : List ℕ) → behind part (out-Node n).branches.entries ≡ Some below → (out-Node below).number ≡ None → Adds (λ q. number_on q n) (λ q. fits_behind part [] q) a a
-adds_no_last n below part a at own = adds_behind n below part [] a a at (adds_none (λ q. number_on q below) (λ q. fits q []) a none)
+pub adds_no_end : (below : Node) (a : List ℕ) → (out-Node below).number ≡ None → Adds (λ q. number_on q below) (λ q. fits q []) a a
+adds_no_end below a own = adds_none (λ q. number_on q below) (λ q. fits q []) a none
   where
     none : (q : List (List ℕ)) (m : ℕ) → number_on q below ≡ Some m → fits q [] ≡ true → ⊥
     none [] m is h = none-some m (sym own ∙ is)

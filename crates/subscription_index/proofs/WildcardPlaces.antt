@@ -26,47 +26,47 @@ abbrev pub Entry : Type 0
 Entry = Vec ℕ Global × ℕ
 
 -- the numbers of the entries that fit
-abbrev pub fitting : List Entry → List ℕ → List ℕ
-fitting [] topic = []
-fitting (e ∷ es) topic = cond (fits (components e.0.items) (components topic)) (e.1 ∷ fitting es topic) (fitting es topic)
+abbrev pub fitting : List Entry → List (List ℕ) → List ℕ
+fitting [] parts = []
+fitting (e ∷ es) parts = cond (fits (components e.0.items) parts) (e.1 ∷ fitting es parts) (fitting es parts)
 
 -- the loop's step
-pub fitting_more : (old new : List ℕ) (e : Entry) (es : List Entry) (topic all : List ℕ) → new ≡ cond (fits (components e.0.items) (components topic)) (old ++ e.1 ∷ []) old → old ++ fitting (e ∷ es) topic ≡ all → new ++ fitting es topic ≡ all
-fitting_more old new e es topic all is h = ap (λ ns. ns ++ fitting es topic) is ∙ by_value (fits (components e.0.items) (components topic)) h
+pub fitting_more : (old new : List ℕ) (e : Entry) (es : List Entry) (parts : List (List ℕ)) (all : List ℕ) → new ≡ cond (fits (components e.0.items) parts) (old ++ e.1 ∷ []) old → old ++ fitting (e ∷ es) parts ≡ all → new ++ fitting es parts ≡ all
+fitting_more old new e es parts all is h = ap (λ ns. ns ++ fitting es parts) is ∙ by_value (fits (components e.0.items) parts) h
   where
-    by_value : (b : Bool) → old ++ cond b (e.1 ∷ fitting es topic) (fitting es topic) ≡ all → cond b (old ++ e.1 ∷ []) old ++ fitting es topic ≡ all
-    by_value true k = append_assoc old (e.1 ∷ []) (fitting es topic) ∙ k
+    by_value : (b : Bool) → old ++ cond b (e.1 ∷ fitting es parts) (fitting es parts) ≡ all → cond b (old ++ e.1 ∷ []) old ++ fitting es parts ≡ all
+    by_value true k = append_assoc old (e.1 ∷ []) (fitting es parts) ∙ k
     by_value false k = k
 
-found_listed : (es : List Entry) (topic q : List ℕ) (n : ℕ) → at_text q es ≡ Some n → fits (components q) (components topic) ≡ true → has (fitting es topic) n ≡ true
-found_listed [] topic q n is h = cc
-found_listed (e ∷ es) topic q n is h = by_value (found_listed es topic q n) (is_eq (slice_cmp nat_cmp q e.0.items)) refl is
+found_listed : (es : List Entry) (parts : List (List ℕ)) (q : List ℕ) (n : ℕ) → at_text q es ≡ Some n → fits (components q) parts ≡ true → has (fitting es parts) n ≡ true
+found_listed [] parts q n is h = cc
+found_listed (e ∷ es) parts q n is h = by_value (found_listed es parts q n) (is_eq (slice_cmp nat_cmp q e.0.items)) refl is
   where
-    by_value : (at_text q es ≡ Some n → fits (components q) (components topic) ≡ true → has (fitting es topic) n ≡ true)
-        → (b : Bool) → is_eq (slice_cmp nat_cmp q e.0.items) ≡ b → cond b (Some e.1) (at_text q es) ≡ Some n → has (fitting (e ∷ es) topic) n ≡ true
+    by_value : (at_text q es ≡ Some n → fits (components q) parts ≡ true → has (fitting es parts) n ≡ true)
+        → (b : Bool) → is_eq (slice_cmp nat_cmp q e.0.items) ≡ b → cond b (Some e.1) (at_text q es) ≡ Some n → has (fitting (e ∷ es) parts) n ≡ true
     by_value rest true f k =
         let same : q ≡ e.0.items = slice_cmp-true q e.0.items f in
-        let fit : fits (components e.0.items) (components topic) ≡ true = ap (λ t. fits (components t) (components topic)) (sym same) ∙ h in
-        ap (λ b. has (cond b (e.1 ∷ fitting es topic) (fitting es topic)) n) fit ∙ ap (λ m. has (m ∷ fitting es topic) n) (same_Some e.1 n k) ∙ has_first n (fitting es topic)
-    by_value rest false f k = either_way (fits (components e.0.items) (components topic))
+        let fit : fits (components e.0.items) parts ≡ true = ap (λ t. fits (components t) parts) (sym same) ∙ h in
+        ap (λ b. has (cond b (e.1 ∷ fitting es parts) (fitting es parts)) n) fit ∙ ap (λ m. has (m ∷ fitting es parts) n) (same_Some e.1 n k) ∙ has_first n (fitting es parts)
+    by_value rest false f k = either_way (fits (components e.0.items) parts)
       where
-        either_way : (b : Bool) → has (cond b (e.1 ∷ fitting es topic) (fitting es topic)) n ≡ true
-        either_way true = or_right (eqb e.1 n) (has (fitting es topic) n) (rest k h)
+        either_way : (b : Bool) → has (cond b (e.1 ∷ fitting es parts) (fitting es parts)) n ≡ true
+        either_way true = or_right (eqb e.1 n) (has (fitting es parts) n) (rest k h)
         either_way false = rest k h
 
 absent : (q : List ℕ) (es : List Entry) → AllByRecursion (λ (y : Vec ℕ Global). slice_cmp nat_cmp q y.items ≡ Less) (keys_of es) → at_text q es ≡ None
 absent q [] h = refl
 absent q (e ∷ es) h = ap (λ o. cond (is_eq o) (Some e.1) (at_text q es)) h.0 ∙ absent q es h.1
 
-only_listed : (es : List Entry) (topic : List ℕ) (n : ℕ) → IsStrictlySortedBy vec_cmp (keys_of es) → has (fitting es topic) n ≡ true → (q : List ℕ) × (at_text q es ≡ Some n) × (fits (components q) (components topic) ≡ true)
+only_listed : (es : List Entry) (parts : List (List ℕ)) (n : ℕ) → IsStrictlySortedBy vec_cmp (keys_of es) → has (fitting es parts) n ≡ true → (q : List ℕ) × (at_text q es ≡ Some n) × (fits (components q) parts ≡ true)
 unfolding IsStrictlySortedBy
-only_listed [] topic n up h = let e : false ≡ true = h in cc
-only_listed (e ∷ es) topic n up h = by_value (only_listed es topic n up.1) (fits (components e.0.items) (components topic)) refl h
+only_listed [] parts n up h = let e : false ≡ true = h in cc
+only_listed (e ∷ es) parts n up h = by_value (only_listed es parts n up.1) (fits (components e.0.items) parts) refl h
   where
     itself : is_eq (slice_cmp nat_cmp e.0.items e.0.items) ≡ true
     itself = is_eq-slice_cmp e.0.items e.0.items ∙ bytes_eq-refl e.0.items
 
-    later : (q : List ℕ) × (at_text q es ≡ Some n) × (fits (components q) (components topic) ≡ true) → (q : List ℕ) × (at_text q (e ∷ es) ≡ Some n) × (fits (components q) (components topic) ≡ true)
+    later : (q : List ℕ) × (at_text q es ≡ Some n) × (fits (components q) parts ≡ true) → (q : List ℕ) × (at_text q (e ∷ es) ≡ Some n) × (fits (components q) parts ≡ true)
     later r = (r.0, by_test (is_eq (slice_cmp nat_cmp r.0 e.0.items)) refl, r.2)
       where
         by_test : (b : Bool) → is_eq (slice_cmp nat_cmp r.0 e.0.items) ≡ b → cond b (Some e.1) (at_text r.0 es) ≡ Some n
@@ -76,19 +76,19 @@ only_listed (e ∷ es) topic n up h = by_value (only_listed es topic n up.1) (fi
             cc
         by_test false f = r.1
 
-    by_value : (has (fitting es topic) n ≡ true → (q : List ℕ) × (at_text q es ≡ Some n) × (fits (components q) (components topic) ≡ true))
-        → (b : Bool) → fits (components e.0.items) (components topic) ≡ b → has (cond b (e.1 ∷ fitting es topic) (fitting es topic)) n ≡ true
-        → (q : List ℕ) × (at_text q (e ∷ es) ≡ Some n) × (fits (components q) (components topic) ≡ true)
-    by_value rest true f k = by_first (or_cases (eqb e.1 n) (has (fitting es topic) n) k)
+    by_value : (has (fitting es parts) n ≡ true → (q : List ℕ) × (at_text q es ≡ Some n) × (fits (components q) parts ≡ true))
+        → (b : Bool) → fits (components e.0.items) parts ≡ b → has (cond b (e.1 ∷ fitting es parts) (fitting es parts)) n ≡ true
+        → (q : List ℕ) × (at_text q (e ∷ es) ≡ Some n) × (fits (components q) parts ≡ true)
+    by_value rest true f k = by_first (or_cases (eqb e.1 n) (has (fitting es parts) n) k)
       where
-        by_first : (eqb e.1 n ≡ true) ⊎ (has (fitting es topic) n ≡ true) → (q : List ℕ) × (at_text q (e ∷ es) ≡ Some n) × (fits (components q) (components topic) ≡ true)
+        by_first : (eqb e.1 n ≡ true) ⊎ (has (fitting es parts) n ≡ true) → (q : List ℕ) × (at_text q (e ∷ es) ≡ Some n) × (fits (components q) parts ≡ true)
         by_first (inl g) = (e.0.items, ap (λ b. cond b (Some e.1) (at_text e.0.items es)) itself ∙ ap (λ m. Some m) (eqb-true e.1 n g), f)
         by_first (inr g) = later (rest g)
     by_value rest false f k = later (rest k)
 
-pub adds_listed : (table : Table) (topic old new : List ℕ) → IsStrictlySortedBy vec_cmp (keys_of table.entries) → new ≡ old ++ fitting table.entries topic → Adds (number_at table) (λ q. fits (components q) (components topic)) old new
-adds_listed table topic old new up e =
-    adds_append (number_at table) (λ q. fits (components q) (components topic)) old (fitting table.entries topic) new e (found_listed table.entries topic) (λ n k. only_listed table.entries topic n up k)
+pub adds_listed : (table : Table) (parts : List (List ℕ)) (old new : List ℕ) → IsStrictlySortedBy vec_cmp (keys_of table.entries) → new ≡ old ++ fitting table.entries parts → Adds (number_at table) (λ q. fits (components q) parts) old new
+adds_listed table parts old new up e =
+    adds_append (number_at table) (λ q. fits (components q) parts) old (fitting table.entries parts) new e (found_listed table.entries parts) (λ n k. only_listed table.entries parts n up k)
 
 -- a deep wildcard was changed
 pub deep_changed : (deep other : Table) (tree : Node) (text : List ℕ) (v : Option ℕ) → is_deep text ≡ true → ((q : List ℕ) → number_at other q ≡ cond (bytes_eq text q) v (number_at deep q))

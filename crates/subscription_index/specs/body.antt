@@ -4,3 +4,5 @@ pub mod Tables
 pub mod Nodes
 pub mod Names
 pub mod Holders
+pub mod Conns
+pub mod Receivers

@@ -2,12 +2,15 @@
 ghost use Rattle.std.specs.Prelude.{◌≡◌, ◌≢◌, ◌↔◌, [], None, Some, Err, IfOk, IfSome, OnErr, IsOk, IsSome, true, false, cond, not, nat_lt, ◌+◌};
 ghost use Rattle.std.specs.Option.{option_copied};
 ghost use Rattle.subscription_index.specs.Index.{IsIndex, IsStrictlyAscending, number_held, holds_number, pattern_of, without, without_all, subscribed, matching};
+ghost use Rattle.subscription_index.specs.Receiver.{receivers};
+ghost use Rattle.subscription_index.specs.body.Receivers.{keys_of};
 
 use crate::fault::Fault;
 use crate::names::{self, Names};
+use crate::receiver::Receiver;
 use crate::rows::{self, Rows};
 use crate::shares::{self, Counts, Holders};
-use std::alloc::Global;
+use std::alloc::{AllocError, Global};
 use std::collections::BTreeMap;
 use std::marker::Model;
 use wamp_ids::{Conn, Id, Pattern, Topic};
@@ -154,10 +157,25 @@ impl Index {
         ensures other { result ≢ Err Fault.TooManySubscriptions }
         ensures index { IsIndex self.now }
     {
-        let numbers = names::matching(&self.names, alloc, topic)?;
-        let mut pairs = shares::pairs_of(&self.holders, alloc, &numbers)?;
-        shares::put_in_order(&mut pairs)?;
-        Ok(pairs)
+        let receivers = self.receivers(alloc, topic)?;
+        Ok(pairs_of(alloc, &receivers)?)
+    }
+
+    /// The same pairs in the same order, and for each whether the subscription's events have to name
+    /// the topic. It takes the time of a search for the patterns, and of a sort only where two of
+    /// them match or more.
+    ///
+    /// # Errors
+    /// `NoMemory` where a growth was refused.
+    pub fn receivers(&self, alloc: Global, topic: &Topic) -> Result<Vec<Receiver>, Fault>
+        ensures found { IfOk result (λ found. found.items ≡ receivers self.now.rows topic.now) }
+        ensures other { result ≢ Err Fault.TooManySubscriptions }
+        ensures index { IsIndex self.now }
+    {
+        let topic = topic.text().as_bytes();
+        let exact = names::exact(&self.names, topic);
+        let others = names::others(&self.names, alloc, topic)?;
+        Ok(shares::receivers_of(&self.holders, alloc, &exact, &others)?)
     }
 
     /// The pattern that the connection holds under this number; `None` where it holds none.
@@ -167,6 +185,17 @@ impl Index {
     {
         rows::pattern_of(&self.rows, conn, number)
     }
+}
+
+/// The receivers as pairs of connection and number.
+fn pairs_of(alloc: Global, receivers: &[Receiver]) -> Result<Vec<(Conn, Id)>, AllocError>
+    ensures { IfOk result (λ pairs. pairs.items ≡ keys_of receivers.now) }
+{
+    let mut pairs = Vec::with_capacity(alloc, receivers.len())?;
+    for receiver in receivers {
+        pairs.push_reserved((receiver.conn, receiver.number));
+    }
+    Ok(pairs)
 }
 
 /// The number of the next opening; `None` where all were given.

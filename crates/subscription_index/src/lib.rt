@@ -5,14 +5,18 @@
 //! most 2^53 are opened; a refusal changes nothing.
 #![tactic(auto)]
 
+mod conns;
 mod fault;
 mod index;
 pub mod laws;
 mod names;
 mod node;
+mod parts;
+mod receiver;
 mod rows;
 mod shares;
 mod table;
 
 pub use fault::Fault;
 pub use index::Index;
+pub use receiver::Receiver;

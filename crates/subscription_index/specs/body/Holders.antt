@@ -1,6 +1,5 @@
 -- Who holds the pattern of each number, and how many patterns each connection holds.
-use Rattle.std.specs.Prelude.{ℕ, Bool, false, List, Option, Some, None, Vec, ◌≡◌}
-use Rattle.std.specs.declared.alloc.Global.{Global}
+use Rattle.std.specs.Prelude.{ℕ, Bool, false, List, Option, Some, None, ◌≡◌}
 use Rattle.std.specs.BTreeMap.{BTreeMap, get}
 use Rattle.std.specs.Ordering.{nat_cmp}
 use Rattle.wamp_ids.specs.Pattern.{PatternText}
@@ -10,11 +9,11 @@ use Rattle.subscription_index.specs.declared.names.Names.{Names}
 use Rattle.subscription_index.specs.body.Names.{number_named}
 
 abbrev pub Holders : Type 0
-Holders = BTreeMap ℕ (Vec ℕ Global)
+Holders = BTreeMap ℕ (List ℕ)
 
-abbrev pub among : Option (Vec ℕ Global) → ℕ → Bool
+abbrev pub among : Option (List ℕ) → ℕ → Bool
 among None c = false
-among (Some conns) c = has conns.items c
+among (Some conns) c = has conns c
 
 -- whether c holds the pattern of number n
 abbrev pub is_holder : Holders → ℕ → ℕ → Bool

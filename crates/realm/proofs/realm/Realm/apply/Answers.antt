@@ -4,13 +4,17 @@ use Rattle.realm.specs.Sessions.{may_come, IsHistory}
 use Rattle.realm.specs.body.Refinement.{Agrees}
 use Rattle.realm.specs.body.Apply.{history_after}
 use Rattle.realm.proofs.EmptyHistory.{history-next, may-turn}
+use Rattle.realm.proofs.HoldersAreLive.{are-held}
 use Rattle.realm.proofs.RoomForCuts.{room-left}
 use Rattle.realm.proofs.realm.Realm.apply.Goals as goal
 
 pub answer-requires : goal.answer-requires
 answer-requires c =
     let come = rw (← c.self.view_is) at c.requires in
-    may-turn _ c.self.inside.state c.args.entry c.self.invariant.0 come
+    record {
+      turn = may-turn _ c.self.inside.state c.args.entry c.self.invariant.0 come;
+      held = are-held _ c.self.inside.state c.self.invariant.0;
+    }
 
 pub push_reserved-requires : goal.push_reserved-requires
 push_reserved-requires c =
