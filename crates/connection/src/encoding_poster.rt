@@ -15,7 +15,7 @@ use std::sync::Wait;
 /// the work is done by the publisher's reader, beside the realm's actor.
 ///
 /// What is posted is the same to every contract. Where memory is refused for the octets, the arguments are posted without them. A
-/// publication that is to be retained gets none, as the realm drops them.
+/// publication that is to be retained gets none: it is kept for long, and given to few.
 #[derive(Drop)]
 pub struct EncodingPoster<'a, P> {
     /// Where the octets are kept.

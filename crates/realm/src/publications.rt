@@ -123,14 +123,6 @@ fn accepted(
     }
 }
 
-/// The arguments of a publication. Those of one that is retained lose the octets that they are
-/// encoded as: it is kept for long, and given to few.
-fn kept(args: CarriedArgs, retained: bool) -> CarriedArgs
-    ensures { result ≡ args }
-{
-    if retained { args.unencoded() } else { args }
-}
-
 /// The publication that an accepted PUBLISH makes. The arguments are moved.
 fn publication(
     alloc: Global,
@@ -151,7 +143,7 @@ fn publication(
     Ok(Publication {
         id: Id::of_word(word),
         topic,
-        args: kept(args, publish_options.retained),
+        args,
         lists: publish_options.lists,
         publisher,
         disclosed: publish_options.disclosed,

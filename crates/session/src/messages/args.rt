@@ -183,16 +183,6 @@ impl Args {
         }
     }
 
-    /// Keeps the arguments alone.
-    fn strip(&mut self)
-        ensures { self.new ≡ self.old }
-    {
-        if let Some(held) = &mut self.held {
-            held.json = None;
-            held.msgpack = None;
-        }
-    }
-
     /// What stands at the end of a message with these arguments, where it is encoded.
     pub(crate) fn tail(&self, serializer: Serializer) -> Option<&[u8]>
         ensures { IfSome result (λ octets. IsTail serializer self.now octets.now) }
@@ -276,15 +266,6 @@ impl CarriedArgs {
         } else {
             Err(args)
         }
-    }
-
-    /// The same arguments, without the octets that [`Args::encoded`] keeps beside them.
-    pub fn unencoded(self) -> CarriedArgs
-        ensures { result ≡ self }
-    {
-        let CarriedArgs { mut args } = self;
-        args.strip();
-        CarriedArgs { args }
     }
 
     /// The arguments.
