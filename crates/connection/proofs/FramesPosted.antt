@@ -1,16 +1,25 @@
 -- Frames that are posted one by one.
-use Rattle.std.proofs.Common.{◌≡◌, ◌≢◌, ℕ, List, [], ◌∷◌, ◌++◌, Option, Some, None, Result, Ok, Err, inl, inr, refl, sym, ap, ◌∙◌, subst, append_assoc, append-nil}
+use Rattle.std.proofs.Common.{◌≡◌, ◌≢◌, ◌⊎◌, ℕ, List, [], ◌∷◌, ◌++◌, Option, Some, None, Result, Ok, Err, inl, inr, refl, sym, ap, ◌∙◌, subst, append_assoc, append-nil}
 use Rattle.rawsocket.specs.Frames.{Content}
 use Rattle.rawsocket.specs.declared.fault.Fault as stream
 use Rattle.rawsocket.specs.declared.frame.Kind.{Kind}
 use Rattle.rawsocket.specs.declared.frame.Kind.TheVariants as kind
 use Rattle.rawsocket.specs.declared.handshake.Serializer.{Serializer}
-use Rattle.connection.specs.Posts.{Course, GoesOn, Leaves, Breaks, First, PostsBy, Posts}
-use Rattle.connection.specs.Reader.{PostsAll, PostsSome, IsPosted}
+use Rattle.connection.specs.Posts.{Course, GoesOn, Leaves, Breaks, First, SaysMore, SaysFarewell, Spoils, Posts}
+use Rattle.connection.specs.Reader.{PostsAll, PostsSome, IsPosted, batch}
+use Rattle.session.specs.Opened.{ByKind}
 use Rattle.realm_inbox.specs.declared.act.Act.{Act}
 use Rattle.realm_inbox.specs.declared.act.Act.TheVariants as act
 use Rattle.connection.specs.declared.reader.ReadEnd.{ReadEnd}
 use Rattle.connection.specs.declared.reader.ReadEnd.TheVariants as reader
+
+-- the posts of a frame of this kind, and of those behind it
+abbrev PostsBy : {S : Type 0} → Serializer → List ℕ → (List (Act S) → Course → Type 0) → Kind → List (Act S) → Course → Type 0
+PostsBy s payload Next k acts course =
+    ByKind k
+    (SaysMore s payload Next acts course ⊎ (SaysFarewell s payload acts course ⊎ Spoils s payload acts course))
+    (First (act.Ping payload) Next acts course)
+    (Next acts course)
 
 module _ {S : Type 0} (s : Serializer) where
   -- an act stands before what follows, however the rest goes on
@@ -71,7 +80,7 @@ module _ {S : Type 0} (s : Serializer) where
   Halfway-start frames left before e = record { done = []; frames_are = e; acts = []; posted = sym (append-nil before); posts = (refl, refl) }
 
   -- all that is left is posted
-  all_posted : (fault : Option stream.Fault) (frames left : List Content) (course : Course) (before now after : List (Act S)) → Halfway frames left before now → PostsAll s fault left course now after → PostsAll s fault frames course before after
+  all_posted : (fault : Option stream.Fault) (frames left : List Content) (course : Course) (before now after : List (Act S)) → Halfway frames left before now → PostsAll s (batch left fault) course now after → PostsAll s (batch frames fault) course before after
   all_posted fault frames left course before now after h w = record {
     acts = h.acts ++ w.acts;
     posted = w.posted ∙ ap (λ p. p ++ w.acts) h.posted ∙ append_assoc before h.acts w.acts;
@@ -88,7 +97,7 @@ module _ {S : Type 0} (s : Serializer) where
     posts = Posts-join None None h.done w.done h.acts w.acts GoesOn h.posts w.posts;
   }
 
-  pub Halfway-more : (frames : List Content) (frame : Content) (left : List Content) (before now after : List (Act S)) → Halfway frames (frame ∷ left) before now → PostsAll s None (frame ∷ []) GoesOn now after → Halfway frames left before after
+  pub Halfway-more : (frames : List Content) (frame : Content) (left : List Content) (before now after : List (Act S)) → Halfway frames (frame ∷ left) before now → PostsAll s (batch (frame ∷ []) None) GoesOn now after → Halfway frames left before after
   Halfway-more frames frame left before now after h w = record {
     done = h.done ++ frame ∷ [];
     frames_are = h.frames_are ∙ sym (append_assoc h.done (frame ∷ []) left);
@@ -99,7 +108,7 @@ module _ {S : Type 0} (s : Serializer) where
 
   -- the posts of one frame that end, as those of all frames
   ended_all : (fault : Option stream.Fault) (frames : List Content) (frame : Content) (left : List Content) (course : Course) (before now after : List (Act S)) → course ≢ GoesOn
-      → Halfway frames (frame ∷ left) before now → PostsAll s None (frame ∷ []) course now after → PostsAll s fault frames course before after
+      → Halfway frames (frame ∷ left) before now → PostsAll s (batch (frame ∷ []) None) course now after → PostsAll s (batch frames fault) course before after
   ended_all fault frames frame left course before now after ended h w =
       all_posted fault frames (frame ∷ left) course before now after h (record { acts = w.acts; posted = w.posted; posts = Posts-ended fault (frame ∷ []) left w.acts course ended w.posts })
 
@@ -114,7 +123,7 @@ module _ {S : Type 0} (s : Serializer) where
   })
 
   pub Halfway-ends : (end : ReadEnd) (fault : Option stream.Fault) (frames : List Content) (frame : Content) (left : List Content) (before now after : List (Act S)) → Halfway frames (frame ∷ left) before now
-      → IsPosted s None (frame ∷ []) now after (Err end) → IsPosted s fault frames before after (Err end)
+      → IsPosted s (batch (frame ∷ []) None) now after (Err end) → IsPosted s (batch frames fault) before after (Err end)
   Halfway-ends reader.Left fault frames frame left before now after h w = ended_all fault frames frame left Leaves before now after (λ (e : Leaves ≡ GoesOn). cc) h w
   Halfway-ends (reader.Violation f) fault frames frame left before now after h w = ended_all fault frames frame left (Breaks f) before now after (λ (e : Breaks f ≡ GoesOn). cc) h w
   Halfway-ends reader.NoMemory fault frames frame left before now after h w = ended_some frames frame left before now after h w
@@ -125,7 +134,7 @@ module _ {S : Type 0} (s : Serializer) where
 
   -- all frames are posted, and then what stands behind them
   pub Halfway-last : (result : Result Unit ReadEnd) (fault : Option stream.Fault) (frames left : List Content) (before now after : List (Act S)) → left ≡ [] → Halfway frames left before now
-      → IsPosted s fault [] now after result → IsPosted s fault frames before after result
+      → IsPosted s (batch [] fault) now after result → IsPosted s (batch frames fault) before after result
   Halfway-last (Ok u) fault frames left before now after none h w = all_posted fault frames [] GoesOn before now after (subst (λ fs. Halfway frames fs before now) none h) w
   Halfway-last (Err reader.Left) fault frames left before now after none h w = all_posted fault frames [] Leaves before now after (subst (λ fs. Halfway frames fs before now) none h) w
   Halfway-last (Err (reader.Violation f)) fault frames left before now after none h w = all_posted fault frames [] (Breaks f) before now after (subst (λ fs. Halfway frames fs before now) none h) w
@@ -137,7 +146,7 @@ module _ {S : Type 0} (s : Serializer) where
 
   -- part is posted, and then what is left
   pub Halfway-rest : (result : Result Unit ReadEnd) (fault : Option stream.Fault) (frames left : List Content) (before now after : List (Act S)) → Halfway frames left before now
-      → IsPosted s fault left now after result → IsPosted s fault frames before after result
+      → IsPosted s (batch left fault) now after result → IsPosted s (batch frames fault) before after result
   Halfway-rest (Ok u) fault frames left before now after h w = all_posted fault frames left GoesOn before now after h w
   Halfway-rest (Err reader.Left) fault frames left before now after h w = all_posted fault frames left Leaves before now after h w
   Halfway-rest (Err (reader.Violation f)) fault frames left before now after h w = all_posted fault frames left (Breaks f) before now after h w
@@ -147,17 +156,17 @@ module _ {S : Type 0} (s : Serializer) where
   Halfway-rest (Err reader.Device) fault frames left before now after h w = absurd w
   Halfway-rest (Err reader.TooManyTurns) fault frames left before now after h w = absurd w
 
-  pub Halfway-of : (a b : List Content) (before now : List (Act S)) → PostsAll s None a GoesOn before now → Halfway (a ++ b) b before now
+  pub Halfway-of : (a b : List Content) (before now : List (Act S)) → PostsAll s (batch a None) GoesOn before now → Halfway (a ++ b) b before now
   Halfway-of a b before now w = record { done = a; frames_are = refl; acts = w.acts; posted = w.posted; posts = w.posts }
 
-  longer_all : (fault : Option stream.Fault) (a b : List Content) (course : Course) (before now : List (Act S)) → course ≢ GoesOn → PostsAll s None a course before now → PostsAll s fault (a ++ b) course before now
+  longer_all : (fault : Option stream.Fault) (a b : List Content) (course : Course) (before now : List (Act S)) → course ≢ GoesOn → PostsAll s (batch a None) course before now → PostsAll s (batch (a ++ b) fault) course before now
   longer_all fault a b course before now ended w = record { acts = w.acts; posted = w.posted; posts = Posts-ended fault a b w.acts course ended w.posts }
 
   longer_some : (a b : List Content) (before now : List (Act S)) → PostsSome s a before now → PostsSome s (a ++ b) before now
   longer_some a b before now w = record { done = w.done; left = w.left ++ b; frames_are = ap (λ fs. fs ++ b) w.frames_are ∙ append_assoc w.done w.left b; acts = w.acts; posted = w.posted; posts = w.posts }
 
   -- what ended at the first frames ended
-  pub longer_ends : (end : ReadEnd) (fault : Option stream.Fault) (a b : List Content) (before now : List (Act S)) → IsPosted s None a before now (Err end) → IsPosted s fault (a ++ b) before now (Err end)
+  pub longer_ends : (end : ReadEnd) (fault : Option stream.Fault) (a b : List Content) (before now : List (Act S)) → IsPosted s (batch a None) before now (Err end) → IsPosted s (batch (a ++ b) fault) before now (Err end)
   longer_ends reader.Left fault a b before now w = longer_all fault a b Leaves before now (λ (e : Leaves ≡ GoesOn). cc) w
   longer_ends (reader.Violation f) fault a b before now w = longer_all fault a b (Breaks f) before now (λ (e : Breaks f ≡ GoesOn). cc) w
   longer_ends reader.NoMemory fault a b before now w = longer_some a b before now w

@@ -7,7 +7,7 @@ use Rattle.rawsocket.specs.declared.devices.no_octets.NoOctets.TheVariants as no
 use Rattle.rawsocket.specs.declared.handshake.Serializer.{Serializer}
 use Rattle.rawsocket.proofs.Lemmas.{pieces_join}
 use Rattle.connection.specs.Posts.{Course, GoesOn, Leaves, Breaks, Posts}
-use Rattle.connection.specs.Reader.{PostsAll, PostsSome, IsReadAll, IsReadToEnd, IsReadPartly, ThenGone, IsReadUpTo, IsReadBy, ReadsSince, IsAdvance, GoesWith, Departs, end_of, read_told}
+use Rattle.connection.specs.Reader.{PostsAll, PostsSome, IsReadAll, IsReadToEnd, IsReadPartly, ThenGone, IsReadUpTo, IsReadBy, ReadsSince, IsAdvance, GoesWith, Departs, batch, end_of, read_told, start, taking}
 use Rattle.realm_inbox.specs.declared.act.Act.{Act}
 use Rattle.realm_inbox.specs.declared.act.Act.TheVariants.{Gone}
 use Rattle.connection.specs.declared.reader.ReadEnd.{ReadEnd}
@@ -29,7 +29,7 @@ module _ {S : Type 0} (s : Serializer) (early : List Content) (held₀ : List �
     pub reads : Reads (held₀ ++ octets) frames held
     pub posts : Posts s (fault_of held) (early ++ frames) acts GoesOn
 
-  pub Onward-start : (given : List ℕ) (before now : List (Act S)) (new : List ℕ) → IsAdvance s early held₀ [] new before now (Ok tt) → Onward given given before now new
+  pub Onward-start : (given : List ℕ) (before now : List (Act S)) (new : List ℕ) → IsAdvance (start s early held₀) (taking [] new) before now (Ok tt) → Onward given given before now new
   Onward-start given before now new (inr none) = absurd (let never : Ok tt ≡ Err NoMemory = none.0 in cc)
   Onward-start given before now new (inl w) = record {
     octets = [];
@@ -45,7 +45,7 @@ module _ {S : Type 0} (s : Serializer) (early : List Content) (held₀ : List �
       → Posts s (fault_of new) (early ++ (frames ++ more)) (acts ++ others) course
   posts_both held new frames more acts others course a b = subst (λ fs. Posts s (fault_of new) fs (acts ++ others) course) (append_assoc early frames more) (Posts-join s (fault_of held) (fault_of new) (early ++ frames) more acts others course a b)
 
-  pub Onward-more : (given_before given after piece : List ℕ) (before now later : List (Act S)) (held new : List ℕ) → Onward given_before given before now held → after ≡ given ++ piece → IsAdvance s [] held piece new now later (Ok tt)
+  pub Onward-more : (given_before given after piece : List ℕ) (before now later : List (Act S)) (held new : List ℕ) → Onward given_before given before now held → after ≡ given ++ piece → IsAdvance (start s [] held) (taking piece new) now later (Ok tt)
       → Onward given_before after before later new
   Onward-more given_before given after piece before now later held new o more (inr none) = absurd (let never : Ok tt ≡ Err NoMemory = none.0 in cc)
   Onward-more given_before given after piece before now later held new o more (inl w) = record {
@@ -59,7 +59,7 @@ module _ {S : Type 0} (s : Serializer) (early : List Content) (held₀ : List �
   }
 
   all_then : (course : Course) (given_before given after piece : List ℕ) (before now later : List (Act S)) (held new : List ℕ) (more : List Content) → Onward given_before given before now held → after ≡ given ++ piece
-      → length piece ≤ 65536 → Reads (held ++ piece) more new → PostsAll s (fault_of new) more course now later → ReadsSince given_before after before later (IsReadToEnd s early held₀ course)
+      → length piece ≤ 65536 → Reads (held ++ piece) more new → PostsAll s (batch more (fault_of new)) course now later → ReadsSince given_before after before later (IsReadToEnd (start s early held₀) course)
   all_then course given_before given after piece before now later held new more o grows few reads w = record {
     octets = o.octets ++ piece;
     acts = o.acts ++ w.acts;
@@ -81,7 +81,7 @@ module _ {S : Type 0} (s : Serializer) (early : List Content) (held₀ : List �
   }
 
   some_then : (given_before given after piece : List ℕ) (before now later : List (Act S)) (held new : List ℕ) (more : List Content) → Onward given_before given before now held → after ≡ given ++ piece
-      → Reads (held ++ piece) more new → PostsSome s more now later → ReadsSince given_before after before later (IsReadPartly s early held₀)
+      → Reads (held ++ piece) more new → PostsSome s more now later → ReadsSince given_before after before later (IsReadPartly (start s early held₀))
   some_then given_before given after piece before now later held new more o grows reads w = record {
     octets = o.octets ++ piece;
     acts = o.acts ++ w.acts;
@@ -102,7 +102,7 @@ module _ {S : Type 0} (s : Serializer) (early : List Content) (held₀ : List �
   }
 
   -- nothing more is posted, of a piece that is read
-  none_then : (given_before given after piece : List ℕ) (before now later : List (Act S)) (held : List ℕ) → Onward given_before given before now held → after ≡ given ++ piece → later ≡ now → ReadsSince given_before after before later (IsReadPartly s early held₀)
+  none_then : (given_before given after piece : List ℕ) (before now later : List (Act S)) (held : List ℕ) → Onward given_before given before now held → after ≡ given ++ piece → later ≡ now → ReadsSince given_before after before later (IsReadPartly (start s early held₀))
   none_then given_before given after piece before now later held o grows same = record {
     octets = o.octets ++ piece;
     acts = o.acts;
@@ -122,8 +122,8 @@ module _ {S : Type 0} (s : Serializer) (early : List Content) (held₀ : List �
     });
   }
 
-  pub Onward-ends : (end : ReadEnd) (given_before given after piece : List ℕ) (before now later : List (Act S)) (held new : List ℕ) → Onward given_before given before now held → after ≡ given ++ piece → length piece ≤ 65536 → IsAdvance s [] held piece new now later (Err end)
-      → ReadsSince given_before after before later (IsReadUpTo s early held₀ end)
+  pub Onward-ends : (end : ReadEnd) (given_before given after piece : List ℕ) (before now later : List (Act S)) (held new : List ℕ) → Onward given_before given before now held → after ≡ given ++ piece → length piece ≤ 65536 → IsAdvance (start s [] held) (taking piece new) now later (Err end)
+      → ReadsSince given_before after before later (IsReadUpTo (start s early held₀) end)
   Onward-ends Left given_before given after piece before now later held new o grows few (inl w) = all_then Leaves given_before given after piece before now later held new w.frames o grows few w.reads w.posted
   Onward-ends (Violation f) given_before given after piece before now later held new o grows few (inl w) = all_then (Breaks f) given_before given after piece before now later held new w.frames o grows few w.reads w.posted
   Onward-ends NoMemory given_before given after piece before now later held new o grows few (inl w) = some_then given_before given after piece before now later held new w.frames o grows w.reads w.posted
@@ -140,7 +140,7 @@ module _ {S : Type 0} (s : Serializer) (early : List Content) (held₀ : List �
   Onward-ends TooManyTurns given_before given after piece before now later held new o grows few (inr none) = absurd (let never : Err TooManyTurns ≡ Err NoMemory = none.0 in cc)
 
   -- the stream ends
-  so_far : (given_before given after : List ℕ) (before now : List (Act S)) (held : List ℕ) → Onward given_before given before now held → after ≡ given → ReadsSince given_before after before now (IsReadAll s early held₀ GoesOn)
+  so_far : (given_before given after : List ℕ) (before now : List (Act S)) (held : List ℕ) → Onward given_before given before now held → after ≡ given → ReadsSince given_before after before now (IsReadAll (start s early held₀) GoesOn)
   so_far given_before given after before now held o same = record {
     octets = o.octets;
     acts = o.acts;
@@ -150,18 +150,18 @@ module _ {S : Type 0} (s : Serializer) (early : List Content) (held₀ : List �
   }
 
   pub Onward-stops : (why : NoOctets) (end : ReadEnd) (given_before given after : List ℕ) (before now : List (Act S)) (held : List ℕ) → end ≡ end_of why → Onward given_before given before now held → after ≡ given
-      → ReadsSince given_before after before now (IsReadUpTo s early held₀ end)
-  Onward-stops why end given_before given after before now held is o same = subst (λ e. ReadsSince given_before after before now (IsReadUpTo s early held₀ e)) (sym is) (stops why)
+      → ReadsSince given_before after before now (IsReadUpTo (start s early held₀) end)
+  Onward-stops why end given_before given after before now held is o same = subst (λ e. ReadsSince given_before after before now (IsReadUpTo (start s early held₀) e)) (sym is) (stops why)
     where
-      stops : (w : NoOctets) → ReadsSince given_before after before now (IsReadUpTo s early held₀ (end_of w))
+      stops : (w : NoOctets) → ReadsSince given_before after before now (IsReadUpTo (start s early held₀) (end_of w))
       stops no_octets.Ended = so_far given_before given after before now held o same
       stops no_octets.Failed = so_far given_before given after before now held o same
       stops no_octets.TooManyTurns = so_far given_before given after before now held o same
 
-  early_all : (course : Course) (given new : List ℕ) (before now : List (Act S)) (frames : List Content) → Reads (held₀ ++ []) frames new → PostsAll s (fault_of new) (early ++ frames) course before now → ReadsSince given given before now (IsReadToEnd s early held₀ course)
+  early_all : (course : Course) (given new : List ℕ) (before now : List (Act S)) (frames : List Content) → Reads (held₀ ++ []) frames new → PostsAll s (batch (early ++ frames) (fault_of new)) course before now → ReadsSince given given before now (IsReadToEnd (start s early held₀) course)
   early_all course given new before now frames reads w = record { octets = []; acts = w.acts; read = sym (append-nil given); posted = w.posted; holds = record { all = record { frames = frames; new = new; reads = reads; posts = w.posts }; last = inl refl } }
 
-  early_some : (given new : List ℕ) (before now : List (Act S)) (frames : List Content) → Reads (held₀ ++ []) frames new → PostsSome s (early ++ frames) before now → ReadsSince given given before now (IsReadPartly s early held₀)
+  early_some : (given new : List ℕ) (before now : List (Act S)) (frames : List Content) → Reads (held₀ ++ []) frames new → PostsSome s (early ++ frames) before now → ReadsSince given given before now (IsReadPartly (start s early held₀))
   early_some given new before now frames reads w = record {
     octets = [];
     acts = w.acts;
@@ -170,10 +170,10 @@ module _ {S : Type 0} (s : Serializer) (early : List Content) (held₀ : List �
     holds = inr (record { front = []; back = []; octets_are = refl; frames = frames; new = new; reads = reads; done = w.done; left = w.left; frames_are = w.frames_are; posts = w.posts });
   }
 
-  pub nothing_posted : (given : List ℕ) (before now : List (Act S)) → now ≡ before → ReadsSince given given before now (IsReadPartly s early held₀)
+  pub nothing_posted : (given : List ℕ) (before now : List (Act S)) → now ≡ before → ReadsSince given given before now (IsReadPartly (start s early held₀))
   nothing_posted given before now same = record { octets = []; acts = []; read = sym (append-nil given); posted = same ∙ sym (append-nil before); holds = inl refl }
 
-  pub early_ends : (end : ReadEnd) (given new : List ℕ) (before now : List (Act S)) → IsAdvance s early held₀ [] new before now (Err end) → ReadsSince given given before now (IsReadUpTo s early held₀ end)
+  pub early_ends : (end : ReadEnd) (given new : List ℕ) (before now : List (Act S)) → IsAdvance (start s early held₀) (taking [] new) before now (Err end) → ReadsSince given given before now (IsReadUpTo (start s early held₀) end)
   early_ends Left given new before now (inl w) = early_all Leaves given new before now w.frames w.reads w.posted
   early_ends (Violation f) given new before now (inl w) = early_all (Breaks f) given new before now w.frames w.reads w.posted
   early_ends NoMemory given new before now (inl w) = early_some given new before now w.frames w.reads w.posted
@@ -203,7 +203,7 @@ module _ {S : Type 0} (s : Serializer) (early : List Content) (held₀ : List �
   moved : (P Q : List ℕ → List (Act S) → Type 0) (given_before given : List ℕ) (before now later : List (Act S)) → ((octets : List ℕ) (acts : List (Act S)) → P octets acts → Q octets acts) → later ≡ now → ReadsSince given_before given before now P → ReadsSince given_before given before later Q
   moved P Q given_before given before now later to same w = record { octets = w.octets; acts = w.acts; read = w.read; posted = same ∙ w.posted; holds = to w.octets w.acts w.holds }
 
-  all_is_part : (octets : List ℕ) (acts : List (Act S)) → IsReadAll s early held₀ GoesOn octets acts → IsReadPartly s early held₀ octets acts
+  all_is_part : (octets : List ℕ) (acts : List (Act S)) → IsReadAll (start s early held₀) GoesOn octets acts → IsReadPartly (start s early held₀) octets acts
   all_is_part octets acts w = inr (record {
     front = octets;
     back = [];
@@ -217,33 +217,33 @@ module _ {S : Type 0} (s : Serializer) (early : List Content) (held₀ : List �
     posts = Posts-open s (fault_of w.new) (early ++ w.frames) acts w.posts;
   })
 
-  stream_goes : (end result : ReadEnd) (given_before given : List ℕ) (before now later : List (Act S)) → ((octets : List ℕ) (acts : List (Act S)) → ThenGone (IsReadAll s early held₀ GoesOn octets) acts → IsReadBy s early held₀ end octets acts)
-      → ReadsSince given_before given before now (IsReadAll s early held₀ GoesOn) → GoesWith end now later result → ReadsSince given_before given before later (IsReadBy s early held₀ result)
+  stream_goes : (end result : ReadEnd) (given_before given : List ℕ) (before now later : List (Act S)) → ((octets : List ℕ) (acts : List (Act S)) → ThenGone (IsReadAll (start s early held₀) GoesOn octets) acts → IsReadBy (start s early held₀) end octets acts)
+      → ReadsSince given_before given before now (IsReadAll (start s early held₀) GoesOn) → GoesWith end now later result → ReadsSince given_before given before later (IsReadBy (start s early held₀) result)
   stream_goes end result given_before given before now later to w (inl p) =
-      let so : ReadsSince given_before given before later (λ octets acts. ThenGone (IsReadAll s early held₀ GoesOn octets) acts) = gone (IsReadAll s early held₀ GoesOn) given_before given before now later p.1 w in
-      subst (λ r. ReadsSince given_before given before later (IsReadBy s early held₀ r)) (sym p.0)
+      let so : ReadsSince given_before given before later (λ octets acts. ThenGone (IsReadAll (start s early held₀) GoesOn octets) acts) = gone (IsReadAll (start s early held₀) GoesOn) given_before given before now later p.1 w in
+      subst (λ r. ReadsSince given_before given before later (IsReadBy (start s early held₀) r)) (sym p.0)
       (record { octets = so.octets; acts = so.acts; read = so.read; posted = so.posted; holds = to so.octets so.acts so.holds })
   stream_goes end result given_before given before now later to w (inr p) =
-      subst (λ r. ReadsSince given_before given before later (IsReadBy s early held₀ r)) (sym p.0)
-      (moved (IsReadAll s early held₀ GoesOn) (IsReadPartly s early held₀) given_before given before now later all_is_part p.1 w)
+      subst (λ r. ReadsSince given_before given before later (IsReadBy (start s early held₀) r)) (sym p.0)
+      (moved (IsReadAll (start s early held₀) GoesOn) (IsReadPartly (start s early held₀)) given_before given before now later all_is_part p.1 w)
 
-  stays : (end result : ReadEnd) (P : List ℕ → List (Act S) → Type 0) (given_before given : List ℕ) (before now later : List (Act S)) → result ≡ end → later ≡ now → ReadsSince given_before given before now (IsReadBy s early held₀ end)
-      → ReadsSince given_before given before later (IsReadBy s early held₀ result)
+  stays : (end result : ReadEnd) (P : List ℕ → List (Act S) → Type 0) (given_before given : List ℕ) (before now later : List (Act S)) → result ≡ end → later ≡ now → ReadsSince given_before given before now (IsReadBy (start s early held₀) end)
+      → ReadsSince given_before given before later (IsReadBy (start s early held₀) result)
   stays end result P given_before given before now later is same w =
-      subst (λ r. ReadsSince given_before given before later (IsReadBy s early held₀ r)) (sym is) (moved (IsReadBy s early held₀ end) (IsReadBy s early held₀ end) given_before given before now later (λ octets acts h. h) same w)
+      subst (λ r. ReadsSince given_before given before later (IsReadBy (start s early held₀) r)) (sym is) (moved (IsReadBy (start s early held₀) end) (IsReadBy (start s early held₀) end) given_before given before now later (λ octets acts h. h) same w)
 
-  pub departs_ends : (end result : ReadEnd) (given_before given : List ℕ) (before now later : List (Act S)) → ReadsSince given_before given before now (IsReadUpTo s early held₀ end) → Departs end now later result
-      → ReadsSince given_before given before later (IsReadBy s early held₀ result)
-  departs_ends Left result given_before given before now later w d = stays Left result (IsReadToEnd s early held₀ Leaves) given_before given before now later d.0 d.1 w
-  departs_ends (Violation f) result given_before given before now later w d = stays (Violation f) result (IsReadToEnd s early held₀ (Breaks f)) given_before given before now later d.0 d.1 w
-  departs_ends ActorGone result given_before given before now later w d = stays ActorGone result (IsReadPartly s early held₀) given_before given before now later d.0 d.1 w
+  pub departs_ends : (end result : ReadEnd) (given_before given : List ℕ) (before now later : List (Act S)) → ReadsSince given_before given before now (IsReadUpTo (start s early held₀) end) → Departs end now later result
+      → ReadsSince given_before given before later (IsReadBy (start s early held₀) result)
+  departs_ends Left result given_before given before now later w d = stays Left result (IsReadToEnd (start s early held₀) Leaves) given_before given before now later d.0 d.1 w
+  departs_ends (Violation f) result given_before given before now later w d = stays (Violation f) result (IsReadToEnd (start s early held₀) (Breaks f)) given_before given before now later d.0 d.1 w
+  departs_ends ActorGone result given_before given before now later w d = stays ActorGone result (IsReadPartly (start s early held₀)) given_before given before now later d.0 d.1 w
   departs_ends Ended result given_before given before now later w d = stream_goes Ended result given_before given before now later (λ octets acts h. h) w d
   departs_ends Device result given_before given before now later w d = stream_goes Device result given_before given before now later (λ octets acts h. h) w d
   departs_ends TooManyTurns result given_before given before now later w d = stream_goes TooManyTurns result given_before given before now later (λ octets acts h. h) w d
   departs_ends NoMemory result given_before given before now later w (inl p) =
-      subst (λ r. ReadsSince given_before given before later (IsReadBy s early held₀ r)) (sym p.0) (gone (IsReadPartly s early held₀) given_before given before now later p.1 w)
+      subst (λ r. ReadsSince given_before given before later (IsReadBy (start s early held₀) r)) (sym p.0) (gone (IsReadPartly (start s early held₀)) given_before given before now later p.1 w)
   departs_ends NoMemory result given_before given before now later w (inr p) =
-      subst (λ r. ReadsSince given_before given before later (IsReadBy s early held₀ r)) (sym p.0) (moved (IsReadPartly s early held₀) (IsReadPartly s early held₀) given_before given before now later (λ octets acts h. h) p.1 w)
+      subst (λ r. ReadsSince given_before given before later (IsReadBy (start s early held₀) r)) (sym p.0) (moved (IsReadPartly (start s early held₀)) (IsReadPartly (start s early held₀)) given_before given before now later (λ octets acts h. h) p.1 w)
 
 -- a reader's end is what it was, unless the actor is gone
 pub departs_same : {S : Type 0} (end result : ReadEnd) (now later : List (Act S)) → Departs end now later result → result ≢ ActorGone → result ≡ end
@@ -263,7 +263,7 @@ pub departs_as : {S : Type 0} (end result wanted : ReadEnd) (now later : List (A
 departs_as end result wanted now later d other is = sym (departs_same end result now later d (λ gone. other (sym is ∙ gone))) ∙ is
 
 -- an end by what is posted tells nothing of the stream
-pub posting_told : {S : Type 0} (s : Serializer) (early : List Content) (old piece new : List ℕ) (before now : List (Act S)) (end : ReadEnd) → IsAdvance s early old piece new before now (Err end) → read_told end ≡ Fine
+pub posting_told : {S : Type 0} (s : Serializer) (early : List Content) (old piece new : List ℕ) (before now : List (Act S)) (end : ReadEnd) → IsAdvance (start s early old) (taking piece new) before now (Err end) → read_told end ≡ Fine
 posting_told s early old piece new before now Left w = refl
 posting_told s early old piece new before now (Violation f) w = refl
 posting_told s early old piece new before now NoMemory w = refl

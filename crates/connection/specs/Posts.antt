@@ -4,13 +4,12 @@ use Rattle.std.specs.declared.option.Option.{Option}
 use Rattle.message_tree.specs.Data.{Data}
 use Rattle.rawsocket.specs.Frames.{Content}
 use Rattle.rawsocket.specs.declared.fault.Fault as stream
-use Rattle.rawsocket.specs.declared.frame.Kind.{Kind}
-use Rattle.rawsocket.specs.declared.frame.Kind.TheVariants as kind
 use Rattle.rawsocket.specs.declared.handshake.Serializer.{Serializer}
 use Rattle.realm_inbox.specs.declared.act.Act.{Act}
 use Rattle.realm_inbox.specs.declared.act.Act.TheVariants.{Said, Ping, Spoilt}
 use Rattle.session.specs.Faults.{stream_fault}
 use Rattle.session.specs.FromClient.{said_of}
+use Rattle.session.specs.Opened.{ByKind}
 use Rattle.session.specs.Serializer.{Decodes, IsUndecodable}
 use Rattle.session.specs.declared.fault.Fault.{Fault}
 use Rattle.session.specs.declared.fault.Fault.TheVariants.{Shape}
@@ -75,18 +74,16 @@ module _ {S : Type 0} where
     pub acts_are : acts ≡ Spoilt ∷ []
     pub course_is : course ≡ Breaks fault
 
-  -- by the kind of a frame: a PING is posted, a PONG is not
-  abbrev pub PostsBy : Serializer → List ℕ → (List (Act S) → Course → Type 0) → Kind → List (Act S) → Course → Type 0
-  PostsBy s payload Next kind.Message acts course = SaysMore s payload Next acts course ⊎ (SaysFarewell s payload acts course ⊎ Spoils s payload acts course)
-  PostsBy s payload Next kind.Ping acts course = First (Ping payload) Next acts course
-  PostsBy s payload Next kind.Pong acts course = Next acts course
-
   -- what stands behind the last frame may be at fault: then it is posted last, as Spoilt
   abbrev pub PostsLast : Option stream.Fault → List (Act S) → Course → Type 0
   PostsLast None acts course = (acts ≡ []) × (course ≡ GoesOn)
   PostsLast (Some fault) acts course = (acts ≡ Spoilt ∷ []) × (course ≡ Breaks (stream_fault fault))
 
-  -- the posts of frames, and of what stands behind them
+  -- the posts of frames, and of what stands behind them: a PING is posted, a PONG is not
   abbrev pub Posts : Serializer → Option stream.Fault → List Content → List (Act S) → Course → Type 0
   Posts s fault [] acts course = PostsLast fault acts course
-  Posts s fault (c ∷ frames) acts course = PostsBy s c.payload (Posts s fault frames) c.kind acts course
+  Posts s fault (c ∷ frames) acts course =
+      ByKind c.kind
+      (SaysMore s c.payload (Posts s fault frames) acts course ⊎ (SaysFarewell s c.payload acts course ⊎ Spoils s c.payload acts course))
+      (First (Ping c.payload) (Posts s fault frames) acts course)
+      (Posts s fault frames acts course)

@@ -13,16 +13,41 @@ use Rattle.connection.specs.Posts.{Course, GoesOn, Leaves, Breaks, Posts}
 use Rattle.connection.specs.declared.reader.ReadEnd.{ReadEnd}
 use Rattle.connection.specs.declared.reader.ReadEnd.TheVariants.{Left, Violation, Ended, Device, TooManyTurns, NoMemory, ActorGone}
 
+-- what a reader begins with: how the client serializes, the frames that were read early, and what the deframer holds behind them
+pub record Start : Type 0 where
+  pub serializer : Serializer
+  pub early : List Content
+  pub held : List ℕ
+
+abbrev pub start : Serializer → List Content → List ℕ → Start
+start s early held = record { serializer = s; early = early; held = held }
+
+-- frames, and what is at fault behind the last of them
+pub record Batch : Type 0 where
+  pub frames : List Content
+  pub fault : Option stream.Fault
+
+abbrev pub batch : List Content → Option stream.Fault → Batch
+batch frames fault = record { frames = frames; fault = fault }
+
+-- octets that the deframer takes, and what it holds then
+pub record Taking : Type 0 where
+  pub octets : List ℕ
+  pub held : List ℕ
+
+abbrev pub taking : List ℕ → List ℕ → Taking
+taking octets held = record { octets = octets; held = held }
+
 module _ {S : Type 0} where
   -- the posts of the early frames, and of those that the octets give behind what the deframer held
-  pub record IsReadAll (s : Serializer) (early : List Content) (held : List ℕ) (course : Course) (octets : List ℕ) (acts : List (Act S)) : Type 0 where
+  pub record IsReadAll (begun : Start) (course : Course) (octets : List ℕ) (acts : List (Act S)) : Type 0 where
     pub frames : List Content
     pub new : List ℕ
-    pub reads : Reads (held ++ octets) frames new
-    pub posts : Posts s (fault_of new) (early ++ frames) acts course
+    pub reads : Reads (begun.held ++ octets) frames new
+    pub posts : Posts begun.serializer (fault_of new) (begun.early ++ frames) acts course
 
   -- the frames still went on after the first of the octets, and what was read behind these is no more than one read takes
-  pub record EndsInLast (s : Serializer) (early : List Content) (held : List ℕ) (octets : List ℕ) (acts : List (Act S)) : Type 0 where
+  pub record EndsInLast (begun : Start) (octets : List ℕ) (acts : List (Act S)) : Type 0 where
     pub front : List ℕ
     pub back : List ℕ
     pub octets_are : octets ≡ front ++ back
@@ -30,29 +55,29 @@ module _ {S : Type 0} where
     pub before : List (Act S)
     pub more : List (Act S)
     pub acts_are : acts ≡ before ++ more
-    pub went_on : IsReadAll s early held GoesOn front before
+    pub went_on : IsReadAll begun GoesOn front before
 
   -- the posts of all, up to what ends them; it ends them in the octets that were read last, or before anything was read
-  pub record IsReadToEnd (s : Serializer) (early : List Content) (held : List ℕ) (course : Course) (octets : List ℕ) (acts : List (Act S)) : Type 0 where
-    pub all : IsReadAll s early held course octets acts
-    pub last : (octets ≡ []) ⊎ EndsInLast s early held octets acts
+  pub record IsReadToEnd (begun : Start) (course : Course) (octets : List ℕ) (acts : List (Act S)) : Type 0 where
+    pub all : IsReadAll begun course octets acts
+    pub last : (octets ≡ []) ⊎ EndsInLast begun octets acts
 
   -- the posts of the first frames that the first of the octets give
-  pub record IsPart (s : Serializer) (early : List Content) (held : List ℕ) (octets : List ℕ) (acts : List (Act S)) : Type 0 where
+  pub record IsPart (begun : Start) (octets : List ℕ) (acts : List (Act S)) : Type 0 where
     pub front : List ℕ
     pub back : List ℕ
     pub octets_are : octets ≡ front ++ back
     pub frames : List Content
     pub new : List ℕ
-    pub reads : Reads (held ++ front) frames new
+    pub reads : Reads (begun.held ++ front) frames new
     pub done : List Content
     pub left : List Content
-    pub frames_are : early ++ frames ≡ done ++ left
-    pub posts : Posts s None done acts GoesOn
+    pub frames_are : begun.early ++ frames ≡ done ++ left
+    pub posts : Posts begun.serializer None done acts GoesOn
 
   -- none, or these
-  abbrev pub IsReadPartly : Serializer → List Content → List ℕ → List ℕ → List (Act S) → Type 0
-  IsReadPartly s early held octets acts = (acts ≡ []) ⊎ IsPart s early held octets acts
+  abbrev pub IsReadPartly : Start → List ℕ → List (Act S) → Type 0
+  IsReadPartly begun octets acts = (acts ≡ []) ⊎ IsPart begun octets acts
 
   -- and then that the client is gone
   pub record ThenGone (Before : List (Act S) → Type 0) (acts : List (Act S)) : Type 0 where
@@ -61,24 +86,24 @@ module _ {S : Type 0} where
     pub before : Before front
 
   -- by the reader's end
-  abbrev pub IsReadBy : Serializer → List Content → List ℕ → ReadEnd → List ℕ → List (Act S) → Type 0
-  IsReadBy s early held Left octets acts = IsReadToEnd s early held Leaves octets acts
-  IsReadBy s early held (Violation fault) octets acts = IsReadToEnd s early held (Breaks fault) octets acts
-  IsReadBy s early held Ended octets acts = ThenGone (IsReadAll s early held GoesOn octets) acts
-  IsReadBy s early held Device octets acts = ThenGone (IsReadAll s early held GoesOn octets) acts
-  IsReadBy s early held TooManyTurns octets acts = ThenGone (IsReadAll s early held GoesOn octets) acts
-  IsReadBy s early held NoMemory octets acts = ThenGone (IsReadPartly s early held octets) acts
-  IsReadBy s early held ActorGone octets acts = IsReadPartly s early held octets acts
+  abbrev pub IsReadBy : Start → ReadEnd → List ℕ → List (Act S) → Type 0
+  IsReadBy begun Left octets acts = IsReadToEnd begun Leaves octets acts
+  IsReadBy begun (Violation fault) octets acts = IsReadToEnd begun (Breaks fault) octets acts
+  IsReadBy begun Ended octets acts = ThenGone (IsReadAll begun GoesOn octets) acts
+  IsReadBy begun Device octets acts = ThenGone (IsReadAll begun GoesOn octets) acts
+  IsReadBy begun TooManyTurns octets acts = ThenGone (IsReadAll begun GoesOn octets) acts
+  IsReadBy begun NoMemory octets acts = ThenGone (IsReadPartly begun octets) acts
+  IsReadBy begun ActorGone octets acts = IsReadPartly begun octets acts
 
   -- by the reader's end, before it posts that the client is gone
-  abbrev pub IsReadUpTo : Serializer → List Content → List ℕ → ReadEnd → List ℕ → List (Act S) → Type 0
-  IsReadUpTo s early held Left octets acts = IsReadToEnd s early held Leaves octets acts
-  IsReadUpTo s early held (Violation fault) octets acts = IsReadToEnd s early held (Breaks fault) octets acts
-  IsReadUpTo s early held Ended octets acts = IsReadAll s early held GoesOn octets acts
-  IsReadUpTo s early held Device octets acts = IsReadAll s early held GoesOn octets acts
-  IsReadUpTo s early held TooManyTurns octets acts = IsReadAll s early held GoesOn octets acts
-  IsReadUpTo s early held NoMemory octets acts = IsReadPartly s early held octets acts
-  IsReadUpTo s early held ActorGone octets acts = IsReadPartly s early held octets acts
+  abbrev pub IsReadUpTo : Start → ReadEnd → List ℕ → List (Act S) → Type 0
+  IsReadUpTo begun Left octets acts = IsReadToEnd begun Leaves octets acts
+  IsReadUpTo begun (Violation fault) octets acts = IsReadToEnd begun (Breaks fault) octets acts
+  IsReadUpTo begun Ended octets acts = IsReadAll begun GoesOn octets acts
+  IsReadUpTo begun Device octets acts = IsReadAll begun GoesOn octets acts
+  IsReadUpTo begun TooManyTurns octets acts = IsReadAll begun GoesOn octets acts
+  IsReadUpTo begun NoMemory octets acts = IsReadPartly begun octets acts
+  IsReadUpTo begun ActorGone octets acts = IsReadPartly begun octets acts
 
   -- these octets were read, and these acts posted, since
   pub record ReadsSince (given_before given : List ℕ) (before now : List (Act S)) (Read : List ℕ → List (Act S) → Type 0) : Type 0 where
@@ -89,10 +114,10 @@ module _ {S : Type 0} where
     pub holds : Read octets acts
 
   -- all of them were posted since
-  pub record PostsAll (s : Serializer) (fault : Option stream.Fault) (frames : List Content) (course : Course) (before now : List (Act S)) : Type 0 where
+  pub record PostsAll (s : Serializer) (given : Batch) (course : Course) (before now : List (Act S)) : Type 0 where
     pub acts : List (Act S)
     pub posted : now ≡ before ++ acts
-    pub posts : Posts s fault frames acts course
+    pub posts : Posts s given.fault given.frames acts course
 
   -- those of the first frames were
   pub record PostsSome (s : Serializer) (frames : List Content) (before now : List (Act S)) : Type 0 where
@@ -104,23 +129,23 @@ module _ {S : Type 0} where
     pub posts : Posts s None done acts GoesOn
 
   -- by what ends it, if anything does
-  abbrev pub IsPosted : Serializer → Option stream.Fault → List Content → List (Act S) → List (Act S) → Result Unit ReadEnd → Type 0
-  IsPosted s fault frames before now (Ok _) = PostsAll s fault frames GoesOn before now
-  IsPosted s fault frames before now (Err Left) = PostsAll s fault frames Leaves before now
-  IsPosted s fault frames before now (Err (Violation broken)) = PostsAll s fault frames (Breaks broken) before now
-  IsPosted s fault frames before now (Err NoMemory) = PostsSome s frames before now
-  IsPosted s fault frames before now (Err ActorGone) = PostsSome s frames before now
-  IsPosted s fault frames before now (Err _) = ⊥
+  abbrev pub IsPosted : Serializer → Batch → List (Act S) → List (Act S) → Result Unit ReadEnd → Type 0
+  IsPosted s given before now (Ok _) = PostsAll s given GoesOn before now
+  IsPosted s given before now (Err Left) = PostsAll s given Leaves before now
+  IsPosted s given before now (Err (Violation broken)) = PostsAll s given (Breaks broken) before now
+  IsPosted s given before now (Err NoMemory) = PostsSome s given.frames before now
+  IsPosted s given before now (Err ActorGone) = PostsSome s given.frames before now
+  IsPosted s given before now (Err _) = ⊥
 
   -- a piece completes these frames, and they are posted behind the early ones
-  pub record Advances (s : Serializer) (early : List Content) (old piece new : List ℕ) (before now : List (Act S)) (result : Result Unit ReadEnd) : Type 0 where
+  pub record Advances (begun : Start) (read : Taking) (before now : List (Act S)) (result : Result Unit ReadEnd) : Type 0 where
     pub frames : List Content
-    pub reads : Reads (old ++ piece) frames new
-    pub posted : IsPosted s (fault_of new) (early ++ frames) before now result
+    pub reads : Reads (begun.held ++ read.octets) frames read.held
+    pub posted : IsPosted begun.serializer (batch (begun.early ++ frames) (fault_of read.held)) before now result
 
   -- or there was no memory for it, and nothing is posted
-  abbrev pub IsAdvance : Serializer → List Content → List ℕ → List ℕ → List ℕ → List (Act S) → List (Act S) → Result Unit ReadEnd → Type 0
-  IsAdvance s early old piece new before now result = Advances s early old piece new before now result ⊎ ((result ≡ Err NoMemory) × (now ≡ before))
+  abbrev pub IsAdvance : Start → Taking → List (Act S) → List (Act S) → Result Unit ReadEnd → Type 0
+  IsAdvance begun read before now result = Advances begun read before now result ⊎ ((result ≡ Err NoMemory) × (now ≡ before))
 
   -- that the client is gone is posted, or comes back
   abbrev pub GoesWith : ReadEnd → List (Act S) → List (Act S) → ReadEnd → Type 0

@@ -5,7 +5,7 @@ ghost use Rattle.rawsocket.specs.declared.handshake.Serializer.{Serializer};
 ghost use Rattle.rawsocket.specs.Steps.{WholeSteps, meter};
 ghost use Rattle.realm_inbox.specs.Joins.{is_join};
 ghost use Rattle.connection.specs.Posts.{Says, SaysNothing, is_farewell};
-ghost use Rattle.connection.specs.Reader.{IsPosted, IsAdvance, IsReadUpTo, IsReadBy, ReadsSince, ReadsUntil, Departs, read_told};
+ghost use Rattle.connection.specs.Reader.{IsPosted, IsAdvance, IsReadUpTo, IsReadBy, ReadsSince, ReadsUntil, Departs, batch, read_told, start, taking};
 
 use message_tree::Octets;
 use rawsocket::devices::{NoOctets, PIECE, Source, Turns, read_piece};
@@ -96,7 +96,8 @@ fn post_message<R: Wait, S: Shut, P: Posting<S>>(
     payload: &[u8],
     poster: &mut P,
 ) -> Result<(), ReadEnd>
-    ensures { IsPosted serializer None (record { kind = Kind.Message; payload = payload.now } ∷ [])
+    ensures { IsPosted serializer
+        (batch (record { kind = Kind.Message; payload = payload.now } ∷ []) None)
         (P.posted poster.old) (P.posted poster.new) result }
 {
     let said = match read_message(alloc, serializer, payload) {
@@ -127,7 +128,7 @@ fn post_frame<R: Wait, S: Shut, P: Posting<S>>(
     frame: Frame,
     poster: &mut P,
 ) -> Result<(), ReadEnd>
-    ensures { IsPosted serializer None (content frame ∷ []) (P.posted poster.old)
+    ensures { IsPosted serializer (batch (content frame ∷ []) None) (P.posted poster.old)
         (P.posted poster.new) result }
 {
     match frame.kind {
@@ -143,8 +144,8 @@ fn post_fault<R: Wait, S: Shut, P: Posting<S>>(
     fault: Option<rawsocket::Fault>,
     poster: &mut P,
 ) -> Result<(), ReadEnd>
-    ensures { (s : Serializer) → IsPosted s fault [] (P.posted poster.old) (P.posted poster.new)
-        result }
+    ensures { (s : Serializer) → IsPosted s (batch [] fault) (P.posted poster.old)
+        (P.posted poster.new) result }
 {
     let Some(fault) = fault else {
         return Ok(());
@@ -164,7 +165,7 @@ fn post_frames<R: Wait, S: Shut, P: Posting<S>>(
     fault: Option<rawsocket::Fault>,
     poster: &mut P,
 ) -> Result<(), ReadEnd>
-    ensures { IsPosted serializer fault (contents frames.items) (P.posted poster.old)
+    ensures { IsPosted serializer (batch (contents frames.items) fault) (P.posted poster.old)
         (P.posted poster.new) result }
 {
     let mut left = VecDeque::from_vec(frames);
@@ -186,8 +187,8 @@ fn advance<R: Wait, S: Shut, P: Posting<S>>(
     piece: &[u8],
     poster: &mut P,
 ) -> Result<(), ReadEnd>
-    ensures { IsAdvance serializer (contents early.items) deframer.old piece.now
-        deframer.new (P.posted poster.old) (P.posted poster.new) result }
+    ensures { IsAdvance (start serializer (contents early.items) deframer.old)
+        (taking piece.now deframer.new) (P.posted poster.old) (P.posted poster.new) result }
 {
     let fed = match deframer.feed(alloc, piece) {
         Ok(fed) => fed,
@@ -213,7 +214,8 @@ fn read_on<R: Wait, S: Shut, I: Source, P: Posting<S>>(
     requires some { 0 < length buffer.old }
     requires piece { length buffer.old ≤ 65536 }
     ensures posted { ReadsSince (I.given source.old) (I.given source.new) (P.posted poster.old)
-        (P.posted poster.new) (IsReadUpTo serializer (contents early.items) deframer result) }
+        (P.posted poster.new)
+        (IsReadUpTo (start serializer (contents early.items) deframer) result) }
     ensures ended { result ≡ ReadEnd.Ended → I.is_ended source.new ≡ true }
     ensures reads { WholeSteps (meter (I.calls source.old) (I.failures source.old))
         (meter (I.calls source.new) (I.failures source.new)) (read_told result) }
@@ -262,7 +264,8 @@ fn read_up_to<R: Wait, S: Shut, I: Source, P: Posting<S>>(
 ) -> ReadEnd
     ensures posted { ReadsSince (I.given source.old) (I.given source.new) (P.posted poster.old)
         (P.posted poster.new)
-        (IsReadUpTo opened.serializer (contents opened.early.items) opened.deframer result) }
+        (IsReadUpTo
+        (start opened.serializer (contents opened.early.items) opened.deframer) result) }
     ensures ended { result ≡ ReadEnd.Ended → I.is_ended source.new ≡ true }
     ensures reads { WholeSteps (meter (I.calls source.old) (I.failures source.old))
         (meter (I.calls source.new) (I.failures source.new)) (read_told result) }
@@ -298,7 +301,8 @@ pub fn read_posts<R: Wait, S: Shut, I: Source, P: Posting<S>>(
 ) -> ReadEnd
     ensures posted { ReadsSince (I.given source.old) (I.given source.new) (P.posted poster.old)
         (P.posted poster.new)
-        (IsReadBy opened.serializer (contents opened.early.items) opened.deframer result) }
+        (IsReadBy
+        (start opened.serializer (contents opened.early.items) opened.deframer) result) }
     ensures ended { result ≡ ReadEnd.Ended → I.is_ended source.new ≡ true }
     ensures reads { ReadsUntil (meter (I.calls source.old) (I.failures source.old))
         (meter (I.calls source.new) (I.failures source.new)) result }

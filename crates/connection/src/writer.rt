@@ -3,7 +3,7 @@ ghost use Rattle.std.specs.Prelude.{◌≡◌, ◌≤◌, ◌<◌, ◌++◌, ◌
 ghost use Rattle.rawsocket.specs.Devices.{GrowsByBeginning};
 ghost use Rattle.rawsocket.specs.Steps.{Steps, WholeSteps, meter, told_by};
 ghost use Rattle.connection.specs.Writer.{IsWrittenBy, WritesSince, IsLater, write_told};
-ghost use Rattle.connection.specs.body.Writer.{IsOfDevice, HandsOver, EndsBetween, EndsWith, AddsFrame, BreaksAt, Passes, EndsFrom};
+ghost use Rattle.connection.specs.body.Writer.{IsOfDevice, HandsOver, EndsBetween, EndsWith, AddsFrame, BreaksAt, Passes, EndsFrom, output};
 
 use outbox_queue::{Drain, Next, Owed, Waited};
 use rawsocket::Serializer;
@@ -21,7 +21,7 @@ const KEPT: usize = 131_072;
 /// Why a writer ended.
 #[derive(Clone, Copy, Debug, Drop, PartialEq, Eq)]
 pub enum WriteEnd {
-    /// The outbox was closed, and nothing was left in it. All items are written.
+    /// The outbox was found empty, and all items that were taken are written.
     Stopped,
     /// The device failed. A beginning of the frames of all items is written, in which less than 65,536 octets and one frame may lack.
     Device,
@@ -33,48 +33,73 @@ pub enum WriteEnd {
     TooManyTurns,
 }
 
-/// Hands what the buffer holds to the device. The buffer is empty then, and no large one is kept.
-fn hand_over<S: Sink>(
+/// For whom a writer writes: what the client asked for in its handshake.
+#[derive(Clone, Copy, Drop)]
+struct Client {
+    serializer: Serializer,
+    limit: u32,
+}
+
+/// Frames that a writer holds back, and the turns that it has left at its device.
+#[derive(Drop)]
+struct Gathered {
     alloc: Global,
-    sink: &mut S,
-    buffer: &mut Vec<u8>,
-    turns: &mut Turns,
-) -> Result<(), WriteEnd>
-    ensures passed { OnOk result (S.taken sink.new ≡ S.taken sink.old ++ buffer.old.items) }
-    ensures empty { OnOk result (buffer.new.items ≡ []) }
-    ensures begun { GrowsByBeginning (S.taken sink.old) (S.taken sink.new) buffer.old.items }
+    frames: Vec<u8>,
+    turns: Turns,
+}
+
+impl Gathered {
+    /// No frames, and all turns.
+    fn nothing(alloc: Global) -> Gathered
+        ensures frames { result.frames.items ≡ [] }
+        ensures turns { result.turns ≡ 4294967296 }
+    {
+        Gathered {
+            alloc,
+            frames: Vec::new(alloc),
+            turns: Turns::new(),
+        }
+    }
+}
+
+/// Hands what is gathered to the device. Nothing is gathered then, and no large buffer is kept.
+fn hand_over<S: Sink>(sink: &mut S, gathered: &mut Gathered) -> Result<(), WriteEnd>
+    ensures passed { OnOk result
+        (S.taken sink.new ≡ S.taken sink.old ++ gathered.old.frames.items) }
+    ensures empty { OnOk result (gathered.new.frames.items ≡ []) }
+    ensures begun { GrowsByBeginning (S.taken sink.old) (S.taken sink.new)
+        gathered.old.frames.items }
     ensures which { IfErr result IsOfDevice }
-    ensures steps { Steps (meter (S.calls sink.old) (S.failures sink.old) turns.old)
-        (meter (S.calls sink.new) (S.failures sink.new) turns.new) (told_by write_told result) }
+    ensures steps { Steps (meter (S.calls sink.old) (S.failures sink.old) gathered.old.turns)
+        (meter (S.calls sink.new) (S.failures sink.new) gathered.new.turns)
+        (told_by write_told result) }
 {
-    match write_all(sink, buffer.as_slice(), turns) {
+    match write_all(sink, gathered.frames.as_slice(), &mut gathered.turns) {
         Ok(()) => {}
         Err(rawsocket::Fault::WriteFault) => return Err(WriteEnd::Device),
         Err(_) => return Err(WriteEnd::TooManyTurns),
     }
-    if buffer.capacity() > KEPT {
-        *buffer = Vec::new(alloc);
+    if gathered.frames.capacity() > KEPT {
+        gathered.frames = Vec::new(gathered.alloc);
     } else {
-        buffer.clear();
+        gathered.frames.clear();
     }
     Ok(())
 }
 
-/// Hands over what the buffer holds, and tells the device to pass on what it holds itself.
-fn pass_on<S: Sink>(
-    alloc: Global,
-    sink: &mut S,
-    buffer: &mut Vec<u8>,
-    turns: &mut Turns,
-) -> Result<(), WriteEnd>
-    ensures passed { OnOk result (S.taken sink.new ≡ S.taken sink.old ++ buffer.old.items) }
-    ensures empty { OnOk result (buffer.new.items ≡ []) }
-    ensures begun { GrowsByBeginning (S.taken sink.old) (S.taken sink.new) buffer.old.items }
+/// Hands over what is gathered, and tells the device to pass on what it holds itself.
+fn pass_on<S: Sink>(sink: &mut S, gathered: &mut Gathered) -> Result<(), WriteEnd>
+    ensures passed { OnOk result
+        (S.taken sink.new ≡ S.taken sink.old ++ gathered.old.frames.items) }
+    ensures empty { OnOk result (gathered.new.frames.items ≡ []) }
+    ensures begun { GrowsByBeginning (S.taken sink.old) (S.taken sink.new)
+        gathered.old.frames.items }
     ensures which { IfErr result IsOfDevice }
-    ensures steps { Steps (meter (S.calls sink.old) (S.failures sink.old) turns.old)
-        (meter (S.calls sink.new) (S.failures sink.new) turns.new) (told_by write_told result) }
+    ensures steps { Steps (meter (S.calls sink.old) (S.failures sink.old) gathered.old.turns)
+        (meter (S.calls sink.new) (S.failures sink.new) gathered.new.turns)
+        (told_by write_told result) }
 {
-    if let Err(end) = hand_over(alloc, sink, buffer, turns) {
+    if let Err(end) = hand_over(sink, gathered) {
         return Err(end);
     }
     match sink.flush() {
@@ -83,32 +108,32 @@ fn pass_on<S: Sink>(
     }
 }
 
-/// Takes the next item. Where none waits, all that the buffer holds is passed on before the next one is waited for.
+/// Takes the next item. Where none waits, all that is gathered is passed on before the next one is waited for.
 fn next_item<R: Wait, H: Owed<Item>, S: Sink>(
     rt: &R,
-    alloc: Global,
     drain: &mut Drain<Item, H>,
     sink: &mut S,
-    buffer: &mut Vec<u8>,
-    turns: &mut Turns,
+    gathered: &mut Gathered,
 ) -> Result<Item, WriteEnd>
     ensures took { IfOk result (λ item. drain.new.taken ≡ drain.old.taken ++ item ∷ []) }
     ensures none { OnErr result (drain.new.taken ≡ drain.old.taken) }
     ensures drain { IsLater H.begins drain.old drain.new }
-    ensures held { OnOk result (HandsOver (S.taken sink.old) (S.taken sink.new) buffer.old.items
-        buffer.new.items) }
-    ensures ended { IfErr result (λ e. EndsBetween e (S.taken sink.old) (S.taken sink.new)
-        buffer.old.items) }
+    ensures held { OnOk result (HandsOver
+        (output (S.taken sink.old) gathered.old.frames.items)
+        (output (S.taken sink.new) gathered.new.frames.items)) }
+    ensures ended { IfErr result (λ e. EndsBetween e
+        (output (S.taken sink.old) gathered.old.frames.items) (S.taken sink.new)) }
     ensures stopped { result ≡ Err WriteEnd.Stopped
         → drain.old.empty_finds < drain.new.empty_finds }
-    ensures steps { Steps (meter (S.calls sink.old) (S.failures sink.old) turns.old)
-        (meter (S.calls sink.new) (S.failures sink.new) turns.new) (told_by write_told result) }
+    ensures steps { Steps (meter (S.calls sink.old) (S.failures sink.old) gathered.old.turns)
+        (meter (S.calls sink.new) (S.failures sink.new) gathered.new.turns)
+        (told_by write_told result) }
 {
     match drain.next(rt) {
         Next::Item(item) => return Ok(item),
         Next::Empty => {}
     }
-    if let Err(end) = pass_on(alloc, sink, buffer, turns) {
+    if let Err(end) = pass_on(sink, gathered) {
         return Err(end);
     }
     match drain.wait_next(rt) {
@@ -117,20 +142,16 @@ fn next_item<R: Wait, H: Owed<Item>, S: Sink>(
     }
 }
 
-/// The end for an item that can't be encoded. What the buffer holds is passed on.
-fn give_up<S: Sink>(
-    alloc: Global,
-    sink: &mut S,
-    buffer: &mut Vec<u8>,
-    turns: &mut Turns,
-    fault: Fault,
-) -> WriteEnd
+/// The end for an item that can't be encoded. What is gathered is passed on.
+fn give_up<S: Sink>(sink: &mut S, gathered: &mut Gathered, fault: Fault) -> WriteEnd
     requires { (fault ≡ Fault.NoMemory) ⊎ (fault ≡ Fault.TooLongForClient) }
-    ensures ended { EndsWith fault result (S.taken sink.old) (S.taken sink.new) buffer.old.items }
-    ensures steps { Steps (meter (S.calls sink.old) (S.failures sink.old) turns.old)
-        (meter (S.calls sink.new) (S.failures sink.new) turns.new) (write_told result) }
+    ensures ended { EndsWith fault result
+        (output (S.taken sink.old) gathered.old.frames.items) (S.taken sink.new) }
+    ensures steps { Steps (meter (S.calls sink.old) (S.failures sink.old) gathered.old.turns)
+        (meter (S.calls sink.new) (S.failures sink.new) gathered.new.turns)
+        (write_told result) }
 {
-    if let Err(end) = pass_on(alloc, sink, buffer, turns) {
+    if let Err(end) = pass_on(sink, gathered) {
         return end;
     }
     match fault {
@@ -139,65 +160,68 @@ fn give_up<S: Sink>(
     }
 }
 
-/// Makes the frame of an item behind what the buffer holds. That is handed over once it is long.
+/// Makes the frame of an item behind what is gathered. That is handed over once it is long.
 fn add_frame<S: Sink>(
-    alloc: Global,
     sink: &mut S,
-    serializer: Serializer,
-    limit: u32,
+    client: Client,
     item: &Item,
-    buffer: &mut Vec<u8>,
-    turns: &mut Turns,
+    gathered: &mut Gathered,
 ) -> Result<(), WriteEnd>
-    requires limit { limit ≤ 16777215 }
-    requires held { length buffer.old.items < 65536 }
-    ensures done { OnOk result (AddsFrame serializer limit item.now (S.taken sink.old)
-        (S.taken sink.new) buffer.old.items buffer.new.items) }
-    ensures ended { IfErr result (λ e. BreaksAt serializer limit e item.now (S.taken sink.old)
-        (S.taken sink.new) buffer.old.items) }
-    ensures steps { Steps (meter (S.calls sink.old) (S.failures sink.old) turns.old)
-        (meter (S.calls sink.new) (S.failures sink.new) turns.new) (told_by write_told result) }
+    requires limit { client.limit ≤ 16777215 }
+    requires held { length gathered.old.frames.items < 65536 }
+    ensures done { OnOk result (AddsFrame client item.now
+        (output (S.taken sink.old) gathered.old.frames.items)
+        (output (S.taken sink.new) gathered.new.frames.items)) }
+    ensures ended { IfErr result (λ e. BreaksAt client e item.now
+        (output (S.taken sink.old) gathered.old.frames.items) (S.taken sink.new)) }
+    ensures steps { Steps (meter (S.calls sink.old) (S.failures sink.old) gathered.old.turns)
+        (meter (S.calls sink.new) (S.failures sink.new) gathered.new.turns)
+        (told_by write_told result) }
 {
-    if let Err(fault) = write_item(alloc, serializer, limit, item, buffer) {
-        return Err(give_up(alloc, sink, buffer, turns, fault));
+    if let Err(fault) = write_item(
+        gathered.alloc,
+        client.serializer,
+        client.limit,
+        item,
+        &mut gathered.frames,
+    ) {
+        return Err(give_up(sink, gathered, fault));
     }
-    if buffer.len() < HELD {
+    if gathered.frames.len() < HELD {
         return Ok(());
     }
-    hand_over(alloc, sink, buffer, turns)
+    hand_over(sink, gathered)
 }
 
 /// Takes the next item, and makes its frame.
 fn write_next<R: Wait, H: Owed<Item>, S: Sink>(
     rt: &R,
-    alloc: Global,
     drain: &mut Drain<Item, H>,
     sink: &mut S,
-    serializer: Serializer,
-    limit: u32,
-    buffer: &mut Vec<u8>,
-    turns: &mut Turns,
+    client: Client,
+    gathered: &mut Gathered,
 ) -> Result<(), WriteEnd>
-    requires limit { limit ≤ 16777215 }
-    requires held { length buffer.old.items < 65536 }
+    requires limit { client.limit ≤ 16777215 }
+    requires held { length gathered.old.frames.items < 65536 }
     ensures done { OnOk result (WritesSince drain.old.taken
         drain.new.taken (S.taken sink.old) (S.taken sink.new)
-        (Passes serializer limit buffer.old.items buffer.new.items)) }
-    ensures held { OnOk result (length buffer.new.items < 65536) }
+        (Passes client gathered.old.frames.items gathered.new.frames.items)) }
+    ensures held { OnOk result (length gathered.new.frames.items < 65536) }
     ensures ended { IfErr result (λ e. WritesSince drain.old.taken
         drain.new.taken (S.taken sink.old) (S.taken sink.new)
-        (EndsFrom serializer limit e buffer.old.items)) }
+        (EndsFrom client e gathered.old.frames.items)) }
     ensures drain { IsLater H.begins drain.old drain.new }
     ensures stopped { result ≡ Err WriteEnd.Stopped
         → drain.old.empty_finds < drain.new.empty_finds }
-    ensures steps { Steps (meter (S.calls sink.old) (S.failures sink.old) turns.old)
-        (meter (S.calls sink.new) (S.failures sink.new) turns.new) (told_by write_told result) }
+    ensures steps { Steps (meter (S.calls sink.old) (S.failures sink.old) gathered.old.turns)
+        (meter (S.calls sink.new) (S.failures sink.new) gathered.new.turns)
+        (told_by write_told result) }
 {
-    let item = match next_item(rt, alloc, drain, sink, buffer, turns) {
+    let item = match next_item(rt, drain, sink, gathered) {
         Ok(item) => item,
         Err(end) => return Err(end),
     };
-    add_frame(alloc, sink, serializer, limit, &item, buffer, turns)
+    add_frame(sink, client, &item, gathered)
 }
 
 /// Takes items and writes their frames, one after another, until the outbox is closed and nothing is left in it, or something fails.
@@ -224,19 +248,10 @@ pub fn write_items<R: Wait, H: Owed<Item>, S: Sink>(
         (meter (S.calls sink.new) (S.failures sink.new)) (write_told result.1) }
 {
     let mut drain = drain;
-    let mut buffer = Vec::new(alloc);
-    let mut turns = Turns::new();
+    let mut gathered = Gathered::nothing(alloc);
     'items: for _ in rt.forever() {
-        if let Err(end) = write_next(
-            rt,
-            alloc,
-            &mut drain,
-            sink,
-            serializer,
-            limit,
-            &mut buffer,
-            &mut turns,
-        ) {
+        let client = Client { serializer, limit };
+        if let Err(end) = write_next(rt, &mut drain, sink, client, &mut gathered) {
             return (drain, end);
         }
     }

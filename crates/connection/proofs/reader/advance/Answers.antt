@@ -1,7 +1,7 @@
 use Rattle.std.proofs.Common.{◌++◌, inl, subst, Option}
 use Rattle.rawsocket.specs.Frames.{contents, fault_of}
 use Rattle.rawsocket.specs.declared.fault.Fault.{Fault}
-use Rattle.connection.specs.Reader.{IsPosted}
+use Rattle.connection.specs.Reader.{IsPosted, batch}
 use Rattle.connection.proofs.FramesPosted.{Halfway-of, Halfway-rest, longer_ends}
 use Rattle.connection.proofs.reader.advance.Goals as goal
 
@@ -11,7 +11,7 @@ returns g c =
     inl (record {
       frames = contents c.in-Ok.fed.frames.items;
       reads = c.in-Ok.ensures.reads;
-      posted = subst (λ (f : Option Fault). IsPosted c.args.serializer f (contents c.args.early.items ++ contents c.in-Ok.fed.frames.items) (g.P.Posting.posted c.args.poster.now) (g.P.Posting.posted c.post_frames-2.new.poster) c.post_frames-2.result)
+      posted = subst (λ (f : Option Fault). IsPosted c.args.serializer (batch (contents c.args.early.items ++ contents c.in-Ok.fed.frames.items) f) (g.P.Posting.posted c.args.poster.now) (g.P.Posting.posted c.post_frames-2.new.poster) c.post_frames-2.result)
           c.in-Ok.ensures.fault
           (Halfway-rest c.args.serializer c.post_frames-2.result c.in-Ok.fed.fault (contents c.args.early.items ++ contents c.in-Ok.fed.frames.items) (contents c.in-Ok.fed.frames.items) (g.P.Posting.posted c.args.poster.now)
           (g.P.Posting.posted c.post_frames.new.poster) (g.P.Posting.posted c.post_frames-2.new.poster) all c.post_frames-2.ensures);

@@ -2,7 +2,7 @@ use Rattle.std.proofs.Common.{ap, subst, take, Ok, Err, List, [], arith}
 use Rattle.std.proofs.lemmas.List.{length-take-le}
 use Rattle.rawsocket.specs.Frames.{contents}
 use Rattle.rawsocket.specs.declared.frame.Frame.{Frame}
-use Rattle.connection.specs.Reader.{IsAdvance}
+use Rattle.connection.specs.Reader.{IsAdvance, start, taking}
 use Rattle.rawsocket.proofs.Lemmas.{all_turns, no_steps, then_steps, told_fine}
 use Rattle.connection.proofs.ReaderProgress.{Onward-start, Onward-more, Onward-ends, Onward-stops, early_ends, piece_ended, piece_steps, posting_told}
 use Rattle.connection.proofs.reader.read_on.Goals as goal
@@ -17,7 +17,7 @@ pub pieces-preserved : goal.pieces-preserved
 pieces-preserved g c = record {
   onward = Onward-more c.args.serializer (contents c.args.early.items) c.args.deframer (g.I.Source.given c.args.source.now) (g.I.Source.given c.pieces.source) (g.I.Source.given c.read_piece.new.source) (take c.in-Ok.count c.read_piece.new.buffer)
       (g.P.Posting.posted c.args.poster.now) (g.P.Posting.posted c.pieces.poster) (g.P.Posting.posted c.advance-in-pieces.new.poster) c.pieces.deframer c.advance-in-pieces.new.deframer c.pieces.invariant.onward c.in-Ok.ensures.given
-      (subst (λ (fs : List Frame). IsAdvance c.args.serializer (contents fs) c.pieces.deframer (take c.in-Ok.count c.read_piece.new.buffer) c.advance-in-pieces.new.deframer (g.P.Posting.posted c.pieces.poster) (g.P.Posting.posted c.advance-in-pieces.new.poster) (Ok tt))
+      (subst (λ (fs : List Frame). IsAdvance (start c.args.serializer (contents fs) c.pieces.deframer) (taking (take c.in-Ok.count c.read_piece.new.buffer) c.advance-in-pieces.new.deframer) (g.P.Posting.posted c.pieces.poster) (g.P.Posting.posted c.advance-in-pieces.new.poster) (Ok tt))
       c.new-none.ensures.items c.in_default-advance.ensures);
   steps = then_steps c.pieces.invariant.steps c.in-Ok.ensures.steps;
 }
@@ -36,7 +36,7 @@ returns-in-Err-advance-clause-posted g c =
     Onward-ends c.args.serializer (contents c.args.early.items) c.args.deframer c.in-Err-advance.end (g.I.Source.given c.args.source.now) (g.I.Source.given c.pieces.source) (g.I.Source.given c.read_piece.new.source) (take c.in-Ok.count c.read_piece.new.buffer)
     (g.P.Posting.posted c.args.poster.now) (g.P.Posting.posted c.pieces.poster) (g.P.Posting.posted c.advance-in-pieces.new.poster) c.pieces.deframer c.advance-in-pieces.new.deframer c.pieces.invariant.onward c.in-Ok.ensures.given
     (omega (arith, length-take-le c.in-Ok.count c.read_piece.new.buffer c.in-Ok.ensures.within, c.in-Ok.ensures.within, c.requires.piece, c.read_piece.auto.buffer, c.pieces.auto.buffer))
-    (subst (λ (fs : List Frame). IsAdvance c.args.serializer (contents fs) c.pieces.deframer (take c.in-Ok.count c.read_piece.new.buffer) c.advance-in-pieces.new.deframer (g.P.Posting.posted c.pieces.poster) (g.P.Posting.posted c.advance-in-pieces.new.poster) (Err c.in-Err-advance.end))
+    (subst (λ (fs : List Frame). IsAdvance (start c.args.serializer (contents fs) c.pieces.deframer) (taking (take c.in-Ok.count c.read_piece.new.buffer) c.advance-in-pieces.new.deframer) (g.P.Posting.posted c.pieces.poster) (g.P.Posting.posted c.advance-in-pieces.new.poster) (Err c.in-Err-advance.end))
     c.new-none.ensures.items c.in-Err-advance.ensures)
 
 pub returns-in-Err-clause-reads : goal.returns-in-Err-clause-reads

@@ -6,16 +6,16 @@ use Rattle.connection.proofs.writer.write_items.Goals as goal
 
 pub items-init : goal.items-init
 items-init g c = record {
-  done = none_so_far c.args.serializer c.args.limit c.args.drain.taken (g.S.Sink.taken c.args.sink.now) c.new-buffer.result.items c.new-buffer.ensures.items;
-  held = omega (arith, ap length c.new-buffer.ensures.items);
+  done = none_so_far (record { serializer = c.args.serializer; limit = c.args.limit }) c.args.drain.taken (g.S.Sink.taken c.args.sink.now) c.nothing-gathered.result.frames.items c.nothing-gathered.ensures.frames;
+  held = omega (arith, ap length c.nothing-gathered.ensures.frames);
   later = same_is_later g.H.Owed.begins g.H.Owed.begins_itself c.args.drain;
-  steps = all_turns c.new-turns.ensures;
+  steps = all_turns c.nothing-gathered.ensures.turns;
 }
 
 pub items-preserved : goal.items-preserved
 items-preserved g c = record {
-  done = then_passes c.args.serializer c.args.limit c.args.drain.taken c.items.drain.taken c.write_next.new.drain.taken (g.S.Sink.taken c.args.sink.now) (g.S.Sink.taken c.items.sink) (g.S.Sink.taken c.write_next.new.sink)
-      c.items.buffer.items c.write_next.new.buffer.items c.items.invariant.done c.in_default.ensures.done;
+  done = then_passes (record { serializer = c.args.serializer; limit = c.args.limit }) c.args.drain.taken c.items.drain.taken c.write_next.new.drain.taken (g.S.Sink.taken c.args.sink.now) (g.S.Sink.taken c.items.sink) (g.S.Sink.taken c.write_next.new.sink)
+      c.items.gathered.frames.items c.write_next.new.gathered.frames.items c.items.invariant.done c.in_default.ensures.done;
   held = c.in_default.ensures.held;
   later = later_still g.H.Owed.begins g.H.Owed.begins_on c.args.drain c.items.drain c.write_next.new.drain c.items.invariant.later c.in_default.ensures.drain;
   steps = then_steps c.items.invariant.steps c.in_default.ensures.steps;
@@ -23,8 +23,8 @@ items-preserved g c = record {
 
 pub returns-in-Err-clause-written : goal.returns-in-Err-clause-written
 returns-in-Err-clause-written g c =
-    then_ends c.args.serializer c.args.limit c.in-Err.end c.args.drain.taken c.items.drain.taken c.write_next.new.drain.taken (g.S.Sink.taken c.args.sink.now) (g.S.Sink.taken c.items.sink) (g.S.Sink.taken c.write_next.new.sink)
-    c.items.buffer.items c.items.invariant.done c.in-Err.ensures.ended
+    then_ends (record { serializer = c.args.serializer; limit = c.args.limit }) c.in-Err.end c.args.drain.taken c.items.drain.taken c.write_next.new.drain.taken (g.S.Sink.taken c.args.sink.now) (g.S.Sink.taken c.items.sink) (g.S.Sink.taken c.write_next.new.sink)
+    c.items.gathered.frames.items c.items.invariant.done c.in-Err.ensures.ended
 
 pub returns-in-Err-clause-drain : goal.returns-in-Err-clause-drain
 returns-in-Err-clause-drain g c = later_still g.H.Owed.begins g.H.Owed.begins_on c.args.drain c.items.drain c.write_next.new.drain c.items.invariant.later c.in-Err.ensures.drain
@@ -33,4 +33,4 @@ pub returns-in-Err-clause-stopped : goal.returns-in-Err-clause-stopped
 returns-in-Err-clause-stopped g c = λ stopped. let rose = c.in-Err.ensures.stopped (ap Err stopped) in omega (arith, rose, c.items.invariant.later.finds)
 
 pub returns-in-Err-clause-writes : goal.returns-in-Err-clause-writes
-returns-in-Err-clause-writes g c = record { left = c.write_next.new.turns; steps = then_steps c.items.invariant.steps c.in-Err.ensures.steps }
+returns-in-Err-clause-writes g c = record { left = c.write_next.new.gathered.turns; steps = then_steps c.items.invariant.steps c.in-Err.ensures.steps }

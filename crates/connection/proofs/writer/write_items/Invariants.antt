@@ -6,8 +6,8 @@ use Rattle.connection.proofs.writer.write_items.Given as goal
 
 abbrev pub invariant-items : goal.invariant-items
 invariant-items g l = record {
-  done : WritesSince l.fn.drain.taken l.drain.taken (g.S.Sink.taken l.fn.sink) (g.S.Sink.taken l.sink) (Passes l.serializer l.limit [] l.buffer.items);
-  held : length l.buffer.items < 65536;
+  done : WritesSince l.fn.drain.taken l.drain.taken (g.S.Sink.taken l.fn.sink) (g.S.Sink.taken l.sink) (Passes (record { serializer = l.serializer; limit = l.limit }) [] l.gathered.frames.items);
+  held : length l.gathered.frames.items < 65536;
   later : IsLater g.H.Owed.begins l.fn.drain l.drain;
-  steps : Steps (meter (g.S.Sink.calls l.fn.sink) (g.S.Sink.failures l.fn.sink) 4294967296) (meter (g.S.Sink.calls l.sink) (g.S.Sink.failures l.sink) l.turns) Fine;
+  steps : Steps (meter (g.S.Sink.calls l.fn.sink) (g.S.Sink.failures l.fn.sink) 4294967296) (meter (g.S.Sink.calls l.sink) (g.S.Sink.failures l.sink) l.gathered.turns) Fine;
 }
