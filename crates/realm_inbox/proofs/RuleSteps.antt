@@ -15,7 +15,7 @@ use Rattle.realm_inbox.specs.declared.letter.Post.TheVariants.{Act, Stop}
 use Rattle.realm_inbox.specs.declared.rule.View.{View}
 use Rattle.realm_inbox.specs.declared.rule.View.TheVariants.{Reader, Seat, Door, Both, Nobody}
 use Rattle.realm_inbox.specs.Seats.{before, said, adds_at, at_seat, adds_stops, stops_of, IsNext, InOrder}
-use Rattle.realm_inbox.specs.InTurn.{fresh, new_door, after_post, after_stop, nobody, Agrees, Receipt, Fits, Keeps}
+use Rattle.realm_inbox.specs.InTurn.{fresh, new_door, after_post, after_stop, nobody, Agrees, Receipt, dealt, Fits, Keeps}
 
 module _ {A : Type 0} where
   -- a fact of each place of a list and of what stands there
@@ -70,7 +70,7 @@ module _ {S : Type 0} where
 
   -- a view still fits where neither its seat nor, if it is the door's, the stops have grown
   fits_all : (got all all' : List (Post S)) (owner : ℕ → ℕ) (reader next j : ℕ) (u : View S) → ((k : ℕ) → j ≡ owner k → at_seat k all' ≡ at_seat k all) → (j ≡ owner 0 → stops_of all' ≡ stops_of all)
-      → Fits got all owner reader next j u → Fits got all' owner reader next j u
+      → Fits (dealt got all owner reader next) j u → Fits (dealt got all' owner reader next) j u
   fits_all got all all' owner reader next j (Reader n r) same stops f = f
   fits_all got all all' owner reader next j (Seat k posted) same stops f = (f.0, f.1, f.2 ∙ sym (same k f.0))
   fits_all got all all' owner reader next j (Door n) same stops f = (f.0, f.1, f.2 ∙ sym (stops f.0))
@@ -83,7 +83,7 @@ module _ {S : Type 0} where
     owner = λ k. 0;
     reader = 0;
     next = 0;
-    each_view = joined (Fits [] [] (λ k. 0) 0 0) [] fresh (λ j u e. absurd (some-ne-none u (sym e))) (refl, refl, refl);
+    each_view = joined (Fits (dealt [] [] (λ k. 0) 0 0)) [] fresh (λ j u e. absurd (some-ne-none u (sym e))) (refl, refl, refl);
     no_post = λ k h. refl;
     no_stop = λ e. refl;
     in_order = tt;
@@ -99,7 +99,7 @@ module _ {S : Type 0} where
       let more : (j : ℕ) → at_seat j all' ≡ at_seat j all ++ adds_at j (Act l) = λ j. ap (λ t. at_seat j t) grown ∙ at_seat_snoc j all (Act l) in
       let same : (j : ℕ) → seat_of l.conn ≢ j → at_seat j all' ≡ at_seat j all = λ j n. more j ∙ ap (λ t. at_seat j all ++ t) (adds_elsewhere j l n) ∙ append-nil (at_seat j all) in
       let no_more : stops_of all' ≡ stops_of all = let e = ap (λ t. stops_of t) grown ∙ stops_snoc all (Act l) in omega (arith, e) in
-      let F = Fits h.got all h.owner h.reader h.next in let G = Fits h.got all' h.owner h.reader h.next in (
+      let F = Fits (dealt h.got all h.owner h.reader h.next) in let G = Fits (dealt h.got all' h.owner h.reader h.next) in (
         w,
         record {
           got = h.got;
@@ -124,7 +124,7 @@ module _ {S : Type 0} where
       let grown : all' ≡ all ++ Stop halt ∷ [] = sym (append_assoc h.got items (Stop halt ∷ [])) in
       let same : (j : ℕ) → at_seat j all' ≡ at_seat j all = λ j. ap (λ t. at_seat j t) grown ∙ at_seat_snoc j all (Stop halt) ∙ append-nil (at_seat j all) in
       let more : stops_of all' ≡ stops_of all + 1 = ap (λ t. stops_of t) grown ∙ stops_snoc all (Stop halt) in
-      let F = Fits h.got all h.owner h.reader h.next in let G = Fits h.got all' h.owner h.reader h.next in (
+      let F = Fits (dealt h.got all h.owner h.reader h.next) in let G = Fits (dealt h.got all' h.owner h.reader h.next) in (
         w,
         record {
           got = h.got;
@@ -141,7 +141,7 @@ module _ {S : Type 0} where
       )
 
   -- the other views, where the reader got one more
-  fits_got : (got got' all all' : List (Post S)) (owner : ℕ → ℕ) (reader next j : ℕ) (u : View S) → j ≢ reader → all' ≡ all → Fits got all owner reader next j u → Fits got' all' owner reader next j u
+  fits_got : (got got' all all' : List (Post S)) (owner : ℕ → ℕ) (reader next j : ℕ) (u : View S) → j ≢ reader → all' ≡ all → Fits (dealt got all owner reader next) j u → Fits (dealt got' all' owner reader next) j u
   fits_got got got' all all' owner reader next j (Reader n r) other is f = absurd (other f.0)
   fits_got got got' all all' owner reader next j (Seat k posted) other is f = (f.0, f.1, f.2 ∙ ap (λ t. at_seat k t) (sym is))
   fits_got got got' all all' owner reader next j (Door n) other is f = (f.0, f.1, f.2 ∙ ap (λ t. stops_of t) (sym is))
@@ -154,7 +154,7 @@ module _ {S : Type 0} where
       let w : View S = Reader n (r ++ x ∷ []) in
       let got' : List (Post S) = h.got ++ x ∷ [] in
       let is : got' ++ items ≡ h.got ++ (x ∷ items) = append_assoc h.got (x ∷ []) items in
-      let F = Fits h.got (h.got ++ (x ∷ items)) h.owner h.reader h.next in let G = Fits got' (got' ++ items) h.owner h.reader h.next in (
+      let F = Fits (dealt h.got (h.got ++ (x ∷ items)) h.owner h.reader h.next) in let G = Fits (dealt got' (got' ++ items) h.owner h.reader h.next) in (
         w,
         record {
           got = got';
@@ -171,7 +171,7 @@ module _ {S : Type 0} where
       )
 
   -- the other views, where the next number was cut
-  fits_cut : (got all : List (Post S)) (owner : ℕ → ℕ) (reader next new j : ℕ) (u : View S) → j ≢ reader → Fits got all owner reader next j u → Fits got all (λ k. cond (eqb k next) new (owner k)) reader (next + 1) j u
+  fits_cut : (got all : List (Post S)) (owner : ℕ → ℕ) (reader next new j : ℕ) (u : View S) → j ≢ reader → Fits (dealt got all owner reader next) j u → Fits (dealt got all (λ k. cond (eqb k next) new (owner k)) reader (next + 1)) j u
   fits_cut got all owner reader next new j (Reader n r) other f = absurd (other f.0)
   fits_cut got all owner reader next new j (Seat k posted) other f =
       (f.0 ∙ ap (λ b. cond b new (owner k)) (sym (ne_eqb k next (λ e. absurd (omega (arith, e, f.1))))), omega (arith, f.1), f.2)
@@ -182,7 +182,7 @@ module _ {S : Type 0} where
 
   -- a view is cut for the next number, which fits where nothing was posted under it
   cuts_next : (pass n : ℕ) (r : List (Post S)) (v : View S)
-      → ((got all : List (Post S)) (owner : ℕ → ℕ) (reader j : ℕ) → owner n ≡ j → at_seat n all ≡ [] → (n ≡ 0 → stops_of all ≡ 0) → Fits got all owner reader (n + 1) j v)
+      → ((got all : List (Post S)) (owner : ℕ → ℕ) (reader j : ℕ) → owner n ≡ j → at_seat n all ≡ [] → (n ≡ 0 → stops_of all ≡ 0) → Fits (dealt got all owner reader (n + 1)) j v)
       → Forks Keeps pass (Reader n r) (Reader (n + 1) r) v
   cuts_next pass n r v fits items views h at =
       let mine = h.each_view pass (Reader n r) at in
@@ -191,17 +191,17 @@ module _ {S : Type 0} where
       let vs : List (View S) = set views pass left in
       let owner' : ℕ → ℕ = λ k. cond (eqb k h.next) (length vs) (h.owner k) in
       let here : eqb n h.next ≡ true = eq-eqb n h.next mine.1 in
-      let F = Fits h.got all h.owner h.reader h.next in let G = Fits h.got all owner' h.reader (h.next + 1) in
+      let F = Fits (dealt h.got all h.owner h.reader h.next) in let G = Fits (dealt h.got all owner' h.reader (h.next + 1)) in
       let old = changed F G views pass left h.each_view (mine.0, ap (λ t. t + 1) mine.1, mine.2)
       (λ j u other f. fits_cut h.got all h.owner h.reader h.next (length vs) j u (λ b. other (b ∙ sym mine.0)) f) in
-      let new : Fits h.got all owner' h.reader (n + 1) (length vs) v =
+      let new : Fits (dealt h.got all owner' h.reader (n + 1)) (length vs) v =
       fits h.got all owner' h.reader (length vs) (ap (λ b. cond b (length vs) (h.owner n)) here) (h.no_post n (omega (arith, mine.1))) (λ e. h.no_stop (sym mine.1 ∙ e)) in
       record {
         got = h.got;
         owner = owner';
         reader = h.reader;
         next = h.next + 1;
-        each_view = joined G vs v old (subst (λ k. Fits h.got all owner' h.reader k (length vs) v) (ap (λ t. t + 1) mine.1) new);
+        each_view = joined G vs v old (subst (λ k. Fits (dealt h.got all owner' h.reader k) (length vs) v) (ap (λ t. t + 1) mine.1) new);
         no_post = λ k le. h.no_post k (omega (arith, le));
         no_stop = λ e. absurd (omega (arith, e));
         in_order = h.in_order;
@@ -214,8 +214,8 @@ module _ {S : Type 0} where
   cuts_new_door pass r = cuts_next pass 0 r new_door (λ got all owner reader j own none no. (sym own, omega arith, sym (no refl)))
 
   -- the other views, where the seat k has another pass
-  fits_moved : (got all : List (Post S)) (owner : ℕ → ℕ) (reader next k new j : ℕ) (u : View S) → j ≢ owner k → Fits got all owner reader next j u
-      → Fits got all (λ i. cond (eqb i k) new (owner i)) reader next j u
+  fits_moved : (got all : List (Post S)) (owner : ℕ → ℕ) (reader next k new j : ℕ) (u : View S) → j ≢ owner k → Fits (dealt got all owner reader next) j u
+      → Fits (dealt got all (λ i. cond (eqb i k) new (owner i)) reader next) j u
   fits_moved got all owner reader next k new j (Reader n r) other f = f
   fits_moved got all owner reader next k new j (Seat i posted) other f =
       (f.0 ∙ ap (λ b. cond b new (owner i)) (sym (ne_eqb i k (λ e. other (f.0 ∙ ap owner e)))), f.1, f.2)
@@ -231,8 +231,8 @@ module _ {S : Type 0} where
 
   -- a view that has a seat's gives that to a new pass
   gives_seat : (pass k : ℕ) (posted : List (ℕ × the.Act S)) (v left : View S)
-      → ((got all : List (Post S)) (owner : ℕ → ℕ) (reader next : ℕ) → Fits got all owner reader next pass v → IsOf all owner next pass k posted)
-      → ((got all : List (Post S)) (owner owner' : ℕ → ℕ) (reader next : ℕ) → Fits got all owner reader next pass v → Fits got all owner' reader next pass left)
+      → ((got all : List (Post S)) (owner : ℕ → ℕ) (reader next : ℕ) → Fits (dealt got all owner reader next) pass v → IsOf all owner next pass k posted)
+      → ((got all : List (Post S)) (owner owner' : ℕ → ℕ) (reader next : ℕ) → Fits (dealt got all owner reader next) pass v → Fits (dealt got all owner' reader next) pass left)
       → Forks Keeps pass v left (Seat k posted)
   gives_seat pass k posted v left own rest items views h at =
       let all : List (Post S) = h.got ++ items in
@@ -240,8 +240,8 @@ module _ {S : Type 0} where
       let owner' : ℕ → ℕ = λ i. cond (eqb i k) (length vs) (h.owner i) in
       let fits = h.each_view pass v at in
       let mine = own h.got all h.owner h.reader h.next fits in
-      let F = Fits h.got all h.owner h.reader h.next in
-      let G = Fits h.got all owner' h.reader h.next in
+      let F = Fits (dealt h.got all h.owner h.reader h.next) in
+      let G = Fits (dealt h.got all owner' h.reader h.next) in
       let old = changed F G views pass left h.each_view (rest h.got all h.owner owner' h.reader h.next fits)
       (λ j u apart f. fits_moved h.got all h.owner h.reader h.next k (length vs) j u (λ e. apart (e ∙ sym mine.0)) f) in
       record {
@@ -257,7 +257,7 @@ module _ {S : Type 0} where
 
   -- a view takes in a seat's
   takes_seat : (pass other k : ℕ) (posted : List (ℕ × the.Act S)) (v both : View S)
-      → ((got all : List (Post S)) (owner owner' : ℕ → ℕ) (reader next : ℕ) → Fits got all owner reader next pass v → IsOf all owner' next pass k posted → Fits got all owner' reader next pass both)
+      → ((got all : List (Post S)) (owner owner' : ℕ → ℕ) (reader next : ℕ) → Fits (dealt got all owner reader next) pass v → IsOf all owner' next pass k posted → Fits (dealt got all owner' reader next) pass both)
       → Merges Keeps pass v other (Seat k posted) both nobody
   takes_seat pass other k posted v both fit items views h at two at' =
       let all : List (Post S) = h.got ++ items in
@@ -265,8 +265,8 @@ module _ {S : Type 0} where
       let owner' : ℕ → ℕ = λ i. cond (eqb i k) pass (h.owner i) in
       let was : get_elem? views other ≡ some (Seat k posted) = ⊎_elim (λ x. absurd (two x.0)) (λ x. x.1) (at_set views pass other both (Seat k posted) at') in
       let seat = h.each_view other (Seat k posted) was in
-      let F = Fits h.got all h.owner h.reader h.next in
-      let G = Fits h.got all owner' h.reader h.next in
+      let F = Fits (dealt h.got all h.owner h.reader h.next) in
+      let G = Fits (dealt h.got all owner' h.reader h.next) in
       let H : ℕ → View S → Type 0 = λ j u. j ≢ other → G j u in
       let here : G pass both = fit h.got all h.owner owner' h.reader h.next (h.each_view pass v at) (owner_here h.owner k pass, seat.1, seat.2) in
       let now = changed F H views pass both h.each_view (λ _. here)

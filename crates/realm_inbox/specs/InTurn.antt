@@ -8,6 +8,14 @@ use Rattle.realm_inbox.specs.declared.rule.View.{View}
 use Rattle.realm_inbox.specs.declared.rule.View.TheVariants.{Reader, Seat, Door, Both, Nobody}
 use Rattle.realm_inbox.specs.Seats.{adds_at, at_seat, stops_of, IsNext, InOrder}
 
+-- how an inbox stands: what was received of it and what was posted there, which seat has which pass, which is the reader's, and the next number to be cut
+pub record Deal (S : Type 0) : Type 0 where
+  pub got : List (Post S)
+  pub all : List (Post S)
+  pub owner : ℕ → ℕ
+  pub reader : ℕ
+  pub next : ℕ
+
 module _ {S : Type 0} where
   -- the view of the first pass, from which the door and the seats are cut
   abbrev pub fresh : View S
@@ -98,21 +106,24 @@ module _ {S : Type 0} where
   Receipt (Both n got k posted) p w = Unit {0}
   Receipt Nobody p w = Unit {0}
 
+  abbrev pub dealt : List (Post S) → List (Post S) → (ℕ → ℕ) → ℕ → ℕ → Deal S
+  dealt got all owner reader next = record { got = got; all = all; owner = owner; reader = reader; next = next }
+
   -- The numbers below `next` were cut. The seat k has the pass `owner k`, and what was posted there is at_seat k of `all`; the door has the pass `owner 0`
-  abbrev pub Fits : List (Post S) → List (Post S) → (ℕ → ℕ) → ℕ → ℕ → ℕ → View S → Type 0
-  Fits got all owner reader next pass (Reader n r) = (pass ≡ reader) × (n ≡ next) × (r ≡ got)
-  Fits got all owner reader next pass (Seat k posted) = (pass ≡ owner k) × (k < next) × (posted ≡ at_seat k all)
-  Fits got all owner reader next pass (Door n) = (pass ≡ owner 0) × (0 < next) × (n ≡ stops_of all)
-  Fits got all owner reader next pass (Both n r k posted) =
-      ((pass ≡ reader) × (n ≡ next) × (r ≡ got)) × (pass ≡ owner k) × (k < next) × (posted ≡ at_seat k all)
-  Fits got all owner reader next pass Nobody = Unit {0}
+  abbrev pub Fits : Deal S → ℕ → View S → Type 0
+  Fits d pass (Reader n r) = (pass ≡ d.reader) × (n ≡ d.next) × (r ≡ d.got)
+  Fits d pass (Seat k posted) = (pass ≡ d.owner k) × (k < d.next) × (posted ≡ at_seat k d.all)
+  Fits d pass (Door n) = (pass ≡ d.owner 0) × (0 < d.next) × (n ≡ stops_of d.all)
+  Fits d pass (Both n r k posted) =
+      ((pass ≡ d.reader) × (n ≡ d.next) × (r ≡ d.got)) × (pass ≡ d.owner k) × (k < d.next) × (posted ≡ at_seat k d.all)
+  Fits d pass Nobody = Unit {0}
 
   pub record Keeps (items : List (Post S)) (views : List (View S)) : Type 0 where
     pub got : List (Post S)
     pub owner : ℕ → ℕ
     pub reader : ℕ
     pub next : ℕ
-    pub each_view : (pass : ℕ) (v : View S) → get_elem? views pass ≡ some v → Fits got (got ++ items) owner reader next pass v
+    pub each_view : (pass : ℕ) (v : View S) → get_elem? views pass ≡ some v → Fits (dealt got (got ++ items) owner reader next) pass v
     pub no_post : (k : ℕ) → next ≤ k → at_seat k (got ++ items) ≡ []
     pub no_stop : next ≡ 0 → stops_of (got ++ items) ≡ 0
     pub in_order : InOrder got items
