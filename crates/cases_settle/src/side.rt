@@ -78,7 +78,8 @@ impl Side {
 
     /// Shows that a post of somebody else was received, and none of this connection.
     pub fn keep_up(&mut self, desk: &mut Desk)
-        requires at { (p : _) → self.old.poster ≡ Some p → inbox_of_poster p ≡ inbox_of desk.old.inbox }
+        requires at { (p : _) → self.old.poster ≡ Some p
+            → inbox_of_poster p ≡ inbox_of desk.old.inbox }
         ensures conn { self.new.conn ≡ self.old.conn }
         ensures side { (was : ADesk) → GoesOn was desk.old → IsSide was self.old
             → IsSide desk.new self.new }
