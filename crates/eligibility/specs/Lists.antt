@@ -1,5 +1,5 @@
 -- Who is to receive a publication.
-use Rattle.std.specs.Prelude.{ℕ, ℤ, pos, negsuc, Bool, true, false, not, ◌==◌, ◌&&◌, List, codes, None, Some}
+use Rattle.std.specs.Prelude.{ℕ, ℤ, pos, negsuc, Bool, true, false, not, ◌==◌, ◌&&◌, List, codes, None, Some, is_none}
 use Rattle.std.specs.declared.option.Option.{Option}
 use Rattle.std.specs.List.{list_any}
 use Rattle.std.specs.Str.{bytes_eq}
@@ -28,6 +28,12 @@ everyone = record {
   eligible_authid = None;
   eligible_authrole = None;
 }
+
+-- none of the six lists is given; one that names nobody is given too
+abbrev pub has_no_lists : Audience → Bool
+has_no_lists a =
+    is_none a.exclude && is_none a.exclude_authid && is_none a.exclude_authrole
+    && is_none a.eligible && is_none a.eligible_authid && is_none a.eligible_authrole
 
 abbrev pub is_number : ℕ → ℤ → Bool
 is_number n (pos m) = m == n

@@ -1,9 +1,9 @@
 //! Who is to receive a publication: `exclude_me`, and the six lists of a PUBLISH.
-ghost use Rattle.std.specs.Prelude.{◌≡◌, ◌==◌, ◌&&◌, true, not, IfOk, None, Some};
+ghost use Rattle.std.specs.Prelude.{◌≡◌, ◌==◌, ◌&&◌, true, not, is_none, IfOk, None, Some};
 ghost use Rattle.std.specs.Option.{option_and_then};
 ghost use Rattle.message_tree.specs.Data.{no_entries};
 ghost use Rattle.message_tree.specs.View.{dict_view};
-ghost use Rattle.eligibility.specs.Lists.{audience_of, everyone, admits, has_number, has_text, is_free_of, allows};
+ghost use Rattle.eligibility.specs.Lists.{audience_of, everyone, admits, has_no_lists, has_number, has_text, is_free_of, allows};
 ghost use Rattle.eligibility.specs.declared.who.Who.{Who};
 
 use crate::fault::Fault;
@@ -13,7 +13,7 @@ use crate::who::Who;
 use message_tree::{Dict, Text};
 use std::alloc::{AllocError, Global};
 use std::marker::Model;
-use wamp_ids::Id;
+use wamp_ids::{Conn, Id};
 
 /// The six lists, of which at least one is given.
 #[derive(Drop)]
@@ -75,12 +75,9 @@ impl Named {
     }
 
     fn is_empty(&self) -> bool
-        ensures exclude { result ≡ true → self.now.exclude ≡ None }
-        ensures exclude_authid { result ≡ true → self.now.exclude_authid ≡ None }
-        ensures exclude_authrole { result ≡ true → self.now.exclude_authrole ≡ None }
-        ensures eligible { result ≡ true → self.now.eligible ≡ None }
-        ensures eligible_authid { result ≡ true → self.now.eligible_authid ≡ None }
-        ensures eligible_authrole { result ≡ true → self.now.eligible_authrole ≡ None }
+        ensures { result ≡ (is_none self.now.exclude && is_none self.now.exclude_authid
+            && is_none self.now.exclude_authrole && is_none self.now.eligible
+            && is_none self.now.eligible_authid && is_none self.now.eligible_authrole) }
     {
         self.exclude.is_none()
             && self.exclude_authid.is_none()
@@ -149,6 +146,27 @@ impl Lists {
             exclude_me,
             named: named.apart(alloc)?,
         })
+    }
+
+    /// Whether none of the six lists is given, so that [`Lists::admits_without_lists`] tells who is
+    /// admitted.
+    pub fn has_no_lists(&self) -> bool
+        ensures { result ≡ has_no_lists self.now }
+    {
+        match &self.named {
+            None => true,
+            Some(named) => named.is_empty(),
+        }
+    }
+
+    /// Whether a session on this connection is to get what one on that connection publishes, where
+    /// none of the six lists is given: nobody has to be looked up for it.
+    pub fn admits_without_lists(&self, conn: Conn, publisher: Conn) -> bool
+        requires { has_no_lists self.now ≡ true }
+        ensures { (who by : Who) → who.conn ≡ conn → by.conn ≡ publisher
+            → admits self.now who by ≡ result }
+    {
+        !(conn == publisher && self.exclude_me)
     }
 
     /// Whether this receiver is to get what that publisher publishes. The publisher itself is known

@@ -11,7 +11,7 @@ use Rattle.subscription_index.specs.Index.{Row, keys}
 use Rattle.subscription_index.specs.Members.{has_row, same_row}
 use Rattle.subscription_index.specs.Receiver.{receiver_at, receivers}
 use Rattle.subscription_index.proofs.Lemmas.{same_row_self}
-use Rattle.eligibility.specs.Lists.{everyone}
+use Rattle.eligibility.specs.Lists.{admits as eligible}
 use Rattle.eligibility.specs.declared.who.Who.{Who}
 use Rattle.session.specs.declared.messages.said.Said.TheVariants.{Subscribe, Unsubscribe}
 use Rattle.session.specs.declared.messages.item.Publication.{Publication}
@@ -89,7 +89,7 @@ live-at ws [] i r live small is = absurd (omega arith)
 live-at ws (q ∷ rs) zero r live small is = ap (λ (x : Receiver). is_some (session_of ws x.conn)) is ∙ live.0
 live-at ws (q ∷ rs) (suc i) r live small is = live-at ws rs i r live.1 (omega arith) is
 
--- ---- who is admitted where nobody is left out
+-- ---- who is admitted where no list is given
 
 session-conn : (ws : List Who) (c : ℕ) (w : Who) → session_of ws c ≡ Some w → w.conn ≡ c
 session-conn [] c w is = absurd (cc)
@@ -99,14 +99,14 @@ session-conn (v ∷ vs) c w is = at (eqb v.conn c) refl is (λ later. session-co
     at true own found later = let same : v ≡ w = cc in sym (ap (λ (x : Who). x.conn) same) ∙ eqb-true v.conn c own
     at false own found later = later found
 
-pub admitted-all : (ws : List Who) (p : Publication) (c : ℕ) → p.lists ≡ everyone → is_some (session_of ws c) ≡ true → not (eqb c p.publisher.conn) ≡ admits_who p (session_of ws c)
-admitted-all ws p c all some = at (session_of ws c) refl some
+pub admitted-unlisted : (ws : List Who) (p : Publication) (c : ℕ) (admitted : Bool)
+    → ((w by : Who) → w.conn ≡ c → by.conn ≡ p.publisher.conn → eligible p.lists w by ≡ admitted)
+    → is_some (session_of ws c) ≡ true → admitted ≡ admits_who p (session_of ws c)
+admitted-unlisted ws p c admitted says some = at (session_of ws c) refl some
   where
-    at : (o : Option Who) → session_of ws c ≡ o → is_some o ≡ true → not (eqb c p.publisher.conn) ≡ admits_who p o
+    at : (o : Option Who) → session_of ws c ≡ o → is_some o ≡ true → admitted ≡ admits_who p o
     at None is lives = absurd (cc)
-    at (Some w) is lives =
-        let same : w.conn ≡ c = session-conn ws c w is in
-        rw all (ap (λ d. not (eqb d p.publisher.conn)) (sym same) ∙ ap not (sym (and-true (eqb w.conn p.publisher.conn))))
+    at (Some w) is lives = sym (says w p.publisher (session-conn ws c w is) refl)
 
 -- ---- one receiver more
 

@@ -3,7 +3,7 @@ ghost use Rattle.std.specs.Prelude.{◌≡◌, ◌≤◌, ◌<◌, ◌+◌, ◌+
 ghost use Rattle.std.specs.Vec.{vec_capacity};
 ghost use Rattle.std.specs.List.{insert};
 ghost use Rattle.subscription_index.specs.Receiver.{receivers};
-ghost use Rattle.eligibility.specs.Lists.{everyone};
+ghost use Rattle.eligibility.specs.Lists.{has_no_lists};
 ghost use Rattle.session.specs.declared.messages.item.Item.{Item};
 ghost use Rattle.realm.specs.Yield.{names_topic};
 ghost use Rattle.realm.specs.Publications.{admits};
@@ -16,7 +16,7 @@ use crate::sessions::Sessions;
 use message_tree::Shared;
 use session::{Item, Publication, Who};
 use std::alloc::Global;
-use subscription_index::{Index, Receiver};
+use subscription_index::{Index, Receiver, Receivers};
 use wamp_ids::{Conn, Policy, Topic};
 
 /// What an entry gives: for each item the connection that it is for.
@@ -140,8 +140,12 @@ fn add_event(
 }
 
 /// Who holds a pattern that matches the topic.
-pub fn receivers(alloc: Global, index: &Index, topic: &Topic) -> Result<Vec<Receiver>, Fault>
-    ensures { IfOk result (λ found. found.items ≡ receivers index.now.rows topic.now) }
+pub fn receivers<'a>(
+    alloc: Global,
+    index: &'a Index,
+    topic: &Topic,
+) -> Result<Receivers<'a>, Fault>
+    ensures { IfOk result (λ found. found ≡ receivers index.now.rows topic.now) }
 {
     match index.receivers(alloc, topic) {
         Ok(found) => Ok(found),
@@ -149,24 +153,25 @@ pub fn receivers(alloc: Global, index: &Index, topic: &Topic) -> Result<Vec<Rece
     }
 }
 
-/// The EVENTs of a publication that leaves nobody out but its publisher, for these receivers, with
-/// room for one item more. They are live, so that none of them is looked up.
-pub fn events_to_all(
+/// The EVENTs of a publication that gives no list, for these receivers, with room for one item
+/// more. They are live, so that none of them is looked up.
+pub fn events_without_lists(
     alloc: Global,
     _sessions: &Sessions,
     made: &Shared<Publication>,
-    receivers: &[Receiver],
+    receivers: &Receivers<'_>,
 ) -> Result<Given, Fault>
-    requires everyone { made.now.lists ≡ everyone }
+    requires unlisted { has_no_lists made.now.lists ≡ true }
     requires live { AreLive _sessions.now receivers.now }
     ensures { IfOk result (λ given.
         given.items ≡ events_to _sessions.now made.now receivers.now) }
 {
     let publisher = made.value().publisher.conn;
     let mut given = Vec::with_capacity(alloc, receivers.len() + 1)?;
-    for receiver in receivers {
-        let is_other = receiver.conn != publisher;
-        add_event(&mut given, is_other, made, receiver)?;
+    for place in 0..receivers.len() {
+        let receiver = receivers.at(place);
+        let admitted = made.value().lists.admits_without_lists(receiver.conn, publisher);
+        add_event(&mut given, admitted, made, &receiver)?;
     }
     Ok(given)
 }
@@ -177,17 +182,18 @@ pub fn events_to(
     alloc: Global,
     sessions: &Sessions,
     made: &Shared<Publication>,
-    receivers: &[Receiver],
+    receivers: &Receivers<'_>,
 ) -> Result<Given, Fault>
     ensures { IfOk result (λ given.
         given.items ≡ events_to sessions.now made.now receivers.now) }
 {
     let mut given = Vec::with_capacity(alloc, receivers.len() + 1)?;
     let mut last = None;
-    for receiver in receivers {
+    for place in 0..receivers.len() {
+        let receiver = receivers.at(place);
         let admitted = is_admitted_after(last, sessions, made.value(), receiver.conn);
         last = Some((receiver.conn, admitted));
-        add_event(&mut given, admitted, made, receiver)?;
+        add_event(&mut given, admitted, made, &receiver)?;
     }
     Ok(given)
 }

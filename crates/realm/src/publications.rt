@@ -3,7 +3,6 @@ ghost use Rattle.std.specs.Prelude.{◌≡◌, ℕ, true, not, ◌&&◌, is_some
 ghost use Rattle.wamp_ids.specs.Uri.{is_topic, is_reserved};
 ghost use Rattle.session.specs.Arguments.{is_all_carried};
 ghost use Rattle.retained.specs.Store.{has_room, set_topic};
-ghost use Rattle.eligibility.specs.Lists.{everyone};
 ghost use Rattle.eligibility.specs.declared.who.Who.{Who};
 ghost use Rattle.realm.specs.Options.{acknowledge_of};
 ghost use Rattle.realm.specs.body.LiveSessions.{session_of, AreHeld};
@@ -11,9 +10,9 @@ ghost use Rattle.realm.specs.Publications.{published_by, publish_options_of, mad
 ghost use Rattle.realm.specs.body.Outputs.{all_events};
 ghost use Rattle.realm.specs.body.Transitions.{IsPublished, made_with, is_some_true, refused, told};
 
-use crate::events::{Given, events_to, events_to_all, one, put_before, receivers};
+use crate::events::{Given, events_to, events_without_lists, one, put_before, receivers};
 use crate::fault::Fault;
-use crate::publish_options::{PublishOptions, flag, is_empty, read_publish_options};
+use crate::publish_options::{PublishOptions, flag, read_publish_options};
 use crate::state::State;
 use message_tree::{Options, Shared, Text};
 use retained::Store;
@@ -176,21 +175,15 @@ fn refused(alloc: Global, requester: &Requester, reason: Reason) -> Result<Given
     one(alloc, requester.conn, item)
 }
 
-/// The EVENTs of an accepted publication. One without options leaves nobody out but its publisher.
-fn events(
-    alloc: Global,
-    state: &State,
-    made: &Shared<Publication>,
-    is_for_all: bool,
-) -> Result<Given, Fault>
-    requires everyone { is_for_all ≡ true → made.now.lists ≡ everyone }
+/// The EVENTs of an accepted publication. One without lists has nobody looked up for it.
+fn events(alloc: Global, state: &State, made: &Shared<Publication>) -> Result<Given, Fault>
     requires held { AreHeld state.now.sessions state.now.index.rows }
     ensures { IfOk result (λ given.
         given.items ≡ all_events state.now.sessions state.now.index.rows made.now) }
 {
     let found = receivers(alloc, &state.index, &made.value().topic)?;
-    if is_for_all {
-        events_to_all(alloc, &state.sessions, made, &found)
+    if made.value().lists.has_no_lists() {
+        events_without_lists(alloc, &state.sessions, made, &found)
     } else {
         events_to(alloc, &state.sessions, made, &found)
     }
@@ -202,15 +195,13 @@ fn told(
     state: &State,
     requester: &Requester,
     made: &Shared<Publication>,
-    is_for_all: bool,
 ) -> Result<Given, Fault>
-    requires everyone { is_for_all ≡ true → made.now.lists ≡ everyone }
     requires held { AreHeld state.now.sessions state.now.index.rows }
     ensures { IfOk result (λ given.
         given.items ≡ told state.now requester.now.conn requester.now.request
         requester.now.acknowledge made.now) }
 {
-    let mut given = events(alloc, state, made, is_for_all)?;
+    let mut given = events(alloc, state, made)?;
     if is_acknowledged(requester) {
         let published = Item::Published {
             request: requester.request,
@@ -253,7 +244,6 @@ pub fn publish(alloc: Global, state: &mut State, asked: PublishRequest) -> Resul
         topic,
         args,
     } = asked;
-    let is_for_all = is_empty(&options);
     let requester = Requester {
         conn,
         request,
@@ -269,7 +259,7 @@ pub fn publish(alloc: Global, state: &mut State, asked: PublishRequest) -> Resul
     let retained = accepted.publish_options.retained;
     let made = publication(alloc, publisher, word, accepted)?;
     let made = Shared::new(alloc, made)?;
-    let given = told(alloc, state, &requester, &made, is_for_all)?;
+    let given = told(alloc, state, &requester, &made)?;
     if retained {
         retain(alloc, &mut state.store, made)?;
     }

@@ -21,7 +21,7 @@ pub struct PublishOptions {
 }
 
 /// Whether there are no options at all, as in most requests.
-pub fn is_empty(options: &Options) -> bool
+fn is_empty(options: &Options) -> bool
     ensures { result ≡ true → options.now ≡ no_entries }
 {
     options.dict().len() == 0

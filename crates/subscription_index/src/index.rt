@@ -7,7 +7,7 @@ ghost use Rattle.subscription_index.specs.body.Receivers.{keys_of};
 
 use crate::fault::Fault;
 use crate::names::{self, Names};
-use crate::receiver::Receiver;
+use crate::receivers::Receivers;
 use crate::rows::{self, Rows};
 use crate::shares::{self, Counts, Holders};
 use std::alloc::{AllocError, Global};
@@ -167,8 +167,8 @@ impl Index {
     ///
     /// # Errors
     /// `NoMemory` where a growth was refused.
-    pub fn receivers(&self, alloc: Global, topic: &Topic) -> Result<Vec<Receiver>, Fault>
-        ensures found { IfOk result (λ found. found.items ≡ receivers self.now.rows topic.now) }
+    pub fn receivers(&self, alloc: Global, topic: &Topic) -> Result<Receivers<'_>, Fault>
+        ensures found { IfOk result (λ found. found ≡ receivers self.now.rows topic.now) }
         ensures other { result ≢ Err Fault.TooManySubscriptions }
         ensures index { IsIndex self.now }
     {
@@ -188,11 +188,12 @@ impl Index {
 }
 
 /// The receivers as pairs of connection and number.
-fn pairs_of(alloc: Global, receivers: &[Receiver]) -> Result<Vec<(Conn, Id)>, AllocError>
+fn pairs_of(alloc: Global, receivers: &Receivers<'_>) -> Result<Vec<(Conn, Id)>, AllocError>
     ensures { IfOk result (λ pairs. pairs.items ≡ keys_of receivers.now) }
 {
     let mut pairs = Vec::with_capacity(alloc, receivers.len())?;
-    for receiver in receivers {
+    for place in 0..receivers.len() {
+        let receiver = receivers.at(place);
         pairs.push_reserved((receiver.conn, receiver.number));
     }
     Ok(pairs)

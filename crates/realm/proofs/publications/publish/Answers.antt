@@ -1,7 +1,6 @@
 use Rattle.std.proofs.Common.{ap, refl, ◌∙◌, Option, Bool}
 use Rattle.std.proofs.lemmas.Result.{IfOk-weaker}
 use Rattle.realm.specs.body.Transitions.{made_with, refused}
-use Rattle.realm.proofs.NoOptions.{none-left-out}
 use Rattle.realm.proofs.publications.publish.Goals as goal
 
 pub returns-in-Err-clause-ok : goal.returns-in-Err-clause-ok
@@ -13,7 +12,3 @@ returns-in-Err-clause-ok c =
 
 pub retain-requires : goal.retain-requires
 retain-requires c = rw (c.in_ok-made-2.ensures, c.in_ok-made.ensures) ((rw c.in-Ok.is at c.in_ok-accepted.ensures.room) c.if-retained.true)
-
-pub told-requires-clause-everyone : goal.told-requires-clause-everyone
-told-requires-clause-everyone c = λ none.
-    rw (c.in_ok-made-2.ensures, c.in_ok-made.ensures) (none-left-out _ _ (c.is_empty-is_for_all.ensures none) (rw c.in-Ok.is at c.in_ok-accepted.ensures.options))

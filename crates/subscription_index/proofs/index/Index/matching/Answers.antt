@@ -10,11 +10,11 @@ pub returns-clause-found : goal.returns-clause-found
 returns-clause-found c =
     let rows = c.args.self.now.rows in
     let topic = c.args.topic.now in
-    c.in_ok-pairs_of.ensures ∙ (ap keys_of (c.deref.ensures.value ∙ c.in_ok-receivers.ensures.found) ∙ keys-at rows (matching rows topic))
+    c.in_ok-pairs_of.ensures ∙ (ap keys_of c.in_ok-receivers.ensures.found ∙ keys-at rows (matching rows topic))
 
 pub returns-clause-ascending : goal.returns-clause-ascending
 returns-clause-ascending c =
     let rows = c.args.self.now.rows in
     let topic = c.args.topic.now in
-    let these = c.in_ok-pairs_of.ensures ∙ (ap keys_of (c.deref.ensures.value ∙ c.in_ok-receivers.ensures.found) ∙ keys-at rows (matching rows topic)) in
+    let these = c.in_ok-pairs_of.ensures ∙ (ap keys_of c.in_ok-receivers.ensures.found ∙ keys-at rows (matching rows topic)) in
     subst IsStrictlyAscending (sym these) (ascending-filter (λ r. matches r.1 topic) rows c.in_ok-receivers.ensures.index.ascending)
