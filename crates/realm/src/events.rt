@@ -1,5 +1,5 @@
 //! The EVENTs of a publication: who gets one, under which number, in which order.
-ghost use Rattle.std.specs.Prelude.{◌≡◌, ◌≤◌, ◌<◌, ◌+◌, ◌++◌, cond, length, vec_len, [], ◌∷◌, IfOk, OnOk};
+ghost use Rattle.std.specs.Prelude.{◌≡◌, ◌≤◌, ◌<◌, ◌+◌, ◌++◌, cond, length, vec_len, [], ◌∷◌, IfOk, OnOk, true};
 ghost use Rattle.std.specs.Vec.{vec_capacity};
 ghost use Rattle.std.specs.List.{insert};
 ghost use Rattle.subscription_index.specs.Receiver.{receivers};
@@ -140,11 +140,7 @@ fn add_event(
 }
 
 /// Who holds a pattern that matches the topic.
-pub fn receivers<'a>(
-    alloc: Global,
-    index: &'a Index,
-    topic: &Topic,
-) -> Result<Receivers<'a>, Fault>
+pub fn receivers<'a>(alloc: Global, index: &'a Index, topic: &Topic) -> Result<Receivers<'a>, Fault>
     ensures { IfOk result (λ found. found ≡ receivers index.now.rows topic.now) }
 {
     match index.receivers(alloc, topic) {
@@ -166,11 +162,14 @@ pub fn events_without_lists(
     ensures { IfOk result (λ given.
         given.items ≡ events_to _sessions.now made.now receivers.now) }
 {
-    let publisher = made.value().publisher.conn;
+    let publication = made.value();
+    let publisher = publication.publisher.conn;
     let mut given = Vec::with_capacity(alloc, receivers.len() + 1)?;
     for place in 0..receivers.len() {
         let receiver = receivers.at(place);
-        let admitted = made.value().lists.admits_without_lists(receiver.conn, publisher);
+        let admitted = publication
+            .lists
+            .admits_without_lists(receiver.conn, publisher);
         add_event(&mut given, admitted, made, &receiver)?;
     }
     Ok(given)

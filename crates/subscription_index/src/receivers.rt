@@ -1,5 +1,5 @@
 //! The receivers of a topic, as a search finds them.
-ghost use Rattle.std.specs.Prelude.{◌≡◌, ◌==◌, ◌<◌, [], get_or, length, map};
+ghost use Rattle.std.specs.Prelude.{◌≡◌, ◌==◌, ◌<◌, ◌^◌, [], get_or, length, map};
 ghost use Rattle.subscription_index.specs.body.Receivers.{receiver_by};
 
 use crate::receiver::Receiver;
@@ -68,7 +68,8 @@ impl<'a> Receivers<'a> {
 
     /// How many there are.
     pub fn len(&self) -> usize
-        ensures { result ≡ length self.now }
+        ensures count { result ≡ length self.now }
+        ensures few { result < 2 ^ 63 }
     {
         match &self.found {
             Found::One { conns, .. } => conns.len(),

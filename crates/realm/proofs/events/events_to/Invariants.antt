@@ -3,10 +3,10 @@ use Rattle.std.specs.Vec.{vec_capacity}
 use Rattle.realm.specs.body.Outputs.{events_to, IsAnswer}
 use Rattle.realm.proofs.events.events_to.Given as goal
 
-abbrev pub invariant-loop-receiver : goal.invariant-loop-receiver
-invariant-loop-receiver l = record {
-  items : l.given.items ≡ events_to l.sessions l.made (take l.receiver-index l.receivers);
+abbrev pub invariant-loop-place : goal.invariant-loop-place
+invariant-loop-place l = record {
+  items : l.given.items ≡ events_to l.sessions l.made (take l.place l.receivers);
   asked : IsAnswer l.sessions l.made l.last;
-  count : vec_len l.given ≤ l.receiver-index;
+  count : vec_len l.given ≤ l.place;
   room : length l.receivers + 1 ≤ vec_capacity l.given;
 }
