@@ -1,5 +1,5 @@
 //! A case: an index and a store, as the lines so far have left them.
-use crate::index::{drop_all, hold, matching, pattern, release};
+use crate::index::{drop_all, hold, matching, pattern, receivers, release};
 use crate::store::{count, keep, kept, room};
 use case_text::{Table, crossing, line_of, may_be_shared};
 use retained::Store;
@@ -34,6 +34,7 @@ impl Table for Case {
             Some(("release", text)) => release(alloc, &mut self.index, text),
             Some(("drop", text)) => drop_all(alloc, &mut self.index, text),
             Some(("matching", text)) => matching(alloc, &self.index, text),
+            Some(("receivers", text)) => receivers(alloc, &self.index, text),
             Some(("pattern", text)) => pattern(alloc, &self.index, text),
             Some(("keep", text)) => keep(alloc, &mut self.store, text),
             Some(("room", text)) => room(alloc, &self.store, text),

@@ -3,7 +3,7 @@ use crate::reading::{holding_of, name_of, pattern_of, topic_of};
 use case_text::{line_of, number_of, spell};
 use std::alloc::Global;
 use std::io;
-use subscription_index::{Fault, Index};
+use subscription_index::{Fault, Index, Receiver, Receivers};
 use wamp_ids::{Conn, Id, Pattern, Topic};
 
 fn fault_line(alloc: Global, fault: Fault) -> io::Result<String> {
@@ -80,6 +80,38 @@ fn pairs_in_words(alloc: Global, pairs: &[(Conn, Id)]) -> io::Result<String> {
     }
     text.push('\n')?;
     Ok(text)
+}
+
+/// Who receives what is published to the topic of this text.
+pub fn receivers(alloc: Global, index: &Index, text: &str) -> io::Result<String> {
+    match topic_of(alloc, text)? {
+        Ok(topic) => received(alloc, index, &topic),
+        Err(fault) => Ok(format!(in alloc; "{fault}\n")?),
+    }
+}
+
+fn received(alloc: Global, index: &Index, topic: &Topic) -> io::Result<String> {
+    match index.receivers(alloc, topic) {
+        Ok(receivers) => receivers_in_words(alloc, &receivers),
+        Err(fault) => fault_line(alloc, fault),
+    }
+}
+
+fn receivers_in_words(alloc: Global, receivers: &Receivers<'_>) -> io::Result<String> {
+    let mut text = String::from_str(alloc, "receives")?;
+    for place in 0..receivers.len() {
+        add_receiver(&mut text, receivers.at(place))?;
+    }
+    text.push('\n')?;
+    Ok(text)
+}
+
+fn add_receiver(text: &mut String, receiver: Receiver) -> io::Result<()> {
+    let conn = receiver.conn.value();
+    let number = receiver.number.value();
+    let topic = if receiver.names_topic { "+topic" } else { "" };
+    write!(text, " {conn}:{number}{topic}")?;
+    Ok(())
 }
 
 /// The pattern that the words `CONN NUMBER` name.

@@ -8,6 +8,7 @@
 //!   - `release CONN NUMBER`: whether it was held;
 //!   - `drop CONN`: ends all of the connection;
 //!   - `matching TOPIC`: who holds a pattern that matches, each as CONN:NUMBER;
+//!   - `receivers TOPIC`: the same, with `+topic` behind those whose events name the topic;
 //!   - `pattern CONN NUMBER`: the pattern that is held under the number.
 //! - Retained publications:
 //!   - `keep NUMBER TOPIC`: keeps a publication of this number;
