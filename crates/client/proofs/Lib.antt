@@ -1,0 +1,4 @@
+pub mod ReadBack
+pub mod HeardAsMeant
+pub mod Wished
+pub mod TextItems

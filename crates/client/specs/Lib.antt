@@ -1,0 +1,5 @@
+pub mod Faults
+pub mod FromBroker
+pub mod Laws
+pub mod ToBroker
+pub mod Wishes
