@@ -8,12 +8,16 @@
 //!
 //! It stands on `message_tree`. Contracts say which octets spell a message, that reading accepts each spelling of it and
 //! nothing else, and that what is written is the shortest.
+mod carriage;
 mod decoder;
 mod encoder;
 mod fault;
 mod format;
 pub mod laws;
+mod passing;
 
+pub use carriage::Carriage;
 pub use decoder::decode;
 pub use encoder::{encode, encode_into, encode_number_into, encode_text_into};
 pub use fault::Fault;
+pub use passing::{Passed, Refusal, pass};
