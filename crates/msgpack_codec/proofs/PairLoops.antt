@@ -2,7 +2,7 @@
 use Rattle.std.proofs.Common.{◌≡◌, ℕ, zero, suc, ◌-◌, ◌<◌, List, ◌∷◌, Bool, true, false, ◌&&◌, None, Ok, Err, cond, refl, arith, sub-one}
 use Rattle.message_tree.specs.Data as tree
 use Rattle.msgpack_codec.specs.declared.fault.Fault.{Fault}
-use Rattle.msgpack_codec.specs.body.Decoder.{Found, items_at}
+use Rattle.msgpack_codec.specs.body.Decoder.{Found, items_at, leaf_at}
 use Rattle.msgpack_codec.specs.body.Passing.{pairs_at, list_at, written_nest_at, written_at, text_of}
 use Rattle.msgpack_codec.specs.Format.{form_of}
 use Rattle.msgpack_codec.specs.Values.{is_text}
@@ -39,6 +39,12 @@ pub written-nests : (room c : ℕ) (octets : List ℕ) → 0 < room → written_
 unfolding written_at
 written-nests zero c octets some = absurd (omega arith)
 written-nests (suc room) c octets some = rw sub-one refl
+
+-- and one that may not
+pub written-leaf : (room c : ℕ) (octets : List ℕ) → room ≡ 0 → written_at room (c ∷ octets) ≡ leaf_at (form_of c) octets
+unfolding written_at
+written-leaf zero c octets none = refl
+written-leaf (suc room) c octets none = absurd (omega arith)
 
 -- a map is no text
 pub map-no_text : (texts : Bool) (es : tree.Entries) → None ≡ text_of (cond texts (tree.dict es) tree.uncarried)

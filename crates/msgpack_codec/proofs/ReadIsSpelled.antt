@@ -70,7 +70,7 @@ size_found (Here m) octets n rest e =
     ([], same.1, (refl, sym same.0))
 size_found (Next w) octets n rest e = number_found w octets n rest e
 
-sized_found : (size : Size) (octets s rest : List ℕ) → sized_at size octets ≡ Ok (s, rest) → Front (λ f. IsSized size f s) octets rest
+pub sized_found : (size : Size) (octets s rest : List ℕ) → sized_at size octets ≡ Ok (s, rest) → Front (λ f. IsSized size f s) octets rest
 unfolding sized_at
 sized_found size octets s rest e =
     let b = behind (size_at size octets) (λ n. octets_at n.0 n.1) (s, rest) e in

@@ -3,12 +3,14 @@ use Rattle.std.proofs.Common.{◌≡◌, ℕ, Bool, true, false, ◌&&◌, cond,
 use Rattle.std.specs.Ordering.{match_ordering}
 use Rattle.std.specs.declared.cmp.Ordering.{Ordering}
 use Rattle.std.specs.declared.cmp.Ordering.TheVariants.{Equal, Greater}
+use Rattle.std.specs.Prelude.{◌^◌, nat_lt, length}
 use Rattle.std.specs.Cmp.Lexicographic.{slice_cmp}
 use Rattle.std.proofs.lemmas.Cmp.{nat_list_cmp_total}
 use Rattle.std.proofs.lemmas.Bool.{and_parts}
 use Rattle.message_tree.specs.Data as tree
 use Rattle.message_tree.proofs.Lemmas.{whichever, joined-none, next-put}
-use Rattle.msgpack_codec.specs.Written.{settled, items_settled, entries_settled, is_before_first, keys_ascend, worse, doubted, carriage_of, items_carriage, entries_carriage}
+use Rattle.msgpack_codec.specs.Written.{settled, items_settled, entries_settled, is_before_first, keys_ascend, worse, doubted, carriage_of, items_carriage, entries_carriage, is_writable, items_writable, entries_writable}
+use Rattle.msgpack_codec.specs.Short.{has_short, items_have_short, entries_have_short}
 use Rattle.msgpack_codec.specs.declared.carriage.Carriage.{Carriage}
 use Rattle.msgpack_codec.specs.declared.carriage.Carriage.TheVariants.{Carried, Unsure, Uncarried}
 
@@ -152,3 +154,72 @@ mutual
   in_place_uncarried tree.no_entries e = absurd cc
   in_place_uncarried (tree.entry k d es) e =
       elim (one_uncarried (carriage_of d) (entries_carriage es) e) [ inl h ↦ first_false _ _ (settled_uncarried d h) | inr h ↦ second_false _ _ (in_place_uncarried es h) ]
+
+-- ---- what is written by `encode`
+
+mutual
+  pub writable_carried : (d : tree.Data) → is_writable d ≡ true → tree.is_carried d ≡ true
+  writable_carried tree.null h = refl
+  writable_carried (tree.flag b) h = refl
+  writable_carried (tree.whole z) h = h
+  writable_carried (tree.text s) h = refl
+  writable_carried (tree.bytes b) h = refl
+  writable_carried (tree.list ds) h = items_writable_carried ds (and_parts _ _ h).1
+  writable_carried (tree.dict es) h = entries_writable_carried es (and_parts _ _ (and_parts _ _ h).1).1
+  writable_carried tree.uncarried h = absurd cc
+
+  items_writable_carried : (ds : tree.Items) → items_writable ds ≡ true → tree.items_carried ds ≡ true
+  items_writable_carried tree.no_items h = refl
+  items_writable_carried (tree.item d ds) h = both_true _ _ (writable_carried d (and_parts _ _ h).0) (items_writable_carried ds (and_parts _ _ h).1)
+
+  entries_writable_carried : (es : tree.Entries) → entries_writable es ≡ true → tree.entries_carried es ≡ true
+  entries_writable_carried tree.no_entries h = refl
+  entries_writable_carried (tree.entry k d es) h =
+      both_true _ _ (writable_carried d (and_parts _ _ (and_parts _ _ h).0).1) (entries_writable_carried es (and_parts _ _ h).1)
+
+mutual
+  pub writable_short : (d : tree.Data) → is_writable d ≡ true → has_short d ≡ true
+  writable_short tree.null h = refl
+  writable_short (tree.flag b) h = refl
+  writable_short (tree.whole z) h = refl
+  writable_short (tree.text s) h = h
+  writable_short (tree.bytes b) h = h
+  writable_short (tree.list ds) h = both_true _ _ (and_parts _ _ h).0 (items_writable_short ds (and_parts _ _ h).1)
+  writable_short (tree.dict es) h = both_true _ _ (and_parts _ _ h).0 (entries_writable_short es (and_parts _ _ (and_parts _ _ h).1).1)
+  writable_short tree.uncarried h = absurd cc
+
+  items_writable_short : (ds : tree.Items) → items_writable ds ≡ true → items_have_short ds ≡ true
+  items_writable_short tree.no_items h = refl
+  items_writable_short (tree.item d ds) h = both_true _ _ (writable_short d (and_parts _ _ h).0) (items_writable_short ds (and_parts _ _ h).1)
+
+  entries_writable_short : (es : tree.Entries) → entries_writable es ≡ true → entries_have_short es ≡ true
+  entries_writable_short tree.no_entries h = refl
+  entries_writable_short (tree.entry k d es) h =
+      let first = and_parts _ _ (and_parts _ _ h).0 in
+      both_true _ _ first.0 (both_true _ _ (writable_short d first.1) (entries_writable_short es (and_parts _ _ h).1))
+
+mutual
+  pub writable_settled : (d : tree.Data) → is_writable d ≡ true → settled d ≡ d
+  writable_settled tree.null h = refl
+  writable_settled (tree.flag b) h = refl
+  writable_settled (tree.whole z) h = refl
+  writable_settled (tree.text s) h = refl
+  writable_settled (tree.bytes b) h = refl
+  writable_settled (tree.list ds) h = ap tree.list (items_writable_settled ds (and_parts _ _ h).1)
+  writable_settled (tree.dict es) h =
+      let more = and_parts (keys_ascend es) (entries_writable es) (and_parts _ _ h).1 in
+      ap tree.dict (settled_in_place tree.no_entries es (ascending es more.0) ∙ in_place_is es more.1)
+  writable_settled tree.uncarried h = absurd cc
+
+  items_writable_settled : (ds : tree.Items) → items_writable ds ≡ true → items_settled ds ≡ ds
+  items_writable_settled tree.no_items h = refl
+  items_writable_settled (tree.item d ds) h =
+      let both = and_parts (is_writable d) (items_writable ds) h in
+      rw (writable_settled d both.0, items_writable_settled ds both.1) refl
+
+  in_place_is : (es : tree.Entries) → entries_writable es ≡ true → in_place es ≡ es
+  in_place_is tree.no_entries h = refl
+  in_place_is (tree.entry k d es) h =
+      let both = and_parts (nat_lt (length k) (2 ^ 32) && is_writable d) (entries_writable es) h in
+      let first = and_parts (nat_lt (length k) (2 ^ 32)) (is_writable d) both.0 in
+      rw (writable_settled d first.1, in_place_is es both.1) refl

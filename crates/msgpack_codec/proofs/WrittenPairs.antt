@@ -11,7 +11,7 @@ use Rattle.msgpack_codec.specs.body.Decoder.{◌>>=◌, Found, size_at, items_at
 use Rattle.msgpack_codec.specs.body.Passing.{pairs_at, list_at, written_nest_at, written_at}
 use Rattle.msgpack_codec.proofs.ReadIsSpelled.{found-is, behind, Front, size_found, leaf_found, items_found}
 
-pairs_found : (p : List ℕ → Found tree.Data) (S : List ℕ → tree.Data → Type 0) (tells : (octets : List ℕ) (d : tree.Data) (rest : List ℕ) → p octets ≡ Ok (d, rest) → Front (λ f. S f d) octets rest)
+pub pairs_found : (p : List ℕ → Found tree.Data) (S : List ℕ → tree.Data → Type 0) (tells : (octets : List ℕ) (d : tree.Data) (rest : List ℕ) → p octets ≡ Ok (d, rest) → Front (λ f. S f d) octets rest)
     (n : ℕ) (found : tree.Entries) (texts : Bool) (octets : List ℕ) (all : tree.Data) (rest : List ℕ) → pairs_at p n found texts octets ≡ Ok (all, rest)
     → (ps : List (tree.Data × tree.Data)) × (front : List ℕ) × (octets ≡ front ++ rest) × (length ps ≡ n) × ArePairsSpelled S front ps × (all ≡ map_written found texts ps)
 unfolding pairs_at
@@ -77,3 +77,18 @@ written_found (suc room) [] d rest e = absurd cc
 written_found (suc room) (c ∷ octets) d rest e =
     let f = nest_found (written_at room) (Writes room) (written_found room) (form_of c) octets d rest e in
     (c ∷ f.0, ap (λ (r : List ℕ). c ∷ r) f.1, f.2)
+
+-- what stands before the rest, behind the head of a list
+pub items_before : (room n : ℕ) (octets : List ℕ) (d : tree.Data) (rest : List ℕ) → list_at (written_at room) n octets ≡ Ok (d, rest) → (body : List ℕ) × (octets ≡ body ++ rest)
+unfolding list_at
+items_before room n octets d rest e =
+    let b = behind (items_at (written_at room) n tree.no_items octets) (λ ds. Ok (tree.list ds.0, ds.1)) (d, rest) e in
+    let same = found-is (tree.list b.value) d b.rest rest b.after in
+    let body = items_found (written_at room) (Writes room) (written_found room) n tree.no_items octets b.value b.rest b.first in
+    (body.1, body.2 ∙ ap (λ (r : List ℕ). body.1 ++ r) same.1)
+
+-- and behind that of a map
+pub pairs_before : (room n : ℕ) (octets : List ℕ) (d : tree.Data) (rest : List ℕ) → pairs_at (written_at room) n tree.no_entries true octets ≡ Ok (d, rest) → (body : List ℕ) × (octets ≡ body ++ rest)
+pairs_before room n octets d rest e =
+    let body = pairs_found (written_at room) (Writes room) (written_found room) n tree.no_entries true octets d rest e in
+    (body.1, body.2)

@@ -15,6 +15,7 @@ mod fault;
 mod format;
 pub mod laws;
 mod passing;
+mod shortest;
 
 pub use carriage::Carriage;
 pub use decoder::decode;

@@ -1,16 +1,21 @@
 //! Passing over a value, with no memory.
-ghost use Rattle.std.specs.Prelude.{◌≡◌, ◌≢◌, ◌&&◌, IfOk, IfErr, Ok, Err, None, Bool, true, option_map, if◌then◌else◌};
-ghost use Rattle.message_tree.specs.Data.{Data, Entries, no_entries, uncarried, dict, whole as of_whole};
+ghost use Rattle.std.specs.Prelude.{◌≡◌, ◌≢◌, ◌&&◌, ◌∷◌, ◌++◌, List, ℕ, IfOk, IfErr, Ok, Err, None, Bool, true, option_map, if◌then◌else◌};
+ghost use Rattle.message_tree.specs.Data.{Data, Entries, no_entries, uncarried, dict, whole as of_whole, bytes as of_bytes, flag as of_flag};
 ghost use Rattle.msgpack_codec.specs.Values.{is_text, text_from};
+ghost use Rattle.msgpack_codec.specs.Format.{form_of as of_octet};
 ghost use Rattle.msgpack_codec.specs.Grammar.{IsDeep};
-ghost use Rattle.msgpack_codec.specs.Written.{IsPassed, IsNoValue, add_entry, carriage_of};
+ghost use Rattle.msgpack_codec.specs.Short.{short};
+ghost use Rattle.msgpack_codec.specs.Written.{IsPassed, IsNoValue, add_entry, carriage_of, is_writable};
 ghost use Rattle.msgpack_codec.specs.body.Decoder.{leaf_at};
-ghost use Rattle.msgpack_codec.specs.body.Passing.{IsSeen, AreKnown, is_next, text_of, written_at, written_nest_at, list_at, pairs_at};
+ghost use Rattle.msgpack_codec.specs.body.Passing.{IsSeen, TellsLeaf, IsJudged, IsFullyJudged, AreItemsJudged, ArePairsJudged, AreKnown, is_next, text_of, written_at, written_nest_at, list_at, pairs_at};
 
 use crate::carriage::{Carriage, doubted, worse};
 use crate::decoder::{number_of, octets_of, signed, size_of, sized};
 use crate::fault::Fault;
 use crate::format::{Form, form_of};
+use crate::shortest::{
+    are, before, is_bytes_head, is_dict_head, is_list_head, is_text_head, is_whole,
+};
 use std::cmp::Ordering;
 use thiserror::Error;
 
@@ -32,6 +37,9 @@ pub struct Passed<'a> {
     pub rest: &'a [u8],
     /// Whether the value is carried.
     pub carriage: Carriage,
+    /// Whether the value is spelled as [`encode`](crate::encode) writes it: the shortest spelling of
+    /// each value, keys ascending by their bytes, each once, and nothing uncarried.
+    pub is_shortest: bool,
 }
 
 /// A value, with its octets where it is a text: it may be a key.
@@ -40,38 +48,61 @@ struct Seen<'a> {
     rest: &'a [u8],
     carriage: Carriage,
     text: Option<&'a [u8]>,
+    is_shortest: bool,
 }
 
-/// A str: uncarried where it isn't UTF-8.
-fn text<'a>(octets: &'a [u8], rest: &'a [u8]) -> Seen<'a>
+/// A str that octets spell, the head among them: uncarried where it isn't UTF-8.
+fn text<'a>(front: &[u8], octets: &'a [u8], rest: &'a [u8]) -> Seen<'a>
     ensures rest { result.rest.now ≡ rest.entry.now }
     ensures carriage { result.carriage ≡ carriage_of (text_from octets.entry.now) }
     ensures text { option_map (λ s. s.now) result.text ≡ text_of (text_from octets.entry.now) }
+    ensures shortest { (head : List ℕ) → front.now ≡ head ++ octets.entry.now
+        → TellsLeaf result.is_shortest (is_writable (text_from octets.entry.now))
+        front.now (short (text_from octets.entry.now)) }
 {
     match str::from_utf8(octets) {
         Ok(_) => Seen {
             rest,
             carriage: Carriage::Carried,
             text: Some(octets),
+            is_shortest: is_text_head(before(front, octets), octets.len() as u64),
         },
-        Err(_) => Seen {
-            rest,
-            carriage: Carriage::Uncarried,
-            text: None,
-        },
+        Err(_) => no_text(rest, Carriage::Uncarried, false),
+    }
+}
+
+/// Whether octets, the head among them, are the least that spell a bin.
+fn is_least_bytes(front: &[u8], octets: &[u8]) -> bool
+    ensures { (head : List ℕ) → front.now ≡ head ++ octets.now
+        → TellsLeaf result (is_writable (of_bytes octets.now))
+        front.now (short (of_bytes octets.now)) }
+{
+    is_bytes_head(before(front, octets), octets.len() as u64)
+}
+
+/// Whether an octet is the one that spells a flag.
+fn is_flag(front: &[u8], flag: bool) -> bool
+    ensures { TellsLeaf result true front.now (short (of_flag flag)) }
+{
+    if flag {
+        are(front, 0xc3, &[])
+    } else {
+        are(front, 0xc2, &[])
     }
 }
 
 /// A value that is no text.
-fn no_text(rest: &[u8], carriage: Carriage) -> Seen<'_>
+fn no_text(rest: &[u8], carriage: Carriage, is_shortest: bool) -> Seen<'_>
     ensures rest { result.rest.now ≡ rest.entry.now }
     ensures carriage { result.carriage ≡ carriage }
     ensures text { option_map (λ s. s.now) result.text ≡ None }
+    ensures shortest { result.is_shortest ≡ is_shortest }
 {
     Seen {
         rest,
         carriage,
         text: None,
+        is_shortest,
     }
 }
 
@@ -86,43 +117,65 @@ fn whole(number: i128) -> Carriage
     }
 }
 
-/// A value with nothing inside, after its first octet.
+/// A whole number that octets spell before the rest.
+fn number_seen<'a>(all: &[u8], rest: &'a [u8], number: i128) -> Seen<'a>
+    ensures rest { result.rest.now ≡ rest.entry.now }
+    ensures carriage { result.carriage ≡ carriage_of (of_whole number) }
+    ensures text { option_map (λ s. s.now) result.text ≡ None }
+    ensures shortest { (front : List ℕ) → all.now ≡ front ++ rest.entry.now
+        → TellsLeaf result.is_shortest (is_writable (of_whole number))
+        front (short (of_whole number)) }
+{
+    no_text(rest, whole(number), is_whole(before(all, rest), number))
+}
+
+/// A value with nothing inside, after its first octet, and from that octet on.
 #[tactic(auto, unfolding(crate::specs::body::Decoder::leaf_at))]
-fn leaf(form: Form, octets: &[u8]) -> Result<Seen<'_>, Fault>
-    ensures ok { IfOk result (λ s. IsSeen (leaf_at form octets.now)
+fn leaf<'a>(form: Form, all: &'a [u8], octets: &'a [u8]) -> Result<Seen<'a>, Fault>
+    ensures ok { IfOk result (λ s. IsSeen (leaf_at form octets.entry.now)
         s.rest.now s.carriage (option_map (λ t. t.now) s.text)) }
-    ensures err { IfErr result (λ e. leaf_at form octets.now ≡ Err e) }
+    ensures err { IfErr result (λ e. leaf_at form octets.entry.now ≡ Err e) }
+    ensures shortest { IfOk result (λ s. (c : ℕ) → all.entry.now ≡ c ∷ octets.entry.now
+        → IsJudged (leaf_at form octets.entry.now) all.entry.now s.rest.now s.is_shortest) }
 {
     match form {
-        Form::Null => Ok(no_text(octets, Carriage::Carried)),
-        Form::Flag(_) => Ok(no_text(octets, Carriage::Carried)),
-        Form::Whole(number) => Ok(no_text(octets, whole(i128::from(number)))),
+        Form::Null => Ok(no_text(
+            octets,
+            Carriage::Carried,
+            are(before(all, octets), 0xc0, &[]),
+        )),
+        Form::Flag(flag) => {
+            let is_shortest = is_flag(before(all, octets), flag);
+            Ok(no_text(octets, Carriage::Carried, is_shortest))
+        }
+        Form::Whole(number) => Ok(number_seen(all, octets, i128::from(number))),
         Form::Unsigned(width) => {
             let (number, rest) = number_of(octets, width)?;
-            Ok(no_text(rest, whole(i128::from(number))))
+            Ok(number_seen(all, rest, i128::from(number)))
         }
         Form::Signed(width) => {
             let (number, rest) = number_of(octets, width)?;
-            Ok(no_text(rest, whole(signed(number, width))))
+            Ok(number_seen(all, rest, signed(number, width)))
         }
         Form::Text(size) => {
             let (found, rest) = sized(octets, size)?;
-            Ok(text(found, rest))
+            Ok(text(before(all, rest), found, rest))
         }
         Form::Bytes(size) => {
-            let (_found, rest) = sized(octets, size)?;
-            Ok(no_text(rest, Carriage::Carried))
+            let (found, rest) = sized(octets, size)?;
+            let is_shortest = is_least_bytes(before(all, rest), found);
+            Ok(no_text(rest, Carriage::Carried, is_shortest))
         }
         Form::List(_) | Form::Dict(_) => Err(Fault::TooDeep),
         Form::Foreign(size) => {
             let (count, rest) = size_of(octets, size)?;
             let (_kind, rest) = octets_of(rest, 1)?;
             let (_found, rest) = octets_of(rest, count)?;
-            Ok(no_text(rest, Carriage::Uncarried))
+            Ok(no_text(rest, Carriage::Uncarried, false))
         }
         Form::Float(width) => {
             let (_number, rest) = number_of(octets, width)?;
-            Ok(no_text(rest, Carriage::Uncarried))
+            Ok(no_text(rest, Carriage::Uncarried, false))
         }
         Form::Never => Err(Fault::Malformed),
     }
@@ -135,54 +188,93 @@ fn value(octets: &[u8], room: u8) -> Result<Seen<'_>, Fault>
     ensures ok { IfOk result (λ s. IsSeen (written_at room octets.now)
         s.rest.now s.carriage (option_map (λ t. t.now) s.text)) }
     ensures err { IfErr result (λ e. written_at room octets.now ≡ Err e) }
+    ensures shortest { IfOk result (λ s. IsFullyJudged (written_at room octets.now)
+        octets.now s.rest.now s.is_shortest) }
 {
     let Some((first, rest)) = octets.split_first() else {
         return Err(Fault::Malformed);
     };
     let form = form_of(*first);
     if room == 0 {
-        leaf(form, rest)
+        leaf(form, octets, rest)
     } else {
-        nest(form, rest, room - 1)
+        nest(form, octets, rest, room - 1)
     }
 }
 
-/// A value after its first octet, with what is inside.
+/// A value whose head was passed over before it.
+fn behind(is_least: bool, seen: Seen) -> Seen
+    ensures rest { result.rest.now ≡ seen.entry.rest.now }
+    ensures carriage { result.carriage ≡ seen.entry.carriage }
+    ensures text { option_map (λ t. t.now) result.text
+        ≡ option_map (λ t. t.now) seen.entry.text }
+    ensures shortest { result.is_shortest ≡ (is_least && seen.entry.is_shortest) }
+{
+    Seen {
+        rest: seen.rest,
+        carriage: seen.carriage,
+        text: seen.text,
+        is_shortest: is_least && seen.is_shortest,
+    }
+}
+
+/// A value after its first octet, with what is inside, and from that octet on.
 #[cycle(passing)]
 #[tactic(auto, unfolding(crate::specs::body::Passing::written_nest_at))]
-fn nest(form: Form, octets: &[u8], room: u8) -> Result<Seen<'_>, Fault>
-    ensures ok { IfOk result (λ s. IsSeen (written_nest_at (written_at room) form octets.now)
+fn nest<'a>(form: Form, all: &'a [u8], octets: &'a [u8], room: u8) -> Result<Seen<'a>, Fault>
+    ensures ok { IfOk result (λ s. IsSeen
+        (written_nest_at (written_at room) form octets.entry.now)
         s.rest.now s.carriage (option_map (λ t. t.now) s.text)) }
-    ensures err { IfErr result (λ e. written_nest_at (written_at room) form octets.now ≡ Err e) }
+    ensures err { IfErr result (λ e.
+        written_nest_at (written_at room) form octets.entry.now ≡ Err e) }
+    ensures shortest { IfOk result (λ s. (c : ℕ) → form ≡ of_octet c
+        → all.entry.now ≡ c ∷ octets.entry.now
+        → IsFullyJudged (written_nest_at (written_at room) form octets.entry.now)
+        all.entry.now s.rest.now s.is_shortest) }
 {
     match form {
         Form::List(size) => {
             let (count, rest) = size_of(octets, size)?;
-            items(rest, count, room)
+            let is_least = is_list_head(before(all, rest), count);
+            let found = items(rest, count, room)?;
+            Ok(behind(is_least, found))
         }
         Form::Dict(size) => {
             let (count, rest) = size_of(octets, size)?;
-            pairs(rest, count, room)
+            let is_least = is_dict_head(before(all, rest), count);
+            let found = pairs(rest, count, room)?;
+            Ok(behind(is_least, found))
         }
-        _ => leaf(form, octets),
+        _ => leaf(form, all, octets),
     }
 }
 
-/// So many values.
+fn both(one: bool, other: bool) -> bool
+    ensures { result ≡ (one && other) }
+{
+    one && other
+}
+
+/// So many values, behind the head of a list.
 #[cycle(passing)]
 fn items(octets: &[u8], count: u64, room: u8) -> Result<Seen<'_>, Fault>
     ensures ok { IfOk result (λ s. IsSeen (list_at (written_at room) count octets.now)
         s.rest.now s.carriage (option_map (λ t. t.now) s.text)) }
     ensures err { IfErr result (λ e. list_at (written_at room) count octets.now ≡ Err e) }
+    ensures shortest { IfOk result (λ s. (d : Data) (body : List ℕ)
+        → list_at (written_at room) count octets.now ≡ Ok (d, s.rest.now)
+        → octets.now ≡ body ++ s.rest.now → AreItemsJudged count body s.is_shortest d) }
 {
     let mut carriage = Carriage::Carried;
+    let mut is_shortest = true;
     let mut rest = octets;
     for _ in 0..count {
         let item = value(rest, room)?;
         carriage = worse(carriage, item.carriage);
+        is_shortest = both(is_shortest, item.is_shortest);
         rest = item.rest;
     }
-    Ok(no_text(rest, carriage))
+    Ok(no_text(rest, carriage, is_shortest))
 }
 
 /// What is known of the pairs of a map so far.
@@ -245,7 +337,7 @@ fn map_carriage(known: Known) -> Carriage
     }
 }
 
-/// So many keys, each with its value behind it.
+/// So many keys, each with its value behind it, behind the head of a map.
 #[cycle(passing)]
 fn pairs(octets: &[u8], count: u64, room: u8) -> Result<Seen<'_>, Fault>
     ensures ok { IfOk result (λ s. IsSeen
@@ -253,6 +345,9 @@ fn pairs(octets: &[u8], count: u64, room: u8) -> Result<Seen<'_>, Fault>
         s.rest.now s.carriage (option_map (λ t. t.now) s.text)) }
     ensures err { IfErr result (λ e.
         pairs_at (written_at room) count no_entries true octets.now ≡ Err e) }
+    ensures shortest { IfOk result (λ s. (d : Data) (body : List ℕ)
+        → pairs_at (written_at room) count no_entries true octets.now ≡ Ok (d, s.rest.now)
+        → octets.now ≡ body ++ s.rest.now → ArePairsJudged count body s.is_shortest d) }
 {
     let mut known = Known {
         are_texts: true,
@@ -260,14 +355,17 @@ fn pairs(octets: &[u8], count: u64, room: u8) -> Result<Seen<'_>, Fault>
         last: None,
         carriage: Carriage::Carried,
     };
+    let mut is_shortest = true;
     let mut rest = octets;
     for _ in 0..count {
         let key = value(rest, room)?;
         let item = value(key.rest, room)?;
         known = with(known, key, item.carriage);
+        is_shortest = both(is_shortest, both(key.is_shortest, item.is_shortest));
         rest = item.rest;
     }
-    Ok(no_text(rest, map_carriage(known)))
+    let is_shortest = both(known.are_texts, both(known.ascend, is_shortest));
+    Ok(no_text(rest, map_carriage(known), is_shortest))
 }
 
 /// Without memory only two faults come.
@@ -290,7 +388,7 @@ fn refused(fault: Fault) -> Refusal
 /// `room` others and each value before it is whole; [`Refusal::Malformed`] where the octets
 /// otherwise begin with no value.
 pub fn pass(octets: &[u8], room: u8) -> Result<Passed<'_>, Refusal>
-    ensures ok { IfOk result (λ p. IsPassed room octets.now p.rest.now p.carriage) }
+    ensures ok { IfOk result (λ p. IsPassed room octets.now p.rest.now p.carriage p.is_shortest) }
     ensures too_deep { IfErr result (λ e. e ≡ Refusal.TooDeep → IsDeep room octets.now) }
     ensures malformed { IfErr result (λ e. e ≡ Refusal.Malformed → IsNoValue room octets.now) }
 {
@@ -298,6 +396,7 @@ pub fn pass(octets: &[u8], room: u8) -> Result<Passed<'_>, Refusal>
         Ok(seen) => Ok(Passed {
             rest: seen.rest,
             carriage: seen.carriage,
+            is_shortest: seen.is_shortest,
         }),
         Err(fault) => Err(refused(fault)),
     }

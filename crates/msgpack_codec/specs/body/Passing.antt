@@ -1,11 +1,12 @@
 -- What is passed over of octets, each part behind the one before it: as what is read, but with each pair of a map.
-use Rattle.std.specs.Prelude.{◌≡◌, ℕ, zero, suc, List, [], ◌∷◌, Bool, true, false, ◌&&◌, Ok, Err, Option, Some, None, if◌then◌else◌}
+use Rattle.std.specs.Prelude.{◌≡◌, ◌≤◌, ◌⊎◌, ℕ, zero, suc, List, [], ◌∷◌, ◌++◌, length, Bool, true, false, ◌&&◌, Ok, Err, Option, Some, None, if◌then◌else◌}
 use Rattle.std.specs.Ordering.{nat_cmp, match_ordering}
 use Rattle.std.specs.Cmp.Lexicographic.{slice_cmp}
 use Rattle.message_tree.specs.Data as tree
 use Rattle.msgpack_codec.specs.Format.{form_of}
 use Rattle.msgpack_codec.specs.Values.{is_text}
-use Rattle.msgpack_codec.specs.Written.{add_entry, keys_ascend, carriage_of, entries_carriage}
+use Rattle.msgpack_codec.specs.Short.{item_count, short, items_short, entries_short}
+use Rattle.msgpack_codec.specs.Written.{add_entry, keys_ascend, carriage_of, entries_carriage, is_writable, items_writable, entries_writable}
 use Rattle.msgpack_codec.specs.body.Decoder.{◌>>=◌, Found, size_at, items_at, leaf_at}
 use Rattle.msgpack_codec.specs.declared.fault.Fault.TheVariants.{Malformed}
 use Rattle.msgpack_codec.specs.declared.format.Form.{Form}
@@ -84,3 +85,29 @@ pub record AreKnown (texts ascend : Bool) (last : Option (List ℕ)) (carriage :
   pub ascend_is : ascend ≡ keys_ascend found
   pub last_is : last ≡ last_key found
   pub carriage_is : carriage ≡ entries_carriage found
+
+-- whether octets are the least that spell what h says is writable
+pub record Tells (b h : Bool) (front least : List ℕ) : Type 0 where
+  pub fits : length least ≤ length front
+  pub is : b ≡ true → (h ≡ true) × (front ≡ least)
+  pub of : h ≡ true → front ≡ least → b ≡ true
+
+-- the same, where least are no more octets than these
+abbrev pub TellsLeaf : Bool → Bool → List ℕ → List ℕ → Type 0
+TellsLeaf b h front least = (b ≡ true → (h ≡ true) × (front ≡ least)) × (h ≡ true → front ≡ least → b ≡ true)
+
+-- it is told of a value that was found whether it is spelled by the least octets
+abbrev pub IsJudged : Found tree.Data → List ℕ → List ℕ → Bool → Type 0
+IsJudged found octets rest b = (d : tree.Data) (front : List ℕ) → found ≡ Ok (d, rest) → octets ≡ front ++ rest → TellsLeaf b (is_writable d) front (short d)
+
+abbrev pub IsFullyJudged : Found tree.Data → List ℕ → List ℕ → Bool → Type 0
+IsFullyJudged found octets rest b = (d : tree.Data) (front : List ℕ) → found ≡ Ok (d, rest) → octets ≡ front ++ rest → Tells b (is_writable d) front (short d)
+
+-- of a list, behind its head
+abbrev pub AreItemsJudged : ℕ → List ℕ → Bool → tree.Data → Type 0
+AreItemsJudged n body b d = (ds : tree.Items) × (d ≡ tree.list ds) × (item_count ds ≡ n) × Tells b (items_writable ds) body (items_short ds)
+
+-- of a map, behind its head
+abbrev pub ArePairsJudged : ℕ → List ℕ → Bool → tree.Data → Type 0
+ArePairsJudged n body b d =
+    ((es : tree.Entries) × (d ≡ tree.dict es) × (tree.entry_count es ≡ n) × Tells b (keys_ascend es && entries_writable es) body (entries_short es)) ⊎ ((d ≡ tree.uncarried) × (b ≡ false))
