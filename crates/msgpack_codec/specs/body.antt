@@ -1,3 +1,4 @@
 -- What only the bodies and their proofs speak of: nothing here has to be believed.
 pub mod Decoder
 pub mod Passing
+pub mod Tokens
