@@ -18,7 +18,8 @@ pub fn quote(out: &mut String, octets: &[u8]) -> io::Result<()> {
     Ok(())
 }
 
-fn hexadecimal(out: &mut String, octets: &[u8]) -> io::Result<()> {
+/// Adds octets by two digits each, behind an x.
+pub fn hexadecimal(out: &mut String, octets: &[u8]) -> io::Result<()> {
     out.push('x')?;
     for octet in octets {
         write!(out, "{octet:02x}")?;

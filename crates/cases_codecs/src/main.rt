@@ -10,6 +10,7 @@
 //!   - `pass ROOM OCTETS`: passes over the value at the front of octets in MessagePack, with so much room to
 //!     nest in, and prints whether it is carried, whether it has its shortest spelling, and the octets
 //!     after it;
+//!   - `token OCTETS`: the token at the front of octets in MessagePack, and the octets after it;
 //!   - `number N`, `letters TEXT`, `appended JSON`: values written behind others;
 //!   - `beyond`: whether trees that nothing serializes are carried, and what is written of them;
 //!   - `great KIND N`: a tree of so many letters, octets, items or keys, as MessagePack begins it.

@@ -1,7 +1,7 @@
-//! What is passed over of octets.
-use crate::describing::quote;
+//! What is read of octets with no memory: values that are passed over, and tokens.
+use crate::describing::{hexadecimal, quote};
 use case_text::{number_of, octets_of, part};
-use msgpack_codec::{Carriage, Passed, pass};
+use msgpack_codec::{Carriage, Passed, Token, first_token, pass};
 use std::alloc::Global;
 use std::io;
 
@@ -32,4 +32,33 @@ fn told(alloc: Global, passed: Passed) -> io::Result<String> {
     quote(&mut text, passed.rest)?;
     text.push('\n')?;
     Ok(text)
+}
+
+/// The token at the front of octets, and the octets after it; or why there is none.
+pub fn token(alloc: Global, octets: &[u8]) -> io::Result<String> {
+    match first_token(octets) {
+        Ok((token, rest)) => {
+            let mut text = String::new(alloc);
+            describe_token(&mut text, token)?;
+            text.push(' ')?;
+            quote(&mut text, rest)?;
+            text.push('\n')?;
+            Ok(text)
+        }
+        Err(fault) => Ok(format!(in alloc; "{fault}\n")?),
+    }
+}
+
+fn describe_token(out: &mut String, token: Token) -> io::Result<()> {
+    match token {
+        Token::Null => out.push_str("null")?,
+        Token::Flag(flag) => out.push_str(if flag { "true" } else { "false" })?,
+        Token::Whole(number) => write!(out, "{number}")?,
+        Token::Text(text) => quote(out, text.as_bytes())?,
+        Token::Bytes(octets) => hexadecimal(out, octets)?,
+        Token::List(count) => write!(out, "list {count}")?,
+        Token::Dict(count) => write!(out, "dict {count}")?,
+        Token::Uncarried => out.push('?')?,
+    }
+    Ok(())
 }
