@@ -6,7 +6,8 @@ use Rattle.std.proofs.lemmas.List.{take_at, drop_at, length-append, append-nil, 
 use Rattle.message_tree.specs.Data as tree
 use Rattle.msgpack_codec.specs.Short.{text_head, list_head, dict_head, short, items_short, entries_short, item_count}
 use Rattle.msgpack_codec.specs.Values.{is_text}
-use Rattle.msgpack_codec.specs.Written.{add_entry, keys_ascend, is_writable, items_writable, entries_writable}
+use Rattle.msgpack_codec.specs.Written.{add_entry, keys_ascend}
+use Rattle.msgpack_codec.specs.body.Writable.{is_writable, items_writable, entries_writable}
 use Rattle.msgpack_codec.specs.body.Decoder.{Found, push_item}
 use Rattle.msgpack_codec.specs.body.Passing.{Tells, TellsLeaf, IsJudged, AreItemsJudged, ArePairsJudged}
 use Rattle.msgpack_codec.proofs.ReadIsSpelled.{read, found-is}

@@ -9,7 +9,8 @@ use Rattle.std.proofs.lemmas.Cmp.{nat_list_cmp_total}
 use Rattle.std.proofs.lemmas.Bool.{and_parts}
 use Rattle.message_tree.specs.Data as tree
 use Rattle.message_tree.proofs.Lemmas.{whichever, joined-none, next-put}
-use Rattle.msgpack_codec.specs.Written.{settled, items_settled, entries_settled, is_before_first, keys_ascend, worse, doubted, carriage_of, items_carriage, entries_carriage, is_writable, items_writable, entries_writable}
+use Rattle.msgpack_codec.specs.Written.{settled, items_settled, entries_settled, is_before_first, keys_ascend, worse, doubted, carriage_of, items_carriage, entries_carriage}
+use Rattle.msgpack_codec.specs.body.Writable.{is_writable, items_writable, entries_writable}
 use Rattle.msgpack_codec.specs.Short.{has_short, items_have_short, entries_have_short}
 use Rattle.msgpack_codec.specs.declared.carriage.Carriage.{Carriage}
 use Rattle.msgpack_codec.specs.declared.carriage.Carriage.TheVariants.{Carried, Unsure, Uncarried}

@@ -2,3 +2,4 @@
 pub mod Decoder
 pub mod Passing
 pub mod Tokens
+pub mod Writable

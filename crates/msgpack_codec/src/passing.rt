@@ -5,7 +5,8 @@ ghost use Rattle.msgpack_codec.specs.Values.{is_text, text_from};
 ghost use Rattle.msgpack_codec.specs.Format.{form_of as of_octet};
 ghost use Rattle.msgpack_codec.specs.Grammar.{IsDeep};
 ghost use Rattle.msgpack_codec.specs.Short.{short};
-ghost use Rattle.msgpack_codec.specs.Written.{IsPassed, IsNoValue, add_entry, carriage_of, is_writable};
+ghost use Rattle.msgpack_codec.specs.Written.{IsPassed, IsNoValue, add_entry, carriage_of};
+ghost use Rattle.msgpack_codec.specs.body.Writable.{is_writable};
 ghost use Rattle.msgpack_codec.specs.body.Decoder.{leaf_at};
 ghost use Rattle.msgpack_codec.specs.body.Passing.{IsSeen, TellsLeaf, IsJudged, IsFullyJudged, AreItemsJudged, ArePairsJudged, AreKnown, is_next, text_of, written_at, written_nest_at, list_at, pairs_at};
 

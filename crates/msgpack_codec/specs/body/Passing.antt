@@ -6,7 +6,8 @@ use Rattle.message_tree.specs.Data as tree
 use Rattle.msgpack_codec.specs.Format.{form_of}
 use Rattle.msgpack_codec.specs.Values.{is_text}
 use Rattle.msgpack_codec.specs.Short.{item_count, short, items_short, entries_short}
-use Rattle.msgpack_codec.specs.Written.{add_entry, keys_ascend, carriage_of, entries_carriage, is_writable, items_writable, entries_writable}
+use Rattle.msgpack_codec.specs.Written.{add_entry, keys_ascend, carriage_of, entries_carriage}
+use Rattle.msgpack_codec.specs.body.Writable.{is_writable, items_writable, entries_writable}
 use Rattle.msgpack_codec.specs.body.Decoder.{◌>>=◌, Found, size_at, items_at, leaf_at}
 use Rattle.msgpack_codec.specs.declared.fault.Fault.TheVariants.{Malformed}
 use Rattle.msgpack_codec.specs.declared.format.Form.{Form}

@@ -1,6 +1,7 @@
 use Rattle.std.proofs.Common.{◌≡◌, ◌+◌, ◌-◌, ◌*◌, ℕ, List, ◌++◌, Bool, true, option_map}
 use Rattle.message_tree.specs.Data.{Items, no_items, Entries, no_entries}
-use Rattle.msgpack_codec.specs.Written.{items_carriage, items_writable}
+use Rattle.msgpack_codec.specs.Written.{items_carriage}
+use Rattle.msgpack_codec.specs.body.Writable.{items_writable}
 use Rattle.msgpack_codec.specs.Short.{item_count, items_short}
 use Rattle.msgpack_codec.specs.body.Decoder.{items_at}
 use Rattle.msgpack_codec.specs.body.Passing.{written_at, pairs_at, AreKnown, Tells}

@@ -3,7 +3,7 @@ use Rattle.msgpack_codec.specs.Written.{carriage_of}
 use Rattle.msgpack_codec.specs.body.Passing.{text_of}
 use Rattle.msgpack_codec.proofs.Texts.{text_from-utf8, text_from-other}
 use Rattle.msgpack_codec.specs.Short.{short}
-use Rattle.msgpack_codec.specs.Written.{is_writable}
+use Rattle.msgpack_codec.specs.body.Writable.{is_writable}
 use Rattle.msgpack_codec.specs.body.Passing.{TellsLeaf}
 use Rattle.msgpack_codec.proofs.Judgements.{text-judged, judged-false}
 use Rattle.msgpack_codec.proofs.passing.text.Goals as goal
