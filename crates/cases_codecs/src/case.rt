@@ -7,6 +7,7 @@ use crate::frames::{Stream, cut_everywhere};
 use crate::great::great;
 use crate::handshakes::{handshake, no_seat};
 use crate::holding::{deep, octets, shared, text};
+use crate::passing::{passing, token};
 use crate::reading::{json, msgpack, nested};
 use crate::sending::{failing_flush, held_back, no_room, threads};
 use case_text::{Table, line_of, octets_of};
@@ -66,6 +67,8 @@ fn told(alloc: Global, word: &str, rest: &str) -> io::Result<String> {
         "json" => json(alloc, &octets_of(alloc, rest)?),
         "msgpack" => msgpack(alloc, &octets_of(alloc, rest)?),
         "nested" => nested(alloc, rest),
+        "pass" => passing(alloc, rest),
+        "token" => token(alloc, &octets_of(alloc, rest)?),
         "number" => number(alloc, rest),
         "letters" => letters(alloc, rest),
         "appended" => appended(alloc, &octets_of(alloc, rest)?),

@@ -10,14 +10,16 @@ fn separate(out: &mut String, is_first: bool) -> io::Result<()> {
     Ok(())
 }
 
-fn quote(out: &mut String, text: &str) -> io::Result<()> {
+/// Adds octets between quotation marks.
+pub fn quote(out: &mut String, octets: &[u8]) -> io::Result<()> {
     out.push('"')?;
-    spell(out, text.as_bytes())?;
+    spell(out, octets)?;
     out.push('"')?;
     Ok(())
 }
 
-fn hexadecimal(out: &mut String, octets: &[u8]) -> io::Result<()> {
+/// Adds octets by two digits each, behind an x.
+pub fn hexadecimal(out: &mut String, octets: &[u8]) -> io::Result<()> {
     out.push('x')?;
     for octet in octets {
         write!(out, "{octet:02x}")?;
@@ -35,7 +37,7 @@ pub fn describe(out: &mut String, tree: &Tree, room: u8) -> io::Result<()> {
         Tree::Null => out.push_str("null")?,
         Tree::Flag(flag) => out.push_str(if *flag { "true" } else { "false" })?,
         Tree::Whole(number) => write!(out, "{number}")?,
-        Tree::Text(text) => quote(out, text.as_str())?,
+        Tree::Text(text) => quote(out, text.as_str().as_bytes())?,
         Tree::Bytes(octets) => hexadecimal(out, octets)?,
         Tree::List(items) => {
             out.push('[')?;
@@ -52,7 +54,7 @@ pub fn describe(out: &mut String, tree: &Tree, room: u8) -> io::Result<()> {
             let mut is_first = true;
             for (key, value) in dict.iter() {
                 separate(out, is_first)?;
-                quote(out, key.as_str())?;
+                quote(out, key.as_str().as_bytes())?;
                 out.push(':')?;
                 describe(out, value, room - 1)?;
                 is_first = false;

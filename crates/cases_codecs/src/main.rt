@@ -7,6 +7,10 @@
 //!     and then the message in JSON and in MessagePack; where it is no message, the fault;
 //!   - `nested N WORD OPEN LAST CLOSE`: does so for N times OPEN, then LAST, then N times CLOSE;
 //!     `-` is nothing;
+//!   - `pass ROOM OCTETS`: passes over the value at the front of octets in MessagePack, with so much room to
+//!     nest in, and prints whether it is carried, whether it has its shortest spelling, and the octets
+//!     after it;
+//!   - `token OCTETS`: the token at the front of octets in MessagePack, and the octets after it;
 //!   - `number N`, `letters TEXT`, `appended JSON`: values written behind others;
 //!   - `beyond`: whether trees that nothing serializes are carried, and what is written of them;
 //!   - `great KIND N`: a tree of so many letters, octets, items or keys, as MessagePack begins it.
@@ -31,6 +35,7 @@ mod frames;
 mod great;
 mod handshakes;
 mod holding;
+mod passing;
 mod reading;
 mod sending;
 

@@ -23,29 +23,29 @@ use Rattle.msgpack_codec.proofs.ShortIsSpelled.{complement, one_low, two_low, fo
 
 -- ---- octets
 
-abbrev Low : List ℕ → Type 0
+abbrev pub Low : List ℕ → Type 0
 Low [] = Unit {0}
 Low (c ∷ o) = (c < 256) × Low o
 
-low_octets : (o : List ℕ) → tree.AreOctets o → Low o
+pub low_octets : (o : List ℕ) → tree.AreOctets o → Low o
 low_octets [] h = tt
 low_octets (c ∷ o) h = (h 0, low_octets o (λ i. h (suc i)))
 
-low_front : (a b : List ℕ) → Low (a ++ b) → Low a
+pub low_front : (a b : List ℕ) → Low (a ++ b) → Low a
 low_front [] b h = tt
 low_front (c ∷ a) b h = (h.0, low_front a b h.1)
 
-low_back : (a b : List ℕ) → Low (a ++ b) → Low b
+pub low_back : (a b : List ℕ) → Low (a ++ b) → Low b
 low_back [] b h = h
 low_back (c ∷ a) b h = low_back a b h.1
 
-as_low : (a b : List ℕ) → a ≡ b → Low a → Low b
+pub as_low : (a b : List ℕ) → a ≡ b → Low a → Low b
 as_low a b e h = subst Low e h
 
 -- ---- numbers
 
 -- what a number of this width is below
-abbrev Within : Width → ℕ → Type 0
+abbrev pub Within : Width → ℕ → Type 0
 Within One n = n < 256
 Within Two n = n < 65536
 Within Four n = n < 2 ^ 32
@@ -173,7 +173,7 @@ signed_fits Eight n h = any_fits (signed_from Eight n)
 -- ---- heads
 
 -- a length that this size can say is at most this one
-abbrev Holds : Size → ℕ → Type 0
+abbrev pub Holds : Size → ℕ → Type 0
 Holds (Here m) n = n ≤ m
 Holds (Next w) n = Within w n
 
@@ -184,20 +184,20 @@ holds_less (Next Two) m n le h = omega arith
 holds_less (Next Four) m n le h = omega arith
 holds_less (Next Eight) m n le h = tt
 
-abbrev octets_of : Size → ℕ
+abbrev pub octets_of : Size → ℕ
 octets_of (Here m) = 0
 octets_of (Next w) = byte_len (bits_of w)
 
-size_holds : (size : Size) (head : List ℕ) (n : ℕ) → Low head → IsSize size head n → Holds size n
+pub size_holds : (size : Size) (head : List ℕ) (n : ℕ) → Low head → IsSize size head n → Holds size n
 size_holds (Here m) head n l h = omega (arith, h.1)
 size_holds (Next w) head n l h = number_within w head n l h
 
-size_octets : (size : Size) (head : List ℕ) (n : ℕ) → IsSize size head n → octets_of size ≡ length head
+pub size_octets : (size : Size) (head : List ℕ) (n : ℕ) → IsSize size head n → octets_of size ≡ length head
 size_octets (Here m) head n h = ap length (sym h.0)
 size_octets (Next w) head n h = sym h.0
 
 -- no head of this kind with a size of this form is shorter than the one that h writes
-abbrev IsLeast : (ℕ → List ℕ) → Size → Type 0
+abbrev pub IsLeast : (ℕ → List ℕ) → Size → Type 0
 IsLeast h size = (n : ℕ) → Holds size n → length (h n) ≤ suc (octets_of size)
 
 text_here : (m : ℕ) → m < 32 → IsLeast text_head (Here m)
@@ -307,7 +307,7 @@ dict_next_four n h =
 -- ---- first octets
 
 -- what a first octet says is said in one octet, or by a head that is no shorter than the least
-abbrev IsFair : Form → Type 0
+abbrev pub IsFair : Form → Type 0
 IsFair forms.Null = Unit {0}
 IsFair (forms.Flag b) = Unit {0}
 IsFair (forms.Whole z) = length (whole_short z) ≤ 1
@@ -338,7 +338,7 @@ marked_fair c =
     (either (c == 220) _ _ list_next_two (either (c == 221) _ _ list_next_four
     (either (c == 222) _ _ dict_next_two (either (c == 223) _ _ dict_next_four tt))))))))))))))))))))))))))))))
 
-form_fair : (c : ℕ) → IsFair (form_of c)
+pub form_fair : (c : ℕ) → IsFair (form_of c)
 unfolding form_of
 form_fair c =
     elim (cases_lt c 128) [
@@ -373,7 +373,7 @@ as_tree n d e same h = subst (λ x. length (short x) ≤ n) (sym same) h
 text_from_fits : (s : List ℕ) (n : ℕ) → length (text_head (length s) ++ s) ≤ n → length (short (text_from s)) ≤ n
 text_from_fits s n h = elim (is_utf8 s) as (λ b. length (short (if b then tree.text s else tree.uncarried)) ≤ n) [ true ↦ h | false ↦ omega arith ]
 
-leaf_fits : (form : Form) (o : List ℕ) (d : tree.Data) → IsFair form → Low o → IsLeaf form o d → length (short d) ≤ suc (length o)
+pub leaf_fits : (form : Form) (o : List ℕ) (d : tree.Data) → IsFair form → Low o → IsLeaf form o d → length (short d) ≤ suc (length o)
 leaf_fits forms.Null o d f l h = as_tree _ d _ h.1 (omega arith)
 leaf_fits (forms.Flag b) o d f l h = as_tree _ d _ h.1 (omega arith)
 leaf_fits (forms.Whole z) o d f l h = as_tree _ d _ h.1 (omega (arith, f))

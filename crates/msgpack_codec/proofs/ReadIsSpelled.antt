@@ -70,7 +70,7 @@ size_found (Here m) octets n rest e =
     ([], same.1, (refl, sym same.0))
 size_found (Next w) octets n rest e = number_found w octets n rest e
 
-sized_found : (size : Size) (octets s rest : List ℕ) → sized_at size octets ≡ Ok (s, rest) → Front (λ f. IsSized size f s) octets rest
+pub sized_found : (size : Size) (octets s rest : List ℕ) → sized_at size octets ≡ Ok (s, rest) → Front (λ f. IsSized size f s) octets rest
 unfolding sized_at
 sized_found size octets s rest e =
     let b = behind (size_at size octets) (λ n. octets_at n.0 n.1) (s, rest) e in
@@ -78,7 +78,7 @@ sized_found size octets s rest e =
     let body = octets_found b.value b.rest s rest b.after in
     (head.0 ++ s, head.1 ∙ ap (λ (r : List ℕ). head.0 ++ r) body.0 ∙ sym (append_assoc head.0 s rest), (head.0, rw body.1 head.2, refl))
 
-leaf_found : (form : Form) (octets : List ℕ) (d : tree.Data) (rest : List ℕ) → leaf_at form octets ≡ Ok (d, rest) → Front (λ f. IsLeaf form f d) octets rest
+pub leaf_found : (form : Form) (octets : List ℕ) (d : tree.Data) (rest : List ℕ) → leaf_at form octets ≡ Ok (d, rest) → Front (λ f. IsLeaf form f d) octets rest
 unfolding leaf_at
 leaf_found forms.Null octets d rest e =
     let same = found-is tree.null d octets rest e in
@@ -144,7 +144,7 @@ pub items_behind-none : (found : tree.Items) → items_behind found [] ≡ found
 items_behind-none tree.no_items = refl
 items_behind-none (tree.item x more) = ap (tree.item x) (items_behind-none more)
 
-items_found : (p : List ℕ → Found tree.Data) (S : List ℕ → tree.Data → Type 0) (tells : (octets : List ℕ) (d : tree.Data) (rest : List ℕ) → p octets ≡ Ok (d, rest) → Front (λ f. S f d) octets rest)
+pub items_found : (p : List ℕ → Found tree.Data) (S : List ℕ → tree.Data → Type 0) (tells : (octets : List ℕ) (d : tree.Data) (rest : List ℕ) → p octets ≡ Ok (d, rest) → Front (λ f. S f d) octets rest)
     (n : ℕ) (found : tree.Items) (octets : List ℕ) (all : tree.Items) (rest : List ℕ) → items_at p n found octets ≡ Ok (all, rest)
     → (ds : List tree.Data) × (front : List ℕ) × (octets ≡ front ++ rest) × (length ds ≡ n) × AreSpelled S front ds × (all ≡ items_behind found ds)
 unfolding items_at

@@ -25,7 +25,7 @@ use Rattle.msgpack_codec.proofs.Members.{middle_of, last_of}
 -- ---- heads
 
 -- a first octet of this kind, and the octets of a length
-abbrev HeadIs : (Size → Form) → List ℕ → ℕ → Type 0
+abbrev pub HeadIs : (Size → Form) → List ℕ → ℕ → Type 0
 HeadIs kind head n = (c : ℕ) × (size : Size) × (rest : List ℕ) × (head ≡ c ∷ rest) × (form_of c ≡ kind size) × IsSize size rest n
 
 form_text : (n : ℕ) → n < 32 → form_of (160 + n) ≡ forms.Text (Here n)
@@ -81,7 +81,7 @@ bytes_head_is n lt =
       ]
     ]
 
-list_head_is : (n : ℕ) → n < 2 ^ 32 → HeadIs forms.List (list_head n) n
+pub list_head_is : (n : ℕ) → n < 2 ^ 32 → HeadIs forms.List (list_head n) n
 unfolding list_head form_of
 list_head_is n lt =
     elim (cases_lt n 16) [
@@ -92,7 +92,7 @@ list_head_is n lt =
       ]
     ]
 
-dict_head_is : (n : ℕ) → n < 2 ^ 32 → HeadIs forms.Dict (dict_head n) n
+pub dict_head_is : (n : ℕ) → n < 2 ^ 32 → HeadIs forms.Dict (dict_head n) n
 unfolding dict_head form_of
 dict_head_is n lt =
     elim (cases_lt n 16) [
@@ -128,12 +128,12 @@ leaf_spells (suc room) c o d form e h = subst (λ f. IsNest (Spells room) f o d)
 as_octets : (room : ℕ) (x y : List ℕ) (d : tree.Data) → x ≡ y → Spells room y d → Spells room x d
 as_octets room x y d e h = subst (λ o. Spells room o d) (sym e) h
 
-text_spelled : (room : ℕ) (s : List ℕ) → IsUtf8 s → length s < 2 ^ 32 → Spells room (text_head (length s) ++ s) (tree.text s)
+pub text_spelled : (room : ℕ) (s : List ℕ) → IsUtf8 s → length s < 2 ^ 32 → Spells room (text_head (length s) ++ s) (tree.text s)
 text_spelled room s u lt =
     let h = text_head_is (length s) lt in
     as_octets room _ (h.0 ∷ (h.2 ++ s)) _ (ap (λ x. x ++ s) h.3) (leaf_spells room h.0 (h.2 ++ s) (tree.text s) (forms.Text h.1) h.4 (s, (h.2, h.5, refl), sym (text_from-utf8 s u)))
 
-bytes_spelled : (room : ℕ) (s : List ℕ) → length s < 2 ^ 32 → Spells room (bytes_head (length s) ++ s) (tree.bytes s)
+pub bytes_spelled : (room : ℕ) (s : List ℕ) → length s < 2 ^ 32 → Spells room (bytes_head (length s) ++ s) (tree.bytes s)
 bytes_spelled room s lt =
     let h = bytes_head_is (length s) lt in
     as_octets room _ (h.0 ∷ (h.2 ++ s)) _ (ap (λ x. x ++ s) h.3) (leaf_spells room h.0 (h.2 ++ s) (tree.bytes s) (forms.Bytes h.1) h.4 (s, (h.2, h.5, refl), refl))
@@ -199,7 +199,7 @@ below_spelled room n lt =
       ]
     ]
 
-whole_spelled : (room : ℕ) (z : ℤ) → tree.fits_codecs z ≡ true → Spells room (short (tree.whole z)) (tree.whole z)
+pub whole_spelled : (room : ℕ) (z : ℤ) → tree.fits_codecs z ≡ true → Spells room (short (tree.whole z)) (tree.whole z)
 whole_spelled room (pos n) h = zero_spelled room n (ltb-true n (2 ^ 64) h)
 whole_spelled room (negsuc n) h = below_spelled room n (ltb-true n (2 ^ 63) h)
 
@@ -209,11 +209,11 @@ abbrev pub list_of : tree.Items → List tree.Data
 list_of tree.no_items = []
 list_of (tree.item d ds) = d ∷ list_of ds
 
-items_of-list_of : (ds : tree.Items) → items_of (list_of ds) ≡ ds
+pub items_of-list_of : (ds : tree.Items) → items_of (list_of ds) ≡ ds
 items_of-list_of tree.no_items = refl
 items_of-list_of (tree.item d ds) = ap (tree.item d) (items_of-list_of ds)
 
-length-list_of : (ds : tree.Items) → length (list_of ds) ≡ item_count ds
+pub length-list_of : (ds : tree.Items) → length (list_of ds) ≡ item_count ds
 length-list_of tree.no_items = refl
 length-list_of (tree.item d ds) = ap suc (length-list_of ds)
 
@@ -221,7 +221,7 @@ abbrev pub pairs_of : tree.Entries → List (tree.Data × tree.Data)
 pairs_of tree.no_entries = []
 pairs_of (tree.entry k d es) = (tree.text k, d) ∷ pairs_of es
 
-length-pairs_of : (es : tree.Entries) → length (pairs_of es) ≡ tree.entry_count es
+pub length-pairs_of : (es : tree.Entries) → length (pairs_of es) ≡ tree.entry_count es
 length-pairs_of tree.no_entries = refl
 length-pairs_of (tree.entry k d es) = ap suc (length-pairs_of es)
 
@@ -255,12 +255,12 @@ dict_spelled room es a lt h =
     (head.2, entries_short es, pairs_of es, subst (λ n. IsSize head.1 head.2 n) (sym (length-pairs_of es)) head.5, refl, h, sym (map_of es a)) in
     as_octets (suc room) _ (head.0 ∷ (head.2 ++ entries_short es)) d (ap (λ x. x ++ entries_short es) head.3) (subst (λ f. IsNest (Spells room) f (head.2 ++ entries_short es) d) (sym head.4) body)
 
-flag_spelled : (room : ℕ) (b : Bool) → Spells room (short (tree.flag b)) (tree.flag b)
+pub flag_spelled : (room : ℕ) (b : Bool) → Spells room (short (tree.flag b)) (tree.flag b)
 unfolding form_of
 flag_spelled room true = leaf_spells room 195 [] (tree.flag true) (forms.Flag true) refl (refl, refl)
 flag_spelled room false = leaf_spells room 194 [] (tree.flag false) (forms.Flag false) refl (refl, refl)
 
-null_spelled : (room : ℕ) → Spells room (short tree.null) tree.null
+pub null_spelled : (room : ℕ) → Spells room (short tree.null) tree.null
 unfolding form_of
 null_spelled room = leaf_spells room 192 [] tree.null forms.Null refl (refl, refl)
 

@@ -43,10 +43,10 @@ sized_again size f s rest h =
     ap (λ o. size_at size o >>= λ n. octets_at n.0 n.1) parts
     ∙ then_ok (size_at size (h.0 ++ (s ++ rest))) (λ n. octets_at n.0 n.1) (length s, s ++ rest) (Ok (s, rest)) (size_again size h.0 (length s) (s ++ rest) h.1) (octets_again (length s) s rest refl)
 
-at_rest : (x y : tree.Data) (rest : List ℕ) → x ≡ y → read {A = tree.Data} y rest ≡ read {A = tree.Data} x rest
+pub at_rest : (x y : tree.Data) (rest : List ℕ) → x ≡ y → read {A = tree.Data} y rest ≡ read {A = tree.Data} x rest
 at_rest x y rest e = ap (λ (d : tree.Data). read {A = tree.Data} d rest) (sym e)
 
-leaf_again : (form : Form) (f : List ℕ) (d : tree.Data) (rest : List ℕ) → IsLeaf form f d → leaf_at form (f ++ rest) ≡ Ok (d, rest)
+pub leaf_again : (form : Form) (f : List ℕ) (d : tree.Data) (rest : List ℕ) → IsLeaf form f d → leaf_at form (f ++ rest) ≡ Ok (d, rest)
 unfolding leaf_at
 leaf_again forms.Null f d rest h = rw (h.0, h.1) refl
 leaf_again (forms.Flag b) f d rest h = rw (h.0, h.1) refl
@@ -74,7 +74,7 @@ leaf_again (forms.Float w) f d rest h =
     then_ok (number_at w (f ++ rest)) (λ n. Ok (tree.uncarried, n.1)) (from_be_bytes (bits_of w) f, rest) (Ok (d, rest)) (number_again w f _ rest (h.0, refl)) (at_rest d _ rest h.1)
 leaf_again forms.Never f d rest h = absurd h
 
-items_again : (p : List ℕ → Found tree.Data) (S : List ℕ → tree.Data → Type 0) (again : (f : List ℕ) (d : tree.Data) (rest : List ℕ) → S f d → p (f ++ rest) ≡ Ok (d, rest))
+pub items_again : (p : List ℕ → Found tree.Data) (S : List ℕ → tree.Data → Type 0) (again : (f : List ℕ) (d : tree.Data) (rest : List ℕ) → S f d → p (f ++ rest) ≡ Ok (d, rest))
     (found : tree.Items) (front : List ℕ) (ds : List tree.Data) (rest : List ℕ) → AreSpelled S front ds
     → items_at p (length ds) found (front ++ rest) ≡ Ok (items_behind found ds, rest)
 unfolding items_at

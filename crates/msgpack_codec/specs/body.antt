@@ -1,2 +1,5 @@
 -- What only the bodies and their proofs speak of: nothing here has to be believed.
 pub mod Decoder
+pub mod Passing
+pub mod Tokens
+pub mod Writable

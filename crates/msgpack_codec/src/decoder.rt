@@ -14,7 +14,7 @@ use message_tree::{Dict, Message, Tree};
 use std::alloc::{AllocError, Global};
 
 /// So many octets at the front, and those after them.
-fn octets_of(octets: &[u8], count: u64) -> Result<(&[u8], &[u8]), Fault>
+pub(crate) fn octets_of(octets: &[u8], count: u64) -> Result<(&[u8], &[u8]), Fault>
     ensures ok { IfOk result (λ x. octets_at count octets.now ≡ Ok (x.0.now, x.1.now)) }
     ensures err { IfErr result (λ e. octets_at count octets.now ≡ Err e) }
 {
@@ -25,7 +25,7 @@ fn octets_of(octets: &[u8], count: u64) -> Result<(&[u8], &[u8]), Fault>
 }
 
 /// The number at the front, the highest octet first.
-fn number_of(octets: &[u8], width: Width) -> Result<(u64, &[u8]), Fault>
+pub(crate) fn number_of(octets: &[u8], width: Width) -> Result<(u64, &[u8]), Fault>
     ensures ok { IfOk result (λ x. number_at width octets.now ≡ Ok (x.0, x.1.now)) }
     ensures err { IfErr result (λ e. number_at width octets.now ≡ Err e) }
 {
@@ -55,7 +55,7 @@ fn number_of(octets: &[u8], width: Width) -> Result<(u64, &[u8]), Fault>
 
 /// A length, which may stand at the front.
 #[tactic(auto, unfolding(crate::specs::body::Decoder::size_at))]
-fn size_of(octets: &[u8], size: Size) -> Result<(u64, &[u8]), Fault>
+pub(crate) fn size_of(octets: &[u8], size: Size) -> Result<(u64, &[u8]), Fault>
     ensures ok { IfOk result (λ x. size_at size octets.now ≡ Ok (x.0, x.1.now)) }
     ensures err { IfErr result (λ e. size_at size octets.now ≡ Err e) }
 {
@@ -67,7 +67,7 @@ fn size_of(octets: &[u8], size: Size) -> Result<(u64, &[u8]), Fault>
 
 /// As many octets as the length before them says.
 #[tactic(auto, unfolding(crate::specs::body::Decoder::sized_at))]
-fn sized(octets: &[u8], size: Size) -> Result<(&[u8], &[u8]), Fault>
+pub(crate) fn sized(octets: &[u8], size: Size) -> Result<(&[u8], &[u8]), Fault>
     ensures ok { IfOk result (λ x. sized_at size octets.now ≡ Ok (x.0.now, x.1.now)) }
     ensures err { IfErr result (λ e. sized_at size octets.now ≡ Err e) }
 {
@@ -76,7 +76,7 @@ fn sized(octets: &[u8], size: Size) -> Result<(&[u8], &[u8]), Fault>
 }
 
 /// Two's complement.
-fn signed(number: u64, width: Width) -> i128
+pub(crate) fn signed(number: u64, width: Width) -> i128
     ensures { result ≡ signed_from width number }
 {
     let number = number as i128;

@@ -6,14 +6,24 @@
 //! What no tree carries (a float, a value of an extension type, a str that isn't UTF-8, a map with
 //! a key that isn't a str) is read past into `Uncarried`.
 //!
+//! [`pass`] and [`first_token`] read octets with no memory: the one passes over a value, the other
+//! takes a value with nothing inside, or the head of a list or dictionary.
+//!
 //! It stands on `message_tree`. Contracts say which octets spell a message, that reading accepts each spelling of it and
 //! nothing else, and that what is written is the shortest.
+mod carriage;
 mod decoder;
 mod encoder;
 mod fault;
 mod format;
 pub mod laws;
+mod passing;
+mod shortest;
+mod tokens;
 
+pub use carriage::Carriage;
 pub use decoder::decode;
 pub use encoder::{encode, encode_into, encode_number_into, encode_text_into};
 pub use fault::Fault;
+pub use passing::{Passed, Refusal, pass};
+pub use tokens::{Malformed, Token, first_token};
