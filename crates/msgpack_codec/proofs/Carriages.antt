@@ -1,5 +1,6 @@
 -- What can be told of members, one after the other.
-use Rattle.std.proofs.Common.{◌≡◌, ℕ, Bool, true, false, ◌&&◌, List, Option, Some, refl, sym, ap, ◌∙◌}
+use Rattle.std.proofs.Common.{◌≡◌, ℕ, Bool, ◌&&◌, List, Option, Some, refl, sym, ap, ◌∙◌}
+use Rattle.std.proofs.Math.Bool.{and-true, and_assoc}
 use Rattle.message_tree.specs.Data as tree
 use Rattle.msgpack_codec.specs.Values.{is_text}
 use Rattle.msgpack_codec.specs.Written.{add_entry, keys_ascend, worse, carriage_of, items_carriage, entries_carriage}
@@ -39,19 +40,11 @@ last_key-behind tree.no_entries k d = refl
 last_key-behind (tree.entry l e tree.no_entries) k d = refl
 last_key-behind (tree.entry l e (tree.entry m f es)) k d = last_key-behind (tree.entry m f es) k d
 
-and_true : (b : Bool) → (b && true) ≡ b
-and_true true = refl
-and_true false = refl
-
-and_and : (a b c : Bool) → (a && (b && c)) ≡ ((a && b) && c)
-and_and true b c = refl
-and_and false b c = refl
-
 keys_ascend-behind : (es : tree.Entries) (k : List ℕ) (d : tree.Data) → keys_ascend (behind es k d) ≡ (keys_ascend es && is_next (last_key es) k)
 keys_ascend-behind tree.no_entries k d = refl
-keys_ascend-behind (tree.entry l e tree.no_entries) k d = and_true (is_next (Some l) k)
+keys_ascend-behind (tree.entry l e tree.no_entries) k d = and-true (is_next (Some l) k)
 keys_ascend-behind (tree.entry l e (tree.entry m f es)) k d =
-    ap (λ b. is_next (Some l) m && b) (keys_ascend-behind (tree.entry m f es) k d) ∙ and_and (is_next (Some l) m) (keys_ascend (tree.entry m f es)) (is_next (last_key (tree.entry m f es)) k)
+    ap (λ b. is_next (Some l) m && b) (keys_ascend-behind (tree.entry m f es) k d) ∙ sym (and_assoc (is_next (Some l) m) (keys_ascend (tree.entry m f es)) (is_next (last_key (tree.entry m f es)) k))
 
 -- a key that is a text is known with its value
 pub known_text : (texts ascend before : Bool) (last : Option (List ℕ)) (carriage c : Carriage) (found : tree.Entries) (all : Bool) (s : List ℕ) (k v : tree.Data)
@@ -63,7 +56,7 @@ known_text texts ascend before last carriage c found all s (tree.whole z) v h t 
 known_text texts ascend before last carriage c found all s (tree.text k) v h t e b =
     let same : s ≡ k = cc in
     record {
-      texts_are = h.texts_are ∙ sym (and_true all);
+      texts_are = h.texts_are ∙ sym (and-true all);
       ascend_is = b ∙ (rw (h.ascend_is, h.last_is, same) (sym (keys_ascend-behind found k v)));
       last_is = ap Some same ∙ sym (last_key-behind found k v);
       carriage_is = rw (h.carriage_is, e) (sym (entries_carriage-behind found k v));

@@ -1,6 +1,7 @@
 -- Whether octets are the least that spell a value: of parts, one behind the other.
 use Rattle.std.proofs.Common.{◌≡◌, ℕ, suc, ◌+◌, ◌^◌, ◌<◌, ◌≤◌, Bool, true, false, ◌&&◌, List, [], ◌++◌, length, take, drop, Ok, inl, inr, refl, sym, ap, ◌∙◌, subst, append_assoc, arith}
 use Rattle.std.specs.Prelude.{nat_lt, if◌then◌else◌}
+use Rattle.std.proofs.Math.Bool.{and-true, and_assoc}
 use Rattle.std.proofs.lemmas.Bool.{and_parts, lt-ltb, ltb-true}
 use Rattle.std.proofs.lemmas.List.{take_at, drop_at, length-append, append-nil, append_cancel_right}
 use Rattle.message_tree.specs.Data as tree
@@ -41,17 +42,9 @@ tells-both a b h g f x s t one other = record {
 
 -- ---- items
 
-and_assoc : (a b c : Bool) → (a && (b && c)) ≡ ((a && b) && c)
-and_assoc true b c = refl
-and_assoc false b c = refl
-
-and_true : (b : Bool) → (b && true) ≡ b
-and_true true = refl
-and_true false = refl
-
 items_writable-push : (ds : tree.Items) (d : tree.Data) → items_writable (push_item ds d) ≡ (items_writable ds && is_writable d)
-items_writable-push tree.no_items d = and_true (is_writable d)
-items_writable-push (tree.item x ds) d = ap (λ b. is_writable x && b) (items_writable-push ds d) ∙ and_assoc (is_writable x) (items_writable ds) (is_writable d)
+items_writable-push tree.no_items d = and-true (is_writable d)
+items_writable-push (tree.item x ds) d = ap (λ b. is_writable x && b) (items_writable-push ds d) ∙ sym (and_assoc (is_writable x) (items_writable ds) (is_writable d))
 
 items_short-push : (ds : tree.Items) (d : tree.Data) → items_short (push_item ds d) ≡ items_short ds ++ short d
 items_short-push tree.no_items d = append-nil (short d)
@@ -71,10 +64,10 @@ abbrev last : tree.Entries → List ℕ → tree.Data → tree.Entries
 last es k d = tree.joined es (tree.entry k d tree.no_entries)
 
 entries_writable-last : (es : tree.Entries) (k : List ℕ) (d : tree.Data) → entries_writable (last es k d) ≡ (entries_writable es && (is_writable (tree.text k) && is_writable d))
-entries_writable-last tree.no_entries k d = and_true (is_writable (tree.text k) && is_writable d)
+entries_writable-last tree.no_entries k d = and-true (is_writable (tree.text k) && is_writable d)
 entries_writable-last (tree.entry l e es) k d =
     ap (λ b. (is_writable (tree.text l) && is_writable e) && b) (entries_writable-last es k d)
-    ∙ and_assoc (is_writable (tree.text l) && is_writable e) (entries_writable es) (is_writable (tree.text k) && is_writable d)
+    ∙ sym (and_assoc (is_writable (tree.text l) && is_writable e) (entries_writable es) (is_writable (tree.text k) && is_writable d))
 
 entries_short-last : (es : tree.Entries) (k : List ℕ) (d : tree.Data) → entries_short (last es k d) ≡ entries_short es ++ (short (tree.text k) ++ short d)
 entries_short-last tree.no_entries k d = simp (append_assoc, append-nil)
