@@ -150,13 +150,14 @@ pub fn receivers<'a>(alloc: Global, index: &'a Index, topic: &Topic) -> Result<R
 }
 
 /// The EVENTs of a publication that gives no list, for these receivers, with room for one item
-/// more. They are live, so that none of them is looked up.
+/// more, in a list that is lent for it. They are live, so that none of them is looked up.
 pub fn events_without_lists(
-    alloc: Global,
+    spare: Given,
     _sessions: &Sessions,
     made: &Shared<Publication>,
     receivers: &Receivers<'_>,
 ) -> Result<Given, Fault>
+    requires empty { spare.items ≡ [] }
     requires unlisted { has_no_lists made.now.lists ≡ true }
     requires live { AreLive _sessions.now receivers.now }
     ensures { IfOk result (λ given.
@@ -164,7 +165,8 @@ pub fn events_without_lists(
 {
     let publication = made.value();
     let publisher = publication.publisher.conn;
-    let mut given = Vec::with_capacity(alloc, receivers.len() + 1)?;
+    let mut given = spare;
+    given.reserve(receivers.len() + 1)?;
     for place in 0..receivers.len() {
         let receiver = receivers.at(place);
         let admitted = publication
@@ -175,18 +177,20 @@ pub fn events_without_lists(
     Ok(given)
 }
 
-/// The EVENTs of a publication for these receivers, with room for one item more; `admits` is asked
-/// once where those of one connection stand together.
+/// The EVENTs of a publication for these receivers, with room for one item more, in a list that is
+/// lent for it; `admits` is asked once where those of one connection stand together.
 pub fn events_to(
-    alloc: Global,
+    spare: Given,
     sessions: &Sessions,
     made: &Shared<Publication>,
     receivers: &Receivers<'_>,
 ) -> Result<Given, Fault>
+    requires empty { spare.items ≡ [] }
     ensures { IfOk result (λ given.
         given.items ≡ events_to sessions.now made.now receivers.now) }
 {
-    let mut given = Vec::with_capacity(alloc, receivers.len() + 1)?;
+    let mut given = spare;
+    given.reserve(receivers.len() + 1)?;
     let mut last = None;
     for place in 0..receivers.len() {
         let receiver = receivers.at(place);

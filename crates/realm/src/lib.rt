@@ -20,6 +20,7 @@ mod publish_options;
 mod realm;
 mod seats;
 mod sessions;
+mod spare;
 mod state;
 mod subscriptions;
 

@@ -126,7 +126,7 @@ pub fn arrival_events(alloc: Global, state: &State, word: u64, who: &Who) -> Res
     }
     let args = joined_args(alloc, who)?;
     let made = announcement(alloc, word, who, topic, args)?;
-    events_to(alloc, &state.sessions, &made, &found)
+    events_to(Vec::new(alloc), &state.sessions, &made, &found)
 }
 
 /// The EVENTs of a session's departure. Where nobody holds a pattern that matches, nothing is made of it.
@@ -141,5 +141,5 @@ pub fn departure_events(alloc: Global, state: &State, word: u64, who: &Who) -> R
     }
     let args = left_args(alloc, who)?;
     let made = announcement(alloc, word, who, topic, args)?;
-    events_to(alloc, &state.sessions, &made, &found)
+    events_to(Vec::new(alloc), &state.sessions, &made, &found)
 }

@@ -1,5 +1,5 @@
 //! PUBLISH: whether it is accepted, what it gives, and what stays retained.
-ghost use Rattle.std.specs.Prelude.{◌≡◌, ℕ, true, not, ◌&&◌, is_some, None, Some, IfOk, OnOk, OnErr, IfSome};
+ghost use Rattle.std.specs.Prelude.{[], ◌≡◌, ℕ, true, not, ◌&&◌, is_some, None, Some, IfOk, OnOk, OnErr, IfSome};
 ghost use Rattle.wamp_ids.specs.Uri.{is_topic, is_reserved};
 ghost use Rattle.session.specs.Arguments.{is_all_carried};
 ghost use Rattle.retained.specs.Store.{has_room, set_topic};
@@ -175,33 +175,42 @@ fn refused(alloc: Global, requester: &Requester, reason: Reason) -> Result<Given
     one(alloc, requester.conn, item)
 }
 
-/// The EVENTs of an accepted publication. One without lists has nobody looked up for it.
-fn events(alloc: Global, state: &State, made: &Shared<Publication>) -> Result<Given, Fault>
+/// The EVENTs of an accepted publication, in a list that is lent for them. One without lists has
+/// nobody looked up for it.
+fn events(
+    alloc: Global,
+    spare: Given,
+    state: &State,
+    made: &Shared<Publication>,
+) -> Result<Given, Fault>
+    requires empty { spare.items ≡ [] }
     requires held { AreHeld state.now.sessions state.now.index.rows }
     ensures { IfOk result (λ given.
         given.items ≡ all_events state.now.sessions state.now.index.rows made.now) }
 {
     let found = receivers(alloc, &state.index, &made.value().topic)?;
     if made.value().lists.has_no_lists() {
-        events_without_lists(alloc, &state.sessions, made, &found)
+        events_without_lists(spare, &state.sessions, made, &found)
     } else {
-        events_to(alloc, &state.sessions, made, &found)
+        events_to(spare, &state.sessions, made, &found)
     }
 }
 
 /// What an accepted publication gives: EVENTs, and PUBLISHED where that was asked for.
 fn told(
     alloc: Global,
+    spare: Given,
     state: &State,
     requester: &Requester,
     made: &Shared<Publication>,
 ) -> Result<Given, Fault>
+    requires empty { spare.items ≡ [] }
     requires held { AreHeld state.now.sessions state.now.index.rows }
     ensures { IfOk result (λ given.
         given.items ≡ told state.now requester.now.conn requester.now.request
         requester.now.acknowledge made.now) }
 {
-    let mut given = events(alloc, state, made)?;
+    let mut given = events(alloc, spare, state, made)?;
     if is_acknowledged(requester) {
         let published = Item::Published {
             request: requester.request,
@@ -259,7 +268,8 @@ pub fn publish(alloc: Global, state: &mut State, asked: PublishRequest) -> Resul
     let retained = accepted.publish_options.retained;
     let made = publication(alloc, publisher, word, accepted)?;
     let made = Shared::new(alloc, made)?;
-    let given = told(alloc, state, &requester, &made)?;
+    let spare = state.spare.take(alloc);
+    let given = told(alloc, spare, state, &requester, &made)?;
     if retained {
         retain(alloc, &mut state.store, made)?;
     }

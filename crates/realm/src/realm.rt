@@ -12,6 +12,7 @@ use crate::fault::Fault;
 use crate::grants::Grants;
 use crate::seats::Seats;
 use crate::sessions::Sessions;
+use crate::spare::Spare;
 use crate::state::State;
 use retained::Store;
 use session::Item;
@@ -74,6 +75,7 @@ impl Realm {
             seats: Seats::new(alloc)?,
             index: Index::new(alloc),
             store: Store::new(alloc),
+            spare: Spare::new(alloc),
         };
         Ok(Realm {
             state,
@@ -139,6 +141,14 @@ impl Realm {
         let given = answer(alloc, &mut self.state, entry)?;
         self.past.push_reserved(seen);
         Ok(given)
+    }
+
+    /// Takes back a list that [`Realm::apply`] gave, with what it still holds: the next publication
+    /// finds its room. Of a list with room for more than 1,024 items nothing is kept.
+    pub fn give_back(&mut self, given: Vec<(Conn, Item)>)
+        ensures { self.new ≡ self.old }
+    {
+        self.state.spare.keep(given);
     }
 }
 

@@ -63,16 +63,16 @@ pub fn either(first: bool, second: bool) -> bool
     first || second
 }
 
-/// Offers each item to the row of its connection, in their order. True where an outbox was found full.
+/// Offers each item to the row of its connection, in their order, and leaves the list empty. True where an outbox was found full.
 pub fn offer_all<S: Shut, R: Wait>(
     rt: &R,
     rows: &mut [Row<S>],
     guesses: &mut SeatGuesses,
-    given: Vec<(Conn, Item)>,
+    given: &mut Vec<(Conn, Item)>,
     history: &RealmHistory,
 ) -> bool
     requires ascending { Ascending rows.old }
-    requires due { EachDue history.now given.items rows.old }
+    requires due { EachDue history.now given.old.items rows.old }
     ensures due { EachDue history.now [] rows.new }
     ensures goes { EachGoes rows.old rows.new }
     ensures none { result ≡ false → NoneRose rows.old rows.new }
@@ -81,7 +81,7 @@ pub fn offer_all<S: Shut, R: Wait>(
         place: rows.len(),
         is_full: false,
     };
-    for (conn, item) in given {
+    for (conn, item) in given.drain(..) {
         pass = offer_one(rt, rows, guesses, pass, conn, item, history);
     }
     leave(rows, pass.place);

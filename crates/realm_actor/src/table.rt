@@ -54,13 +54,13 @@ fn deliver<S: Shut, R: Wait>(
     rt: &R,
     rows: &mut Vec<Row<S>>,
     guesses: &mut SeatGuesses,
-    given: Vec<(Conn, Item)>,
+    given: &mut Vec<(Conn, Item)>,
     history: &RealmHistory,
     conn: Conn,
     is_live: bool,
 ) -> bool
     requires ascending { Ascending rows.old.items }
-    requires due { EachDue history.now given.items rows.old.items }
+    requires due { EachDue history.now given.old.items rows.old.items }
     ensures rows { (mid : List (ARow _)) × EachGoes rows.old.items mid × EachDue history.now [] mid
         × EachEnds conn is_live mid rows.new.items }
     ensures none { result ≡ false → NoneRose rows.old.items rows.new.items }
@@ -93,18 +93,19 @@ impl<S: Shut> Table<S> {
         ensures err { OnErr result (self.new ≡ self.old) }
         ensures silent { is_silent entry ≡ true → IsOk result }
     {
-        let given = self.realm.apply(alloc, entry)?;
+        let mut given = self.realm.apply(alloc, entry)?;
         let history = RealmHistory::of(&self.realm);
         let is_live = self.realm.is_live(conn);
         let is_full = deliver(
             rt,
             &mut self.rows,
             &mut self.guesses,
-            given,
+            &mut given,
             &history,
             conn,
             is_live,
         );
+        self.realm.give_back(given);
         self.has_marks = either(self.has_marks, is_full);
         self.has_ended = either(self.has_ended, !is_live);
         Ok(is_full)
@@ -136,7 +137,7 @@ impl<S: Shut> Table<S> {
         ensures err { OnErr result (self.new ≡ self.old) }
         ensures back { IfErr result (λ r. r ≡ row) }
     {
-        let Ok(given) = self.realm.apply(alloc, entry) else {
+        let Ok(mut given) = self.realm.apply(alloc, entry) else {
             return Err(row);
         };
         let history = RealmHistory::of(&self.realm);
@@ -147,11 +148,12 @@ impl<S: Shut> Table<S> {
             rt,
             &mut self.rows,
             &mut self.guesses,
-            given,
+            &mut given,
             &history,
             conn,
             is_live,
         );
+        self.realm.give_back(given);
         self.has_marks = either(self.has_marks, is_full);
         self.has_ended = either(self.has_ended, !is_live);
         Ok(is_full)

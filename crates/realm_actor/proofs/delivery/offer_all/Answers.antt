@@ -1,21 +1,26 @@
-use Rattle.std.proofs.Common.{sym, ◌∙◌, subst}
-use Rattle.std.specs.Vec.Iter.{into_iter_items}
-use Rattle.std.proofs.lemmas.List.{nil_from_length}
+use Rattle.std.proofs.Common.{◌≡◌, ◌-◌, sym, ap, ◌∙◌, subst, take, Vec, arith}
+use Rattle.std.specs.List.{slice_range}
+use Rattle.std.specs.Vec.Iter.{drain_items}
+use Rattle.std.proofs.Math.Seq.{take-length}
 use Rattle.realm_actor.specs.Rows.{EachDue}
 use Rattle.realm_actor.proofs.RowDelivery.{EachGoes-same, EachGoes-on, Ascending-goes, none_same, none_on}
 use Rattle.realm_actor.proofs.delivery.offer_all.Goals as goal
 
+-- a list from its begin to its end
+whole : {X Z : Type 0} (v : Vec X Z) → slice_range v.items 0 v.len ≡ v.items
+whole v = let from_begin : v.len - 0 ≡ v.len = omega arith in ap (λ n. take n v.items) (from_begin ∙ v.ok.0) ∙ take-length v.items
+
 pub loop-conn-init : goal.loop-conn-init
 loop-conn-init g c = record {
   up = c.requires.ascending;
-  due = subst (λ l. EachDue c.args.history.now l c.args.rows.now) (sym c.into_iter-conn-iterator.ensures.into_iter_gives.0) c.requires.due;
+  due = subst (λ l. EachDue c.args.history.now l c.args.rows.now) (sym (ap drain_items c.into_iter-conn-iterator.ensures.into_iter_gives ∙ (c.drain-conn-items.ensures.rest ∙ whole c.args.given.now))) c.requires.due;
   goes = EachGoes-same c.args.rows.now;
   none = λ _. none_same c.args.rows.now;
 }
 
 pub offer_one-pass-requires-clause-due : goal.offer_one-pass-requires-clause-due
 offer_one-pass-requires-clause-due g c =
-    (into_iter_items c.next.new.self, subst (λ l. EachDue c.args.history.now l c.loop-conn.rows) c.in-Some.ensures.steps.0 c.loop-conn.invariant.due)
+    (drain_items c.next.new.self, subst (λ l. EachDue c.args.history.now l c.loop-conn.rows) c.in-Some.ensures.steps.0 c.loop-conn.invariant.due)
 
 pub loop-conn-preserved : goal.loop-conn-preserved
 loop-conn-preserved g c =
@@ -23,10 +28,10 @@ loop-conn-preserved g c =
     let step = c.offer_one-pass.ensures in
     record {
       up = Ascending-goes c.loop-conn.rows c.offer_one-pass.new.rows step.goes i.up;
-      due = step.due (into_iter_items c.next.new.self) (subst (λ l. EachDue c.args.history.now l c.loop-conn.rows) c.in-Some.ensures.steps.0 i.due);
+      due = step.due (drain_items c.next.new.self) (subst (λ l. EachDue c.args.history.now l c.loop-conn.rows) c.in-Some.ensures.steps.0 i.due);
       goes = EachGoes-on c.args.rows.now c.loop-conn.rows c.offer_one-pass.new.rows i.goes step.goes;
       none = λ quiet. let t = step.none quiet in none_on c.args.rows.now c.loop-conn.rows c.offer_one-pass.new.rows i.goes step.goes (i.none t.0) t.1;
     }
 
 pub returns-clause-due : goal.returns-clause-due
-returns-clause-due g c = subst (λ l. EachDue c.args.history.now l c.loop-conn.rows) (nil_from_length (into_iter_items c.loop-conn.conn-iterator) (sym c.loop-conn.conn-iterator.rest.ok.0 ∙ c.in-None.ensures.steps.0)) c.loop-conn.invariant.due
+returns-clause-due g c = subst (λ l. EachDue c.args.history.now l c.loop-conn.rows) c.in-None.ensures.steps.0 c.loop-conn.invariant.due

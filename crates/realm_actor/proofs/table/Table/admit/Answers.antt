@@ -66,7 +66,7 @@ returns-clause-sound g c =
     let ready = ready_join table.realm c.args.entry c.args.conn table.rows.items i c.args.row new.outbox c.requires.own c.requires.may c.requires.sound parts new.conn new.box new.of_conn new.empty new.unseen new.fresh new.never in
     let d = c.deliver-is_full.ensures.rows in
     let is = c.in-Ok.ensures.history in
-    subst (λ h. Sound h c.deliver-is_full.new.rows.items) (sym is)
+    subst (λ h. Sound h c.deliver-is_full.new.rows.items) (sym (c.give_back.ensures ∙ is))
     (sound_after table.realm c.args.entry c.args.conn c.put.new.rows.items d.0 c.deliver-is_full.new.rows.items c.requires.own c.requires.comes (subst (λ l. Ready c.args.entry table.realm l) (sym put) ready) d.1
     (subst (λ h. EachDue h [] d.0) (c.of-history.ensures ∙ is) d.2)
     (subst (λ b. EachEnds c.args.conn b d.0 c.deliver-is_full.new.rows.items) (c.is_live-is_live.ensures ∙ ap (λ h. live h c.args.conn) is) d.3))
@@ -102,6 +102,6 @@ returns-clause-knows g c =
     let went = went_all table.realm c.args.entry c.args.conn c.put.new.rows.items d.0 c.deliver-is_full.new.rows.items c.requires.own c.requires.comes (subst (λ l. Ready c.args.entry table.realm l) (sym put) ready) d.1
     (subst (λ h. EachDue h [] d.0) (c.of-history.ensures ∙ is) d.2)
     (subst (λ b. EachEnds c.args.conn b d.0 c.deliver-is_full.new.rows.items) lives d.3) in
-    knows_join table _ table.realm c.args.entry c.args.conn i c.args.row c.deliver-is_full.result c.is_live-is_live.result c.requires.own is refl lives new.conn new.is_cut new.is_lost
+    knows_join table _ table.realm c.args.entry c.args.conn i c.args.row c.deliver-is_full.result c.is_live-is_live.result c.requires.own (c.give_back.ensures ∙ is) refl lives new.conn new.is_cut new.is_lost
     (subst (λ l. EachWent l c.deliver-is_full.new.rows.items) put went)
     (λ quiet. subst (λ l. NoneRose l c.deliver-is_full.new.rows.items) put (c.deliver-is_full.ensures.none quiet)) c.either-self.ensures c.either-self-2.ensures

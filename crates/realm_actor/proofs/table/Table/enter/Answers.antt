@@ -26,7 +26,7 @@ returns-clause-sound g c =
     let table = c.args.self.now in
     let d = c.deliver-is_full.ensures.rows in
     let is = c.in_ok-given.ensures.history in
-    subst (λ h. Sound h c.deliver-is_full.new.rows.items) (sym is)
+    subst (λ h. Sound h c.deliver-is_full.new.rows.items) (sym (c.give_back.ensures ∙ is))
     (sound_after table.realm c.args.entry c.args.conn table.rows.items d.0 c.deliver-is_full.new.rows.items c.requires.own c.requires.comes c.requires.ready d.1
     (subst (λ h. EachDue h [] d.0) (c.of-history.ensures ∙ is) d.2)
     (subst (λ b. EachEnds c.args.conn b d.0 c.deliver-is_full.new.rows.items) (c.is_live-is_live.ensures ∙ ap (λ h. live h c.args.conn) is) d.3))
@@ -50,4 +50,4 @@ returns-clause-knows g c =
     let went = went_all table.realm c.args.entry c.args.conn table.rows.items d.0 c.deliver-is_full.new.rows.items c.requires.own c.requires.comes c.requires.ready d.1
     (subst (λ h. EachDue h [] d.0) (c.of-history.ensures ∙ is) d.2)
     (subst (λ b. EachEnds c.args.conn b d.0 c.deliver-is_full.new.rows.items) lives d.3) in
-    knows_entry table _ table.realm c.args.entry c.args.conn c.deliver-is_full.result c.is_live-is_live.result c.requires.own is refl lives went c.deliver-is_full.ensures.none c.either-self.ensures c.either-self-2.ensures
+    knows_entry table _ table.realm c.args.entry c.args.conn c.deliver-is_full.result c.is_live-is_live.result c.requires.own (c.give_back.ensures ∙ is) refl lives went c.deliver-is_full.ensures.none c.either-self.ensures c.either-self-2.ensures

@@ -1,0 +1,54 @@
+//! Room that is kept from one publication to the next.
+ghost use Rattle.std.specs.Prelude.{◌≡◌, []};
+
+use crate::events::Given;
+use std::alloc::Global;
+use std::marker::Model;
+use std::mem;
+
+/// A list with room for more items than this isn't kept.
+const MOST_ITEMS: usize = 1024;
+
+/// The room of a list that an earlier entry's items stood in. Contracts see nothing of it, so that
+/// nothing that a realm gives rests on it.
+#[derive(Drop)]
+pub struct Spare {
+    list: Given,
+}
+
+impl Model for Spare {
+    ghost use Rattle.std.specs.Prelude.{⊤, ◌≡◌, []};
+
+    ghost Value = { ⊤ };
+
+    ghost view = { λ _. tt };
+
+    ghost invariant = { λ s. s.list.items ≡ [] };
+}
+
+impl Spare {
+    /// No room.
+    pub fn new(alloc: Global) -> Spare {
+        Spare {
+            list: Vec::new(alloc),
+        }
+    }
+
+    /// An empty list, with the room that is kept, which goes with it.
+    pub fn take(&mut self, alloc: Global) -> Given
+        ensures { result.items ≡ [] }
+    {
+        mem::replace(&mut self.list, Vec::new(alloc))
+    }
+
+    /// Lets go of what the list holds, and keeps its room, if that is more than there is and for no
+    /// more than 1,024 items.
+    pub fn keep(&mut self, given: Given) {
+        let mut given = given;
+        given.clear();
+        let room = given.capacity();
+        if self.list.capacity() < room && room <= MOST_ITEMS {
+            self.list = given;
+        }
+    }
+}
