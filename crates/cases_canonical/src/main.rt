@@ -1,0 +1,24 @@
+//! Cases of MessagePack in canonical form (`msgpack_canonical`), and of JSON written from that (`transcoder`), as lines of standard
+//! input; what each is answered by is printed. In octets `\7f` is an octet.
+//!
+//! - `# TEXT` begins a case, and is printed as it stands.
+//! - `canonical ROOM OCTETS`: writes the value at the front of octets, with so much room to nest in, behind the octets `ab`, and
+//!   prints what stands there then (`ab` and a fault where the value isn't carried), and the octets after the value; or the fault.
+//! - `same OCTETS`: whether the octets are written, or refused, as `msgpack_codec` reads and writes them.
+//! - `json OCTETS`: writes the value at the front of octets, which are in canonical form, as JSON behind the octets `ab`, and prints
+//!   what stands there then, and the octets after the value; or the fault.
+//! - `shape N HEAD MEMBER END`: how many octets HEAD, so many times MEMBER, and END have in canonical form; `-` is nothing.
+#![tactic(auto)]
+
+mod canonical;
+mod case;
+mod json;
+
+use case::Case;
+use case_text::tell_all;
+use std::io;
+
+fn main(rt: HostRuntime) -> io::Result<()> {
+    let alloc = rt.alloc();
+    tell_all(rt, alloc, &mut Case)
+}

@@ -1,0 +1,45 @@
+//! Tokens by what they begin.
+ghost use Rattle.std.specs.Prelude.{◌≡◌, IfSome, IfNone};
+ghost use Rattle.msgpack_canonical.specs.body.Kinds.{IsNoText, IsKind};
+
+use msgpack_codec::Token;
+
+/// What a token begins: a list or dictionary of so many members, or a value with nothing inside.
+#[derive(Clone, Copy, Drop)]
+pub(crate) enum Kind {
+    List(u64),
+    Dict(u64),
+    Leaf,
+}
+
+pub(crate) fn kind_of(token: &Token) -> Kind
+    ensures { IsKind result token.now }
+{
+    match token {
+        Token::List(count) => Kind::List(*count),
+        Token::Dict(count) => Kind::Dict(*count),
+        Token::Null
+        | Token::Flag(_)
+        | Token::Whole(_)
+        | Token::Text(_)
+        | Token::Bytes(_)
+        | Token::Uncarried => Kind::Leaf,
+    }
+}
+
+/// The text that a token is.
+pub(crate) fn text_of(token: Token<'_>) -> Option<&str>
+    ensures text { IfSome result (λ s. token.entry ≡ Token.Text s) }
+    ensures none { IfNone result (IsNoText token.entry) }
+{
+    match token {
+        Token::Text(text) => Some(text),
+        Token::Null
+        | Token::Flag(_)
+        | Token::Whole(_)
+        | Token::Bytes(_)
+        | Token::List(_)
+        | Token::Dict(_)
+        | Token::Uncarried => None,
+    }
+}
