@@ -23,7 +23,8 @@ fn heard_by(alloc: Global, message: Message) -> io::Result<String> {
     }
 }
 
-fn in_words(alloc: Global, heard: Heard) -> io::Result<String> {
+/// What a broker says, as a line.
+pub fn in_words(alloc: Global, heard: Heard) -> io::Result<String> {
     match heard {
         Heard::Welcome { session } => numbers(alloc, "welcome", [Some(session), None]),
         Heard::Abort { reason } => reasoned(alloc, "abort", &reason),

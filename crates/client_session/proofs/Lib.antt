@@ -1,0 +1,5 @@
+pub mod PassingLemmas
+pub mod HearingLemmas
+pub mod ReplyLemmas
+pub mod OneAfterAnother
+pub mod SessionLemmas

@@ -1,0 +1,119 @@
+//! What came from the broker and is not heard yet, and what comes next.
+ghost use Rattle.std.specs.Prelude.{◌≡◌, ◌≢◌, ◌≤◌, ◌<◌, ◌+◌, [], length, IfOk, IfErr, IfSome, IfNone, OnOk, OnErr, Err, Some, None, true};
+ghost use Rattle.rawsocket.specs.Frames.{contents, fault_of, Reads};
+ghost use Rattle.rawsocket.specs.Steps.{Steps, Fine, meter, told_by};
+ghost use Rattle.client_session.specs.Faults.{read_told, write_told};
+ghost use Rattle.client_session.specs.Hearing.{ReadsMore, ReadStops, IsLost, HearsNext, ear, terms};
+
+use crate::fault::Fault;
+use crate::hearing::hear_waiting;
+use client::Heard;
+use rawsocket::devices::{Sink, Source, Turns, read_piece};
+use rawsocket::{Deframer, Frame, Serializer};
+use std::alloc::Global;
+use std::collections::VecDeque;
+
+/// A broker, by its handshake.
+#[derive(Clone, Copy, Drop)]
+pub(crate) struct Broker {
+    /// How messages are serialized.
+    pub serializer: Serializer,
+    /// How many octets it takes in one payload.
+    pub limit: u32,
+}
+
+/// What came and is not heard yet: whole frames, and the octets behind them.
+#[derive(Drop)]
+pub(crate) struct Inbox {
+    pub waiting: VecDeque<Frame>,
+    pub deframer: Deframer,
+}
+
+/// Why the octets that are held can't become a frame.
+fn held_fault(deframer: &Deframer) -> Option<Fault>
+    ensures fault { IfSome result (λ f. ReadStops deframer.now f) }
+    ensures none { IfNone result (fault_of deframer.now ≡ None) }
+    ensures which { IfSome result (λ f. read_told f ≡ Fine) }
+    ensures memory { result ≢ Some Fault.NoMemory }
+    ensures ended { result ≢ Some Fault.Ended }
+{
+    match deframer.fault() {
+        None => None,
+        Some(rawsocket::Fault::FrameType) => Some(Fault::FrameType),
+        Some(rawsocket::Fault::FrameTooLong) => Some(Fault::FrameTooLong),
+        Some(_) => unreachable!(),
+    }
+}
+
+/// The frames that the next octets of the stream complete. Octets at fault end the reading.
+fn read_more<I: Source>(
+    alloc: Global,
+    deframer: &mut Deframer,
+    source: &mut I,
+    buffer: &mut [u8],
+    turns: &mut Turns,
+) -> Result<VecDeque<Frame>, Fault>
+    requires { 0 < length buffer.old }
+    ensures more { IfOk result (λ frames. ReadsMore deframer.old deframer.new
+        (I.given source.old) (I.given source.new) (contents frames.items)) }
+    ensures same { OnErr result (deframer.new ≡ deframer.old) }
+    ensures stops { IfErr result (ReadStops deframer.old) }
+    ensures lost { IfErr result (IsLost (I.given source.old) (I.given source.new)) }
+    ensures ended { result ≡ Err Fault.Ended → I.is_ended source.new ≡ true }
+    ensures turn { OnOk result (turns.old ≡ turns.new + 1) }
+    ensures reads { Steps (meter (I.calls source.old) (I.failures source.old) turns.old)
+        (meter (I.calls source.new) (I.failures source.new) turns.new)
+        (told_by read_told result) }
+{
+    if let Some(fault) = held_fault(deframer) {
+        return Err(fault);
+    }
+    let count = match read_piece(source, buffer, turns) {
+        Ok(count) => count,
+        Err(none) => return Err(Fault::from(none)),
+    };
+    match deframer.feed(alloc, &buffer[..count]) {
+        Ok(fed) => Ok(VecDeque::from_vec(fed.frames)),
+        Err(_) => Err(Fault::NoMemory),
+    }
+}
+
+/// What the next message says of the frames that wait and of those that come.
+pub(crate) fn hear_next<I: Source, O: Sink>(
+    alloc: Global,
+    broker: Broker,
+    inbox: &mut Inbox,
+    source: &mut I,
+    sink: &mut O,
+    buffer: &mut [u8],
+    reading: &mut Turns,
+    writing: &mut Turns,
+) -> Result<Heard, Fault>
+    requires fits { broker.limit ≤ 16777215 }
+    requires some { 0 < length buffer.old }
+    requires steady { Reads inbox.old.deframer [] inbox.old.deframer }
+    ensures next { HearsNext (terms broker.serializer broker.limit)
+        (ear (contents inbox.old.waiting.items) inbox.old.deframer
+        (I.given source.old) (O.taken sink.old))
+        (ear (contents inbox.new.waiting.items) inbox.new.deframer
+        (I.given source.new) (O.taken sink.new)) result }
+    ensures ended { result ≡ Err Fault.Ended → I.is_ended source.new ≡ true }
+    ensures reads { Steps (meter (I.calls source.old) (I.failures source.old) reading.old)
+        (meter (I.calls source.new) (I.failures source.new) reading.new)
+        (told_by read_told result) }
+    ensures writes { Steps (meter (O.calls sink.old) (O.failures sink.old) writing.old)
+        (meter (O.calls sink.new) (O.failures sink.new) writing.new)
+        (told_by write_told result) }
+{
+    'pieces: loop {
+        match hear_waiting(alloc, broker, &mut inbox.waiting, sink, writing) {
+            Ok(Some(heard)) => return Ok(heard),
+            Ok(None) => {}
+            Err(fault) => return Err(fault),
+        }
+        match read_more(alloc, &mut inbox.deframer, source, buffer, reading) {
+            Ok(frames) => inbox.waiting = frames,
+            Err(fault) => return Err(fault),
+        }
+    }
+}

@@ -1,0 +1,178 @@
+//! A session that a broker welcomed.
+ghost use Rattle.std.specs.Prelude.{◌≡◌, ◌↔◌, [], Contains, IfOk, IfErr, IsTrue, Ok, Err, true};
+ghost use Rattle.rawsocket.specs.Steps.{WholeSteps, meter, told_by};
+ghost use Rattle.client_session.specs.Faults.{read_told, write_told};
+ghost use Rattle.client_session.specs.Hearing.{HearsNext, heard_at, terms};
+ghost use Rattle.client_session.specs.Sessions.{HearsInSession, IsGreeting, IsJudged, IsUnwelcome, opening_read_told, opening_write_told, session_read_told, session_write_told};
+
+use crate::fault::Fault;
+use crate::link::Link;
+use client::Heard;
+use message_tree::Text;
+use rawsocket::devices::{Sink, Source};
+use std::alloc::Global;
+use std::marker::Model;
+use wamp_ids::Id;
+
+/// Why no session is open.
+#[derive(Drop)]
+pub enum NoSession {
+    /// The broker says ABORT, for this reason, a URI.
+    Aborted(Text),
+    /// It says something other than WELCOME and ABORT.
+    Unexpected,
+    /// The link failed.
+    Failed(Fault),
+}
+
+/// Why nothing is heard in a session.
+#[derive(Clone, Copy, Debug, Drop, PartialEq, Eq)]
+pub enum Unheard {
+    /// An EVENT came of a subscription that the session was never given. The broker broke the protocol,
+    /// or the client confused two sessions, so it is a fault and isn't passed over.
+    ForeignEvent,
+    /// The link failed.
+    Failed(Fault),
+}
+
+/// A session that a broker welcomed: its link, its id, and each subscription that it was given so far.
+/// One that was left meanwhile is among them, since its events may still be on their way.
+#[derive(Drop)]
+pub struct ClientSession {
+    link: Link,
+    id: Id,
+    subscriptions: Vec<Id>,
+}
+
+impl Model for ClientSession {
+    ghost use Rattle.client_session.specs.Sessions.{Welcomed};
+
+    ghost Value = { Welcomed };
+
+    ghost view = { λ s. record { line = s.link; id = s.id; subscriptions = s.subscriptions.items } };
+}
+
+/// The id by which a broker welcomes a session.
+fn id_of(heard: Heard) -> Result<Id, NoSession>
+    ensures { IsGreeting heard result }
+{
+    match heard {
+        Heard::Welcome { session } => Ok(session),
+        Heard::Abort { reason } => Err(NoSession::Aborted(reason)),
+        _ => Err(NoSession::Unexpected),
+    }
+}
+
+/// Whether a session was given a subscription.
+fn is_given(subscriptions: &Vec<Id>, subscription: Id) -> bool
+    ensures { IsTrue result ↔ Contains subscriptions.now.items subscription }
+{
+    subscriptions
+        .iter()
+        .any(|given| given.value() == subscription.value())
+}
+
+/// Judges what was heard: a subscription is noted, and an event has to be of one that was given.
+fn judge(subscriptions: &mut Vec<Id>, heard: Heard) -> Result<Heard, Unheard>
+    ensures { IsJudged subscriptions.old.items subscriptions.new.items heard result }
+{
+    match &heard {
+        Heard::Subscribed { subscription, .. } => {
+            if subscriptions.push(*subscription).is_err() {
+                return Err(Unheard::Failed(Fault::NoMemory));
+            }
+        }
+        Heard::Event { subscription, .. } => {
+            if !is_given(subscriptions, *subscription) {
+                return Err(Unheard::ForeignEvent);
+            }
+        }
+        _ => {}
+    }
+    Ok(heard)
+}
+
+impl ClientSession {
+    /// The session that the broker welcomes on a link on which HELLO was said.
+    ///
+    /// # Errors
+    /// [`NoSession`], by what is heard. The stream is to be closed then.
+    pub fn open<I: Source, O: Sink>(
+        alloc: Global,
+        link: Link,
+        source: &mut I,
+        sink: &mut O,
+    ) -> Result<ClientSession, NoSession>
+        ensures welcomed { IfOk result (λ s. HearsNext (terms link.serializer link.limit)
+            (heard_at link (I.given source.old) (O.taken sink.old))
+            (heard_at s.line (I.given source.new) (O.taken sink.new)) (Ok (Heard.Welcome s.id))) }
+        ensures serializer { IfOk result (λ s. s.line.serializer ≡ link.serializer) }
+        ensures limit { IfOk result (λ s. s.line.limit ≡ link.limit) }
+        ensures new { IfOk result (λ s. s.subscriptions ≡ []) }
+        ensures refused { IfErr result (IsUnwelcome (terms link.serializer link.limit)
+            (heard_at link (I.given source.old) (O.taken sink.old))
+            (I.given source.new) (O.taken sink.new)) }
+        ensures reads { WholeSteps (meter (I.calls source.old) (I.failures source.old))
+            (meter (I.calls source.new) (I.failures source.new))
+            (told_by opening_read_told result) }
+        ensures writes { WholeSteps (meter (O.calls sink.old) (O.failures sink.old))
+            (meter (O.calls sink.new) (O.failures sink.new)) (told_by opening_write_told result) }
+    {
+        let mut link = link;
+        match link.hear(alloc, source, sink) {
+            Ok(heard) => match id_of(heard) {
+                Ok(id) => Ok(ClientSession {
+                    link,
+                    id,
+                    subscriptions: Vec::new(alloc),
+                }),
+                Err(refusal) => Err(refusal),
+            },
+            Err(fault) => Err(NoSession::Failed(fault)),
+        }
+    }
+
+    /// The id that the broker gave the session.
+    pub fn id(&self) -> Id
+        ensures { result ≡ self.now.id }
+    {
+        self.id
+    }
+
+    /// The link, to say something by.
+    pub fn link(&self) -> &Link
+        ensures { result.now ≡ self.now.line }
+    {
+        &self.link
+    }
+
+    /// Hears the next message of the session, as [`Link::hear`].
+    ///
+    /// # Errors
+    /// [`Unheard::ForeignEvent`], and what [`Link::hear`] fails by. For want of memory a subscription that
+    /// was given may be lost.
+    pub fn hear<I: Source, O: Sink>(
+        &mut self,
+        alloc: Global,
+        source: &mut I,
+        sink: &mut O,
+    ) -> Result<Heard, Unheard>
+        ensures next { HearsInSession (terms self.old.line.serializer self.old.line.limit)
+            (heard_at self.old.line (I.given source.old) (O.taken sink.old))
+            (heard_at self.new.line (I.given source.new) (O.taken sink.new))
+            self.old.subscriptions self.new.subscriptions result }
+        ensures id { self.new.id ≡ self.old.id }
+        ensures serializer { self.new.line.serializer ≡ self.old.line.serializer }
+        ensures limit { self.new.line.limit ≡ self.old.line.limit }
+        ensures reads { WholeSteps (meter (I.calls source.old) (I.failures source.old))
+            (meter (I.calls source.new) (I.failures source.new))
+            (told_by session_read_told result) }
+        ensures writes { WholeSteps (meter (O.calls sink.old) (O.failures sink.old))
+            (meter (O.calls sink.new) (O.failures sink.new)) (told_by session_write_told result) }
+    {
+        match self.link.hear(alloc, source, sink) {
+            Ok(heard) => judge(&mut self.subscriptions, heard),
+            Err(fault) => Err(Unheard::Failed(fault)),
+        }
+    }
+}
