@@ -1,0 +1,42 @@
+//! Why a connection was closed.
+use session::Fault;
+
+/// Why a connection was closed: the first of what ended it, in the broker's order of telling.
+#[derive(Clone, Copy, Debug, Drop, PartialEq, Eq)]
+pub enum Reason {
+    /// Its client said GOODBYE.
+    Goodbye,
+    /// Its client said ABORT.
+    Abort,
+    /// Its client ended the stream.
+    Ended,
+    /// Its client broke the protocol by this fault.
+    Violation(Fault),
+    /// No session was opened, for this fault.
+    NotOpened(Fault),
+    /// Its realm admitted no session: by an ABORT, or for want of memory.
+    NotAdmitted,
+    /// So many items waited for it, as many as its outbox holds.
+    OutboxFull(usize),
+    /// An item has so many octets in one payload, over its client's limit.
+    TooLong {
+        /// The octets of the payload.
+        octets: usize,
+        /// The most octets that the client takes.
+        limit: u32,
+    },
+    /// An item has no spelling in its serialization, or its octets over the client's limit couldn't be counted.
+    Unspelt,
+    /// A read failed.
+    ReadFailed,
+    /// A write failed.
+    WriteFailed,
+    /// Its stream was read, or written, 2^32 times.
+    TooManyTurns,
+    /// A growth of memory was refused.
+    NoMemory,
+    /// A thread was refused.
+    NoThread,
+    /// The broker was stopped.
+    Stop,
+}
