@@ -17,6 +17,11 @@ const READ_FAULT: &str = "fault E16 read fault\n";
 
 const WRITE_FAULT: &str = "fault E17 write fault\n";
 
+/// What comes of a message that no client says, and of one that memory was refused for.
+const NO_SAYING: &str = "no client says this\n";
+
+const NO_MEMORY: &str = "fault E1 no memory\n";
+
 /// What was heard on a link: a line for each message, how many there are, and what came last.
 #[derive(Drop)]
 struct Talk {
@@ -160,8 +165,8 @@ fn say_all<O: Sink>(
 ) -> io::Result<Option<String>> {
     for json in sayings {
         let said = match said_of(alloc, json.as_str()) {
-            Some(said) => said,
-            None => return Ok(Some(String::from_str(alloc, "no client says this\n")?)),
+            Ok(said) => said,
+            Err(told) => return Ok(Some(String::from_str(alloc, told)?)),
         };
         match link.say(alloc, sink, said) {
             Ok(()) => {}
@@ -171,10 +176,17 @@ fn say_all<O: Sink>(
     Ok(None)
 }
 
-// What a client's message in JSON says.
-fn said_of(alloc: Global, json: &str) -> Option<Said> {
-    let message = json_codec::decode(alloc, json.as_bytes()).ok()?;
-    read_said(alloc, message).ok()
+// What a client's message in JSON says; or a line that tells why it says nothing.
+fn said_of(alloc: Global, json: &str) -> Result<Said, &'static str> {
+    match json_codec::decode(alloc, json.as_bytes()) {
+        Ok(message) => match read_said(alloc, message) {
+            Ok(said) => Ok(said),
+            Err(session::Fault::NoMemory) => Err(NO_MEMORY),
+            Err(_) => Err(NO_SAYING),
+        },
+        Err(json_codec::Fault::NoMemory) => Err(NO_MEMORY),
+        Err(_) => Err(NO_SAYING),
+    }
 }
 
 // Hears all, up to what ends it.
