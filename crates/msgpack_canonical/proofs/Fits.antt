@@ -1,5 +1,5 @@
 -- What fits is what `encode` accepts.
-use Rattle.std.proofs.Common.{◌≡◌, Bool, true, false, ◌&&◌, length, refl}
+use Rattle.std.proofs.Common.{◌≡◌, true, ◌&&◌, length, refl}
 use Rattle.std.specs.Prelude.{◌^◌, nat_lt}
 use Rattle.std.proofs.lemmas.Bool.{and_parts, and_from}
 use Rattle.message_tree.specs.Data as tree

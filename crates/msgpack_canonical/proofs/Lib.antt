@@ -4,5 +4,8 @@ pub mod Refused
 pub mod Tokens
 pub mod Lists
 pub mod Dicts
-pub mod Options
 pub mod Outcomes
+pub mod Sorting
+pub mod Parts
+pub mod Kept
+pub mod Sizes

@@ -12,7 +12,6 @@ use Rattle.msgpack_codec.specs.body.Tokens.{data_of, IsLeafToken}
 use Rattle.msgpack_codec.specs.body.Decoder.{Found, size_at, leaf_at, nest_at, value_at, items_at, dict_at}
 use Rattle.msgpack_codec.specs.body.Passing.{list_at}
 use Rattle.msgpack_codec.proofs.ReadIsSpelled.{value_found, size_found, found-is, behind}
-use Rattle.msgpack_canonical.specs.body.Fitting.{IsUnfit, fits}
 use Rattle.msgpack_canonical.specs.body.Kinds.{IsNoText}
 use Rattle.msgpack_canonical.proofs.Dicts.{dict-no_text}
 use Rattle.msgpack_canonical.proofs.Fronts.{leaf-read, list-read-inside, dict-read-inside, list-too_deep, dict-too_deep}
@@ -32,9 +31,6 @@ pub leaf-token-read : (room : ℕ) (t : Token) (octets rest : List ℕ) → IsLe
 leaf-token-read room t octets rest leaf h =
     let b = leaf-begins t octets rest leaf h in
     leaf-read room octets (data_of t) rest b.1 b.0
-
-pub leaf-token-unfit : (room : ℕ) (t : Token) (octets rest : List ℕ) → IsLeafToken t → IsToken t octets rest → fits (data_of t) ≡ false → IsUnfit (value_at room octets)
-leaf-token-unfit room t octets rest leaf h nay d left e = ap fits (sym (found-is (data_of t) d rest left (sym (leaf-token-read room t octets rest leaf h) ∙ e)).0) ∙ nay
 
 -- ---- no key
 

@@ -47,7 +47,10 @@ fn put_passed(
     } else if passed.carriage == Carriage::Uncarried {
         Ok(false)
     } else {
-        Ok(put_value(alloc, octets, room, out)?.is_some())
+        match put_value(alloc, octets, room, out)? {
+            Some(put) => Ok(put.is_written),
+            None => Ok(false),
+        }
     }
 }
 
@@ -55,17 +58,18 @@ fn put_passed(
 /// `out` in canonical form: the octets that [`encode`](msgpack_codec::encode) writes for the tree
 /// that they spell (MessagePack specification, "Formats"). No tree is built.
 ///
-/// What is canonical already is copied, and takes no memory but `out`'s. Otherwise each dictionary
-/// that is being written, and those that it stands in, has its keys in a map of places: 32 octets
-/// for each key that differs, beside the room that the map keeps free. The values of a dictionary
-/// are passed over before they are written, so that a value is passed over once for each dictionary
-/// that it stands in: at most `room` times.
+/// What is canonical already is copied, and takes no memory but `out`'s. Otherwise the entries of
+/// each dictionary are written behind one another as they come, and then copied in the order of
+/// their keys, so that octets are read twice, and copied once for each dictionary that they stand
+/// in: at most `room` times. Beside `out` this takes the octets that are written of the dictionaries
+/// in hand, 8 octets for each key, and as many again while they are put in order.
 ///
 /// # Errors
 /// As of [`pass`], the first fault from the left decides: [`Fault::TooDeep`] where a list or map stands
 /// inside `room` others and each value before it is whole; [`Fault::Malformed`] where the octets
-/// otherwise begin with no value; [`Fault::NoMemory`] where a growth was refused, and then some of
-/// the value may have been written. What stood in `out` at its start stays.
+/// otherwise begin with no value; [`Fault::NoMemory`] where a growth was refused, or the entries of
+/// a dictionary that isn't canonical have 2^32 octets or more, and then some of the value may have
+/// been written. What stood in `out` at its start stays.
 pub fn canonicalize<'a>(
     alloc: Global,
     octets: &'a [u8],

@@ -1,5 +1,5 @@
 //! The shortest heads of bins, arrays and maps.
-ghost use Rattle.std.specs.Prelude.{◌≡◌, ◌<◌, ◌^◌, ◌++◌, OnOk};
+ghost use Rattle.std.specs.Prelude.{◌≡◌, ◌<◌, ◌^◌, ◌++◌, OnOk, IfOk, nat_lt, true};
 ghost use Rattle.msgpack_codec.specs.Short.{bytes_head, list_head, dict_head};
 ghost use Rattle.msgpack_canonical.specs.body.Fitting.{counted};
 
@@ -37,7 +37,7 @@ pub(crate) fn put_bytes_head(out: &mut Appender, count: u32) -> Result<(), Alloc
 
 /// The head of an array of so many values.
 #[tactic(auto, unfolding(msgpack_codec::specs::Short::list_head))]
-pub(crate) fn put_list_head(out: &mut Appender, count: u32) -> Result<(), AllocError>
+fn put_list_head(out: &mut Appender, count: u32) -> Result<(), AllocError>
     ensures ok { OnOk result (out.new.since ≡ out.old.since ++ list_head count) }
     ensures before { out.new.before ≡ out.old.before }
 {
@@ -46,6 +46,19 @@ pub(crate) fn put_list_head(out: &mut Appender, count: u32) -> Result<(), AllocE
     } else {
         put_counted(out, 0xdc, count)
     }
+}
+
+/// The same, where there are fewer than 2^32 values; and whether there are.
+pub(crate) fn put_short_list_head(out: &mut Appender, count: u64) -> Result<bool, AllocError>
+    ensures fits { IfOk result (λ b. b ≡ nat_lt count (2 ^ 32)) }
+    ensures ok { IfOk result (λ b. b ≡ true → out.new.since ≡ out.old.since ++ list_head count) }
+    ensures before { out.new.before ≡ out.old.before }
+{
+    if count >= 0x1_0000_0000 {
+        return Ok(false);
+    }
+    put_list_head(out, count as u32)?;
+    Ok(true)
 }
 
 /// The head of a map of so many entries.

@@ -3,6 +3,7 @@ ghost use Rattle.std.specs.Prelude.{◌≡◌, ◌<◌, ◌^◌, ◌++◌, ℕ, 
 ghost use Rattle.message_tree.specs.Data.{whole, text, bytes};
 ghost use Rattle.msgpack_codec.specs.Short.{short};
 ghost use Rattle.msgpack_codec.specs.body.Tokens.{data_of};
+ghost use Rattle.msgpack_canonical.specs.body.Entries.{parted};
 ghost use Rattle.msgpack_canonical.specs.body.Fitting.{fits as fits_of};
 
 use crate::heads::put_bytes_head;
@@ -29,6 +30,8 @@ fn put_whole(number: i128, out: &mut Appender) -> Result<bool, AllocError>
 /// A text, where it has fewer than 2^32 octets.
 pub(crate) fn put_text(of: &str, out: &mut Appender) -> Result<bool, AllocError>
     ensures fits { IfOk result (λ b. b ≡ fits_of (text of.now)) }
+    ensures read { IfOk result (λ b. b ≡ true → (rest : List ℕ)
+        → parted (short (text of.now) ++ rest) ≡ (of.now, rest)) }
     ensures written { IfOk result (λ b. b ≡ true
         → out.new.since ≡ out.old.since ++ short (text of.now)) }
     ensures before { out.new.before ≡ out.old.before }

@@ -7,10 +7,10 @@
 //! Contracts say it in the words of `msgpack_codec`: which tree the octets spell, what is written for it, and which
 //! octets are refused, for the same reasons as by `msgpack_codec::decode`.
 mod canonical;
+mod entries;
 mod heads;
 mod kinds;
 mod leaves;
-mod places;
 mod writing;
 
 pub use canonical::{Canonicalized, canonicalize};

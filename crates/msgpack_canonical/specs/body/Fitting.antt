@@ -25,13 +25,13 @@ abbrev mutual
   entries_fit tree.no_entries = true
   entries_fit (tree.entry k d es) = nat_lt (length k) (2 ^ 32) && (fits d && entries_fit es)
 
--- a value was read that fits, and it was written
-abbrev pub IsPut : Found tree.Data → List ℕ → List ℕ → List ℕ → Type 0
-IsPut found rest old new = (d : tree.Data) × (found ≡ Ok (d, rest)) × (fits d ≡ true) × (new ≡ old ++ short d)
+-- a value was read, and it was written where it fits
+abbrev pub IsPut : Found tree.Data → List ℕ → Bool → List ℕ → List ℕ → Type 0
+IsPut found rest is_written old new = (d : tree.Data) × (found ≡ Ok (d, rest)) × (is_written ≡ fits d) × (is_written ≡ true → new ≡ old ++ short d)
 
--- no value was read that fits
-abbrev pub IsUnfit : Found tree.Data → Type 0
-IsUnfit found = (d : tree.Data) (rest : List ℕ) → found ≡ Ok (d, rest) → fits d ≡ false
+-- no value was read
+abbrev pub IsUnread : Found tree.Data → Type 0
+IsUnread found = (d : tree.Data) (rest : List ℕ) → found ≡ Ok (d, rest) → ⊥
 
 -- a count behind a mark: in two octets, or in four behind the next mark
 abbrev pub counted : ℕ → ℕ → List ℕ

@@ -1,5 +1,5 @@
 use Rattle.msgpack_canonical.proofs.Tokens.{other-token, no-token, text-token-read}
-use Rattle.msgpack_canonical.proofs.places.key_of.Goals as goal
+use Rattle.msgpack_canonical.proofs.entries.key_of.Goals as goal
 
 pub returns-in-Some-clause-some : goal.returns-in-Some-clause-some
 returns-in-Some-clause-some c = λ room. text-token-read room c.in-Ok.token c.in-Some.key c.args.octets.now c.in-Ok.rest.now c.in-Some.ensures.text c.in-Ok.ensures.ok

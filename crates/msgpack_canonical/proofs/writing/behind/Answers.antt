@@ -3,7 +3,7 @@ use Rattle.msgpack_codec.specs.Written.{settled}
 use Rattle.msgpack_codec.specs.body.Decoder.{value_at}
 use Rattle.msgpack_codec.proofs.SpelledIsRead.{value_again}
 use Rattle.msgpack_canonical.proofs.Refused.{refused-unread}
-use Rattle.msgpack_canonical.proofs.places.behind.Goals as goal
+use Rattle.msgpack_canonical.proofs.writing.behind.Goals as goal
 
 pub returns-in-Ok-clause-some : goal.returns-in-Ok-clause-some
 returns-in-Ok-clause-some c =
