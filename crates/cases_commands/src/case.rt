@@ -1,0 +1,360 @@
+//! From a line to its answer.
+use crate::faults::faults;
+use crate::told::Outcome;
+use crate::values::value;
+use case_text::{Table, is_refused, line_of, number_of, octets_of};
+use client_commands::{
+    Arguments, Contact, PublishCommand, PublishWishes, Serializer, SubscribeCommand,
+    SubscribeWishes, publish, subscribe, value_of,
+};
+use message_tree::{Content, Text, Tree};
+use rawsocket::devices::testing::{FailsAt, OneByOne};
+use rawsocket::devices::{MemorySource, Sink, Source, WriteSink};
+use rawsocket::{Kind, write_frame};
+use std::alloc::Global;
+use std::io;
+use wamp_ids::Policy;
+
+/// Room for all that a command writes, so that its sinks fail where a call is to fail, and nowhere else.
+const ROOM: usize = 65536;
+
+/// Which call of a device fails, from 0.
+#[derive(Clone, Copy)]
+struct Failing {
+    read: u64,
+    write: u64,
+    input: u64,
+    output: u64,
+}
+
+/// No call fails.
+const NONE: Failing = Failing {
+    read: u64::MAX,
+    write: u64::MAX,
+    input: u64::MAX,
+    output: u64::MAX,
+};
+
+impl Failing {
+    /// The same, but this call of a device fails.
+    fn with(mut self, device: &str, call: u64) -> Failing {
+        match device {
+            "read" => self.read = call,
+            "write" => self.write = call,
+            "input" => self.input = call,
+            _ => self.output = call,
+        }
+        self
+    }
+}
+
+/// What the lines of a case have said so far.
+#[derive(Drop)]
+pub struct Case {
+    realm: String,
+    authid: Option<String>,
+    serializer: Serializer,
+    policy: Policy,
+    get_retained: bool,
+    count: Option<u64>,
+    acknowledge: bool,
+    retain: bool,
+    roles: Vec<String>,
+    topics: Vec<String>,
+    words: Vec<String>,
+    kwargs: Option<String>,
+    is_lines: bool,
+    input: Vec<u8>,
+    octets: Vec<u8>,
+    is_slow: bool,
+    failing: Failing,
+}
+
+impl Case {
+    pub fn new(alloc: Global) -> Case {
+        Case {
+            realm: String::new(alloc),
+            authid: None,
+            serializer: Serializer::Json,
+            policy: Policy::Exact,
+            get_retained: false,
+            count: None,
+            acknowledge: false,
+            retain: false,
+            roles: Vec::new(alloc),
+            topics: Vec::new(alloc),
+            words: Vec::new(alloc),
+            kwargs: None,
+            is_lines: false,
+            input: Vec::new(alloc),
+            octets: Vec::new(alloc),
+            is_slow: false,
+            failing: NONE,
+        }
+    }
+}
+
+impl Table for Case {
+    fn take(&mut self, alloc: Global, line: &str) -> io::Result<String> {
+        match line.split_once(' ') {
+            Some(("#", _)) => {
+                *self = Case::new(alloc);
+                line_of(alloc, line)
+            }
+            Some(("value", word)) => value(alloc, word),
+            Some(("message", text)) => self.add_frame(alloc, Kind::Message, text),
+            Some(("ping", text)) => self.add_frame(alloc, Kind::Ping, text),
+            Some(("pong", text)) => self.add_frame(alloc, Kind::Pong, text),
+            Some(("sweep", words)) => self.sweep(alloc, words),
+            Some((word, text)) => {
+                self.set(alloc, word, text)?;
+                Ok(String::new(alloc))
+            }
+            None => self.take_word(alloc, line),
+        }
+    }
+}
+
+impl Case {
+    /// The broker sends a frame of this kind.
+    fn add_frame(&mut self, alloc: Global, kind: Kind, text: &str) -> io::Result<String> {
+        let payload = octets_of(alloc, text)?;
+        match write_frame(alloc, kind, &payload, &mut self.octets) {
+            Ok(()) => Ok(String::new(alloc)),
+            Err(fault) => Ok(format!(in alloc; "{fault}\n")?),
+        }
+    }
+
+    fn set(&mut self, alloc: Global, word: &str, text: &str) -> io::Result<()> {
+        match word {
+            "realm" => self.realm = String::from_str(alloc, text)?,
+            "authid" => self.authid = Some(String::from_str(alloc, text)?),
+            "match" => self.policy = policy_of(text),
+            "count" => self.count = Some(number_of(text)),
+            "eligible" => self.roles.push(String::from_str(alloc, text)?)?,
+            "topic" => self.topics.push(String::from_str(alloc, text)?)?,
+            "word" => self.words.push(String::from_str(alloc, text)?)?,
+            "kwargs" => self.kwargs = Some(String::from_str(alloc, text)?),
+            "first" => self.octets.truncate(number_of(text) as usize),
+            _ => self.set_streams(alloc, word, text)?,
+        }
+        Ok(())
+    }
+
+    fn set_streams(&mut self, alloc: Global, word: &str, text: &str) -> io::Result<()> {
+        match word {
+            "octets" => self.octets.extend_from_slice(&octets_of(alloc, text)?)?,
+            "repeat" => self.repeat(text)?,
+            "input" => match text.split_once(' ') {
+                Some((call, "fails")) => {
+                    self.failing = self.failing.with(word, number_of(call));
+                }
+                _ => self.input.extend_from_slice(&octets_of(alloc, text)?)?,
+            },
+            _ => self.failing = self.failing.with(word, number_of(text)),
+        }
+        Ok(())
+    }
+
+    /// Adds so many octets to the input, as in `101 x`.
+    fn repeat(&mut self, text: &str) -> io::Result<()> {
+        let octet = text.as_bytes().last().copied().unwrap_or(b' ');
+        for _ in 0..number_of(text) {
+            self.input.push(octet)?;
+        }
+        Ok(())
+    }
+
+    fn take_word(&mut self, alloc: Global, word: &str) -> io::Result<String> {
+        match word {
+            "msgpack" => self.serializer = Serializer::MsgPack,
+            "get_retained" => self.get_retained = true,
+            "acknowledge" => self.acknowledge = true,
+            "retain" => self.retain = true,
+            "lines" => self.is_lines = true,
+            "slowly" => self.is_slow = true,
+            "faults" => return faults(alloc),
+            "subscribe" => return self.run(alloc, word, self.failing)?.in_words(alloc),
+            "publish" => return self.run(alloc, word, self.failing)?.in_words(alloc),
+            _ => return line_of(alloc, "no case has this word"),
+        }
+        Ok(String::new(alloc))
+    }
+
+    /// Runs a command for each call of a device that fails, the first one first, until none does.
+    fn sweep(&self, alloc: Global, words: &str) -> io::Result<String> {
+        let Some((command, device)) = words.split_once(' ') else {
+            return line_of(alloc, "a device is missing");
+        };
+        let whole = self.run(alloc, command, NONE)?;
+        if is_refused(whole.end.as_str()) {
+            return line_of(alloc, whole.end.as_str());
+        }
+        let last = whole.counted(alloc, &whole)?;
+        let mut told = String::new(alloc);
+        for call in 0..u64::MAX {
+            let outcome = self.run(alloc, command, NONE.with(device, call))?;
+            let line = outcome.counted(alloc, &whole)?;
+            if !told.as_str().ends_with(line.as_str()) {
+                told.push_str(line.as_str())?;
+            }
+            if line.as_str() == last.as_str() {
+                break;
+            }
+        }
+        Ok(told)
+    }
+
+    /// Runs a command where these calls fail.
+    fn run(&self, alloc: Global, command: &str, failing: Failing) -> io::Result<Outcome> {
+        if self.is_slow {
+            self.run_slowly(alloc, command, failing)
+        } else {
+            self.run_at_once(alloc, command, failing)
+        }
+    }
+
+    /// Runs a command over a stream of one octet at a time.
+    fn run_slowly(&self, alloc: Global, command: &str, failing: Failing) -> io::Result<Outcome> {
+        let source = MemorySource::new(self.octets.as_slice().to_vec(alloc)?);
+        let sink = WriteSink::new(Vec::with_capacity(alloc, ROOM)?);
+        let mut source = FailsAt::new(OneByOne::new(source), failing.read);
+        let mut sink = FailsAt::new(OneByOne::new(sink), failing.write);
+        let mut outcome = self.run_over(alloc, command, failing, &mut source, &mut sink)?;
+        let written = sink.device.device.writer().as_slice();
+        outcome.written.extend_from_slice(written)?;
+        Ok(outcome)
+    }
+
+    /// Runs a command over a stream that gives and takes all at once.
+    fn run_at_once(&self, alloc: Global, command: &str, failing: Failing) -> io::Result<Outcome> {
+        let source = MemorySource::new(self.octets.as_slice().to_vec(alloc)?);
+        let sink = WriteSink::new(Vec::with_capacity(alloc, ROOM)?);
+        let mut source = FailsAt::new(source, failing.read);
+        let mut sink = FailsAt::new(sink, failing.write);
+        let mut outcome = self.run_over(alloc, command, failing, &mut source, &mut sink)?;
+        let written = sink.device.writer().as_slice();
+        outcome.written.extend_from_slice(written)?;
+        Ok(outcome)
+    }
+
+    /// Runs a command over a stream; what is written to it is left out.
+    fn run_over<I: Source, O: Sink>(
+        &self,
+        alloc: Global,
+        command: &str,
+        failing: Failing,
+        source: &mut I,
+        sink: &mut O,
+    ) -> io::Result<Outcome> {
+        let input = MemorySource::new(self.input.as_slice().to_vec(alloc)?);
+        let output = WriteSink::new(Vec::with_capacity(alloc, ROOM)?);
+        let mut input = FailsAt::new(input, failing.input);
+        let mut output = FailsAt::new(output, failing.output);
+        let end = self.run_on(alloc, command, source, sink, &mut input, &mut output)?;
+        let printed = output.device.writer().as_slice().to_vec(alloc)?;
+        Ok(Outcome {
+            written: Vec::new(alloc),
+            printed,
+            end,
+        })
+    }
+
+    /// Runs a command on these devices, and gives what came last.
+    fn run_on<I: Source, O: Sink, J: Source, P: Sink>(
+        &self,
+        alloc: Global,
+        command: &str,
+        source: &mut I,
+        sink: &mut O,
+        input: &mut J,
+        output: &mut P,
+    ) -> io::Result<String> {
+        let result = match command {
+            "subscribe" => subscribe(alloc, &self.subscribing(alloc)?, source, sink, output),
+            _ => publish(alloc, &self.publishing(alloc)?, source, sink, input),
+        };
+        match result {
+            Ok(()) => Ok(String::from_str(alloc, "ended well")?),
+            Err(fault) => Ok(format!(in alloc; "{fault}")?),
+        }
+    }
+
+    fn contact(&self, alloc: Global) -> io::Result<Contact> {
+        let authid = match &self.authid {
+            None => None,
+            Some(authid) => Some(Text::of(alloc, authid.as_str())?),
+        };
+        Ok(Contact {
+            host: String::from_str(alloc, "localhost")?,
+            port: 9000,
+            serializer: self.serializer,
+            realm: Text::of(alloc, self.realm.as_str())?,
+            authid,
+        })
+    }
+
+    fn subscribing(&self, alloc: Global) -> io::Result<SubscribeCommand> {
+        let wishes = SubscribeWishes {
+            policy: self.policy,
+            get_retained: self.get_retained,
+        };
+        Ok(SubscribeCommand {
+            contact: self.contact(alloc)?,
+            wishes,
+            count: self.count,
+            topics: texts(alloc, &self.topics)?,
+        })
+    }
+
+    fn publishing(&self, alloc: Global) -> io::Result<PublishCommand> {
+        let mut wishes = PublishWishes::none();
+        wishes.acknowledge = self.acknowledge;
+        wishes.retain = self.retain;
+        if !self.roles.is_empty() {
+            wishes.eligible_authrole = Some(texts(alloc, &self.roles)?);
+        }
+        let topic = match self.topics.first() {
+            Some(topic) => Text::of(alloc, topic.as_str())?,
+            None => Text::of(alloc, "")?,
+        };
+        let kwargs = match &self.kwargs {
+            None => None,
+            Some(json) => Some(Content::of(value_of(alloc, json.as_str())?)),
+        };
+        Ok(PublishCommand {
+            contact: self.contact(alloc)?,
+            wishes,
+            topic,
+            arguments: self.arguments(alloc)?,
+            kwargs,
+        })
+    }
+
+    fn arguments(&self, alloc: Global) -> io::Result<Arguments> {
+        if self.is_lines {
+            return Ok(Arguments::Lines);
+        }
+        let mut values = Vec::new(alloc);
+        for word in &self.words {
+            values.push(value_of(alloc, word.as_str())?)?;
+        }
+        Ok(Arguments::Words(Content::of(Tree::List(values))))
+    }
+}
+
+fn texts(alloc: Global, of: &Vec<String>) -> io::Result<Vec<Text>> {
+    let mut texts = Vec::new(alloc);
+    for text in of {
+        texts.push(Text::of(alloc, text.as_str())?)?;
+    }
+    Ok(texts)
+}
+
+fn policy_of(text: &str) -> Policy {
+    match text {
+        "prefix" => Policy::Prefix,
+        "wildcard" => Policy::Wildcard,
+        _ => Policy::Exact,
+    }
+}

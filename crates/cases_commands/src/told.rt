@@ -1,0 +1,44 @@
+//! What a run of a command comes to.
+use case_text::spelled;
+use std::alloc::Global;
+use std::io;
+
+/// What was written to the broker, what was printed, and what came last.
+#[derive(Drop)]
+pub struct Outcome {
+    pub written: Vec<u8>,
+    pub printed: Vec<u8>,
+    pub end: String,
+}
+
+impl Outcome {
+    /// All of it, in words.
+    pub fn in_words(&self, alloc: Global) -> io::Result<String> {
+        let written = spelled(alloc, self.written.as_slice())?;
+        let end = self.end.as_str();
+        let mut text = format!(in alloc; "wrote {written}\n")?;
+        if !self.printed.is_empty() {
+            let printed = spelled(alloc, self.printed.as_slice())?;
+            text.push_str(format!(in alloc; "printed {printed}\n")?.as_str())?;
+        }
+        text.push_str(format!(in alloc; "{end}\n")?.as_str())?;
+        Ok(text)
+    }
+
+    /// How much of it there is, and whether it is a beginning of the whole, where no call fails.
+    pub fn counted(&self, alloc: Global, whole: &Outcome) -> io::Result<String> {
+        let written = self.written.len();
+        let printed = self.printed.len();
+        let is_begun = whole
+            .written
+            .as_slice()
+            .starts_with(self.written.as_slice())
+            && whole
+                .printed
+                .as_slice()
+                .starts_with(self.printed.as_slice());
+        let others = if is_begun { "" } else { "other " };
+        let end = self.end.as_str();
+        Ok(format!(in alloc; "{others}{written} written, {printed} printed, {end}\n")?)
+    }
+}

@@ -1,0 +1,95 @@
+-- What faults tell of devices.
+use Rattle.std.proofs.Common.{◌≡◌, refl, sym, subst, ℕ, List, Result, Ok, Err}
+use Rattle.std.specs.Prelude.{IfErr}
+use Rattle.rawsocket.specs.Steps.{Fine, Meter, Told, WholeSteps, told_by}
+use Rattle.session.specs.declared.messages.said.Said.{Said}
+use Rattle.client.specs.declared.heard.Heard.{Heard}
+use Rattle.client.specs.declared.heard.Heard.TheVariants as heard
+use Rattle.client_session.specs.Faults.{read_told, write_told}
+use Rattle.client_session.specs.Hearing.{Terms}
+use Rattle.client_session.specs.Saying.{IsCutShort}
+use Rattle.client_session.specs.Sessions.{opening_read_told, opening_write_told, session_read_told, session_write_told}
+use Rattle.client_session.specs.declared.fault.Fault as link_faults
+use Rattle.client_session.specs.declared.fault.Fault.TheVariants.{NoMemory, ReadFault, TooManyReads}
+use Rattle.client_session.specs.declared.welcomed.NoSession.{NoSession}
+use Rattle.client_session.specs.declared.welcomed.NoSession.TheVariants as no_session
+use Rattle.client_session.specs.declared.welcomed.Unheard.{Unheard}
+use Rattle.client_session.specs.declared.welcomed.Unheard.TheVariants as unheard
+use Rattle.client_commands.specs.declared.fault.Fault.{Fault}
+use Rattle.client_commands.specs.Faults.{IsOfBroker, IsOfHere, IsOfLink, input_told, of_hearing, of_link, of_message, of_opening, output_told, sink_told, source_told}
+
+-- a fault of the link tells of it what it tells as a fault of a command
+pub of_link-read : (f : link_faults.Fault) → source_told (of_link f) ≡ read_told f
+of_link-read NoMemory = refl
+of_link-read _ = refl
+
+pub of_link-write : (f : link_faults.Fault) → sink_told (of_link f) ≡ write_told f
+of_link-write NoMemory = refl
+of_link-write _ = refl
+
+pub of_link-aside : (f : link_faults.Fault) → IsOfBroker (of_link f)
+of_link-aside NoMemory = record { input = refl; output = refl }
+of_link-aside _ = record { input = refl; output = refl }
+
+pub of_opening-aside : (f : NoSession) → IsOfBroker (of_opening f)
+of_opening-aside (no_session.Aborted reason) = record { input = refl; output = refl }
+of_opening-aside no_session.Unexpected = record { input = refl; output = refl }
+of_opening-aside (no_session.Failed fault) = of_link-aside fault
+
+pub of_hearing-aside : (f : Unheard) → IsOfBroker (of_hearing f)
+of_hearing-aside unheard.ForeignEvent = record { input = refl; output = refl }
+of_hearing-aside (unheard.Failed fault) = of_link-aside fault
+
+pub of_link-is : (f : link_faults.Fault) → IsOfLink (of_link f)
+of_link-is NoMemory = tt
+of_link-is _ = tt
+
+pub of_hearing-read : (f : Unheard) → source_told (of_hearing f) ≡ session_read_told f
+of_hearing-read unheard.ForeignEvent = refl
+of_hearing-read (unheard.Failed fault) = of_link-read fault
+
+pub of_hearing-write : (f : Unheard) → sink_told (of_hearing f) ≡ session_write_told f
+of_hearing-write unheard.ForeignEvent = refl
+of_hearing-write (unheard.Failed fault) = of_link-write fault
+
+pub of_opening-read : (f : NoSession) → source_told (of_opening f) ≡ opening_read_told f
+of_opening-read (no_session.Aborted reason) = refl
+of_opening-read no_session.Unexpected = refl
+of_opening-read (no_session.Failed fault) = of_link-read fault
+
+pub of_opening-write : (f : NoSession) → sink_told (of_opening f) ≡ opening_write_told f
+of_opening-write (no_session.Aborted reason) = refl
+of_opening-write no_session.Unexpected = refl
+of_opening-write (no_session.Failed fault) = of_link-write fault
+
+-- a whole call, told in another way
+pub retold : {before after : ℕ → Meter} {told other : Told} → other ≡ told → WholeSteps before after told → WholeSteps before after other
+retold {before} {after} {told} {other} is s = subst (λ t. WholeSteps before after t) (sym is) s
+
+-- what is said tells nothing of what is read
+pub cut_short-unread : (t : Terms) (said : Said) (before now : List ℕ) (f : link_faults.Fault) → IsCutShort t said before now f → read_told f ≡ Fine
+cut_short-unread t said before now ReadFault w = absurd w.1
+cut_short-unread t said before now TooManyReads w = absurd w.1
+cut_short-unread t said before now _ w = refl
+
+pub of_message-aside : (h : Heard) → IsOfBroker (of_message h)
+of_message-aside (heard.Abort reason) = record { input = refl; output = refl }
+of_message-aside (heard.Error kind request reason) = record { input = refl; output = refl }
+of_message-aside (heard.Goodbye reason) = record { input = refl; output = refl }
+of_message-aside _ = record { input = refl; output = refl }
+
+pub of_message-here : (h : Heard) → IsOfHere (of_message h)
+of_message-here (heard.Abort reason) = record { source = refl; sink = refl }
+of_message-here (heard.Error kind request reason) = record { source = refl; sink = refl }
+of_message-here (heard.Goodbye reason) = record { source = refl; sink = refl }
+of_message-here _ = record { source = refl; sink = refl }
+
+-- a fault of the broker tells nothing of the standard input
+pub aside-input : {X : Type 0} (r : Result X Fault) → IfErr r IsOfBroker → told_by input_told r ≡ Fine
+aside-input (Ok x) is = refl
+aside-input (Err fault) is = is.input
+
+-- nor of the standard output
+pub aside-output : {X : Type 0} (r : Result X Fault) → IfErr r IsOfBroker → told_by output_told r ≡ Fine
+aside-output (Ok x) is = refl
+aside-output (Err fault) is = is.output

@@ -1,0 +1,4 @@
+pub mod EntriesLemmas
+pub mod FaultLemmas
+pub mod ListeningLemmas
+pub mod PublishingLemmas

@@ -1,0 +1,53 @@
+use Rattle.std.proofs.Common.{ap, arith, inr, refl, subst}
+use Rattle.std.proofs.lemmas.Result.{on_ok_weaker}
+use Rattle.rawsocket.proofs.Lemmas.{no_whole_steps, whole_fine}
+use Rattle.session.specs.Opened.{exchange}
+use Rattle.client_session.specs.Hearing.{Terms}
+use Rattle.client_commands.specs.Acts.{Leaves, standing, terms_of}
+use Rattle.client_commands.proofs.ListeningLemmas.{asked-all}
+use Rattle.client_commands.proofs.subscribing.subscribe.Goals as goal
+
+pub returns-in-Err-clause-lines : goal.returns-in-Err-clause-lines
+returns-in-Err-clause-lines g c = whole_fine c.in-Err.ensures.aside.output (no_whole_steps _)
+
+pub returns-in-Err-ask-clause-lines : goal.returns-in-Err-ask-clause-lines
+returns-in-Err-ask-clause-lines g c = whole_fine c.in-Err-ask.ensures.aside (no_whole_steps _)
+
+pub returns-in-Ok-follow-clause-subscribes : goal.returns-in-Ok-follow-clause-subscribes
+returns-in-Ok-follow-clause-subscribes g c =
+    let command = c.args.command.now in
+    let heard = standing c.follow.new.session (g.I.Source.given c.follow.new.source) (g.O.Sink.taken c.follow.new.sink) in
+    let left = standing c.leave.new.session (g.I.Source.given c.leave.new.source) (g.O.Sink.taken c.leave.new.sink) in
+    on_ok_weaker c.leave.result
+    (λ leaves. record {
+      t = terms_of c.in-Ok.session;
+      asking = standing c.in-Ok.session (g.I.Source.given c.join.new.source) (g.O.Sink.taken c.ask.new.sink);
+      asks =
+          asked-all command.contact.serializer c.link.result.now.serializer command.contact.realm command.contact.authid command.wishes command.topics.items (exchange (g.I.Source.given c.args.source.now) (g.O.Sink.taken c.args.sink.now)) c.in-Ok.session
+          (g.I.Source.given c.join.new.source) (g.O.Sink.taken c.join.new.sink) (g.O.Sink.taken c.ask.new.sink) c.in-Ok.ensures.joined (ap (λ l. l.serializer) c.link.ensures) c.in_default.ensures.asked;
+      heard = heard;
+      follows = c.in-Ok-follow.ensures.follows;
+      left = left;
+      leaves = subst (λ (t : Terms). Leaves t heard left) c.follow.ensures.terms leaves;
+      given = refl;
+      taken = refl;
+    })
+    c.leave.ensures.left
+
+pub returns : goal.returns
+returns g c =
+    let command = c.args.command.now in
+    record {
+      subscribes = tt;
+      prints = inr (record {
+        t = terms_of c.in-Ok.session;
+        asking = standing c.in-Ok.session (g.I.Source.given c.join.new.source) (g.O.Sink.taken c.ask.new.sink);
+        asks =
+            asked-all command.contact.serializer c.link.result.now.serializer command.contact.realm command.contact.authid command.wishes command.topics.items (exchange (g.I.Source.given c.args.source.now) (g.O.Sink.taken c.args.sink.now)) c.in-Ok.session
+            (g.I.Source.given c.join.new.source) (g.O.Sink.taken c.join.new.sink) (g.O.Sink.taken c.ask.new.sink) c.in-Ok.ensures.joined (ap (λ l. l.serializer) c.link.ensures) c.in_default.ensures.asked;
+        prints = c.follow.ensures.prints;
+      });
+      reads = omega (arith, c.in-Ok.ensures.reads, c.in-Err-follow.ensures.reads);
+      writes = omega (arith, c.in-Ok.ensures.writes, c.in_default.ensures.writes, c.in-Err-follow.ensures.writes);
+      lines = c.in-Err-follow.ensures.lines;
+    }

@@ -1,0 +1,161 @@
+-- What a command says to a broker, what it hears, and what it prints. Where a list tells what was heard or published so far, the last
+-- one stands first.
+use Rattle.std.specs.Prelude.{◌≡◌, ◌==◌, ◌+◌, ◌-◌, ℕ, zero, suc, Bool, true, false, List, [], ◌∷◌, ◌++◌, ◌⊎◌, length, get_or, None, Some, Ok, if◌then◌else◌}
+use Rattle.std.specs.declared.option.Option.{Option}
+use Rattle.rawsocket.specs.Devices.{GrowsByBeginning}
+use Rattle.rawsocket.specs.declared.handshake.Serializer.{Serializer}
+use Rattle.session.specs.Opened.{Exchange}
+use Rattle.session.specs.Arguments.{Arguments}
+use Rattle.session.specs.declared.messages.said.Said.{Said}
+use Rattle.session.specs.declared.messages.said.Said.TheVariants.{Hello, Goodbye as GoodbyeSaid, Subscribe, Publish}
+use Rattle.client.specs.Wishes.{subscribe_options, publish_options}
+use Rattle.client.specs.declared.wishes.SubscribeWishes.{SubscribeWishes}
+use Rattle.client.specs.declared.wishes.PublishWishes.{PublishWishes}
+use Rattle.client.specs.declared.heard.Heard.{Heard}
+use Rattle.client.specs.declared.heard.Heard.TheVariants.{Welcome, Goodbye, Published, Subscribed, Event}
+use Rattle.client_session.specs.Handshake.{Replies}
+use Rattle.client_session.specs.Hearing.{Ear, HearsNext, Terms, ear, heard_at, terms}
+use Rattle.client_session.specs.Saying.{saying}
+use Rattle.client_session.specs.Sessions.{Welcomed}
+use Rattle.client_commands.specs.EventLine.{event_line}
+use Rattle.client_commands.specs.declared.grants.Granted.{Granted}
+
+-- the terms of a session
+abbrev pub terms_of : Welcomed → Terms
+terms_of session = terms session.line.serializer session.line.limit
+
+-- what a session has read and heard, at these octets read and written
+abbrev pub standing : Welcomed → List ℕ → List ℕ → Ear
+standing session given taken = heard_at session.line given taken
+
+-- the same, with more octets written
+abbrev pub writing : Ear → List ℕ → Ear
+writing e octets = ear e.waiting e.held e.given (e.taken ++ octets)
+
+-- the broker accepted the handshake, HELLO was said, and WELCOME was heard
+pub record Joins (s : Serializer) (realm : List ℕ) (authid : Option (List ℕ)) (before now : Exchange) (session : Welcomed) : Type 0 where
+  pub linked : Exchange
+  pub replies : Replies s before linked (Ok session.line.limit)
+  pub serializer : session.line.serializer ≡ s
+  pub hears :
+      HearsNext (terms s session.line.limit) (ear [] [] linked.given (linked.taken ++ saying s (Hello realm authid)))
+      (standing session now.given now.taken) (Ok (Welcome session.id))
+  pub new : session.subscriptions ≡ []
+
+-- these were heard, one after another, and nothing else was
+abbrev pub Listens : Terms → Ear → Ear → List Heard → Type 0
+Listens t before now [] = now ≡ before
+Listens t before now (heard ∷ heards) = (mid : Ear) × Listens t before mid heards × HearsNext t mid now (Ok heard)
+
+-- GOODBYE is said, and the broker's is heard; what comes before it is passed over
+pub record Leaves (t : Terms) (before now : Ear) : Type 0 where
+  pub passed : List Heard
+  pub reason : List ℕ
+  pub hears : Listens t (writing before (saying t.serializer GoodbyeSaid)) now (Goodbye reason ∷ passed)
+
+-- the SUBSCRIBEs of the first n topics, whose requests' ids count from 1
+abbrev pub asked : Serializer → SubscribeWishes → List (List ℕ) → ℕ → List ℕ
+asked s wishes topics zero = []
+asked s wishes topics (suc n) = asked s wishes topics n ++ saying s (Subscribe (n + 1) (subscribe_options wishes) (get_or topics n []))
+
+-- the subscriptions that were given, with one more where this grants one
+abbrev pub granted_with : List Granted → Heard → List Granted
+granted_with granted (Subscribed request n) = granted ++ record { subscription = n; request = request } ∷ []
+granted_with granted _ = granted
+
+abbrev pub granted : List Heard → List Granted
+granted [] = []
+granted (heard ∷ heards) = granted_with (granted heards) heard
+
+-- the request that first gave this subscription
+abbrev pub request_of : ℕ → List Granted → Option ℕ
+request_of n [] = None
+request_of n (one ∷ more) = if one.subscription == n then Some one.request else request_of n more
+
+-- the topic of a request
+abbrev pub topic_at : List (List ℕ) → Option ℕ → List ℕ
+topic_at topics None = []
+topic_at topics (Some request) = get_or topics (request - 1) []
+
+-- the topic of an event: the one that it names, else the one that was subscribed to
+abbrev pub topic_told : List (List ℕ) → List Granted → ℕ → Option (List ℕ) → List ℕ
+topic_told topics granted n (Some topic) = topic
+topic_told topics granted n None = topic_at topics (request_of n granted)
+
+-- what is printed of what is heard: a line for an event, and nothing else
+abbrev pub line_for : List (List ℕ) → List Granted → Heard → List ℕ
+line_for topics granted (Event n publication details args) = event_line (topic_told topics granted n details.topic) publication details args
+line_for topics granted _ = []
+
+abbrev pub printed : List (List ℕ) → List Heard → List ℕ
+printed topics [] = []
+printed topics (heard ∷ heards) = printed topics heards ++ line_for topics (granted heards) heard
+
+abbrev pub is_event : Heard → Bool
+is_event (Event n publication details args) = true
+is_event _ = false
+
+abbrev pub events : List Heard → ℕ
+events [] = 0
+events (heard ∷ heards) = if is_event heard then events heards + 1 else events heards
+
+-- how `subscribe` hears and prints until its count is reached
+pub record Follows (topics : List (List ℕ)) (count : Option ℕ) (t : Terms) (before now : Ear) (lines_before lines : List ℕ) : Type 0 where
+  pub heards : List Heard
+  pub listens : Listens t before now heards
+  pub lines_are : lines ≡ lines_before ++ printed topics heards
+  pub counted : count ≡ Some (events heards)
+
+-- of the line of what is heard next a beginning is printed
+pub record PrintsPartly (topics : List (List ℕ)) (t : Terms) (heards : List Heard) (now : Ear) (lines_before lines : List ℕ) : Type 0 where
+  pub next : Heard
+  pub after : Ear
+  pub hears : HearsNext t now after (Ok next)
+  pub begun : GrowsByBeginning lines_before lines (line_for topics (granted heards) next)
+
+-- what is printed are the lines of what was heard, the last line perhaps in part
+pub record Prints (topics : List (List ℕ)) (t : Terms) (before : Ear) (lines_before lines : List ℕ) : Type 0 where
+  pub heards : List Heard
+  pub now : Ear
+  pub listens : Listens t before now heards
+  pub lines_are :
+      (lines ≡ lines_before ++ printed topics heards) ⊎ PrintsPartly topics t heards now (lines_before ++ printed topics heards) lines
+
+-- a session was joined, and the topics asked for
+pub record Asks (s : Serializer) (realm : List ℕ) (authid : Option (List ℕ)) (wishes : SubscribeWishes) (topics : List (List ℕ)) (before : Exchange) (asking : Ear) (t : Terms) : Type 0 where
+  pub joined : Exchange
+  pub session : Welcomed
+  pub joins : Joins s realm authid before joined session
+  pub terms_are : t ≡ terms_of session
+  pub asks : asking ≡ writing (standing session joined.given joined.taken) (asked s wishes topics (length topics))
+
+-- what `subscribe` did that ended by its count
+pub record Subscribes (s : Serializer) (realm : List ℕ) (authid : Option (List ℕ)) (wishes : SubscribeWishes) (topics : List (List ℕ)) (count : Option ℕ) (before now : Exchange) (lines_before lines : List ℕ) : Type 0 where
+  pub t : Terms
+  pub asking : Ear
+  pub asks : Asks s realm authid wishes topics before asking t
+  pub heard : Ear
+  pub follows : Follows topics count t asking heard lines_before lines
+  pub left : Ear
+  pub leaves : Leaves t heard left
+  pub given : now.given ≡ left.given
+  pub taken : now.taken ≡ left.taken
+
+-- what `subscribe` printed that failed after it had asked
+pub record PrintsAfterAsking (s : Serializer) (realm : List ℕ) (authid : Option (List ℕ)) (wishes : SubscribeWishes) (topics : List (List ℕ)) (before : Exchange) (lines_before lines : List ℕ) : Type 0 where
+  pub t : Terms
+  pub asking : Ear
+  pub asks : Asks s realm authid wishes topics before asking t
+  pub prints : Prints topics t asking lines_before lines
+
+-- a publication was said, and where an acknowledgement was asked for, it was heard next
+abbrev pub Acknowledges : Bool → Terms → ℕ → Ear → Ear → Type 0
+Acknowledges false t request said now = now ≡ said
+Acknowledges true t request said now = (publication : ℕ) × HearsNext t said now (Ok (Published request publication))
+
+abbrev pub publication : PublishWishes → List ℕ → ℕ → Arguments → Said
+publication wishes topic request args = Publish request (publish_options wishes) topic args
+
+abbrev pub IsPublished : PublishWishes → List ℕ → Terms → ℕ → Arguments → Ear → Ear → Type 0
+IsPublished wishes topic t request args before now =
+    Acknowledges wishes.acknowledge t request (writing before (saying t.serializer (publication wishes topic request args))) now

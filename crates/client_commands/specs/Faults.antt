@@ -1,0 +1,79 @@
+-- What the faults of a command tell of each device.
+use Rattle.std.specs.Prelude.{◌≡◌, ◌+◌, ℕ, ⊤}
+use Rattle.rawsocket.specs.Steps.{Told, Fine, Failed, NoTurn, failures_told}
+use Rattle.client_session.specs.Faults.{read_told, write_told}
+use Rattle.client_session.specs.declared.fault.Fault as link_faults
+use Rattle.client_session.specs.declared.fault.Fault.TheVariants as link
+use Rattle.client_session.specs.declared.welcomed.NoSession.{NoSession}
+use Rattle.client_session.specs.declared.welcomed.NoSession.TheVariants as no_session
+use Rattle.client_session.specs.declared.welcomed.Unheard.{Unheard}
+use Rattle.client_session.specs.declared.welcomed.Unheard.TheVariants as unheard
+use Rattle.client.specs.declared.heard.Heard.{Heard}
+use Rattle.client.specs.declared.heard.Heard.TheVariants.{Abort, Goodbye, Error}
+use Rattle.client_commands.specs.declared.fault.Fault.{Fault}
+use Rattle.client_commands.specs.declared.fault.Fault.TheVariants.{NoMemory, ReadFault, WriteFault, TooManyTurns, Refused, Connection, Unexpected, ForeignEvent, Closed}
+
+-- a fault of the link to the broker
+abbrev pub of_link : link_faults.Fault → Fault
+of_link link.NoMemory = NoMemory
+of_link fault = Connection fault
+
+-- why no session is open
+abbrev pub of_opening : NoSession → Fault
+of_opening (no_session.Aborted reason) = Refused reason
+of_opening no_session.Unexpected = Unexpected
+of_opening (no_session.Failed fault) = of_link fault
+
+-- why nothing is heard in a session
+abbrev pub of_hearing : Unheard → Fault
+of_hearing unheard.ForeignEvent = ForeignEvent
+of_hearing (unheard.Failed fault) = of_link fault
+
+-- why a message that nothing waits for ends a command
+abbrev pub of_message : Heard → Fault
+of_message (Abort reason) = Refused reason
+of_message (Error kind request reason) = Refused reason
+of_message (Goodbye reason) = Closed reason
+of_message _ = Unexpected
+
+-- what a fault tells of what is read from the broker
+abbrev pub source_told : Fault → Told
+source_told (Connection fault) = read_told fault
+source_told _ = Fine
+
+-- of what is written to it
+abbrev pub sink_told : Fault → Told
+sink_told (Connection fault) = write_told fault
+sink_told _ = Fine
+
+-- of the standard input
+abbrev pub input_told : Fault → Told
+input_told ReadFault = Failed
+input_told TooManyTurns = NoTurn
+input_told _ = Fine
+
+-- of the standard output
+abbrev pub output_told : Fault → Told
+output_told WriteFault = Failed
+output_told TooManyTurns = NoTurn
+output_told _ = Fine
+
+-- no failure of a device was passed over, and none was tried again
+abbrev pub AreFailuresTold : ℕ → ℕ → Told → Type 0
+AreFailuresTold before now told = now ≡ before + failures_told told
+
+-- want of memory, or a fault of the link
+abbrev pub IsOfLink : Fault → Type 0
+IsOfLink NoMemory = ⊤
+IsOfLink (Connection fault) = ⊤
+IsOfLink _ = ⊥
+
+-- a fault that tells nothing of the standard input and output
+pub record IsOfBroker (fault : Fault) : Type 0 where
+  pub input : input_told fault ≡ Fine
+  pub output : output_told fault ≡ Fine
+
+-- a fault that tells nothing of the connection to the broker
+pub record IsOfHere (fault : Fault) : Type 0 where
+  pub source : source_told fault ≡ Fine
+  pub sink : sink_told fault ≡ Fine

@@ -1,0 +1,56 @@
+//! What the commands are told.
+use client::{PublishWishes, SubscribeWishes};
+use client_session::Serializer;
+use message_tree::{Content, Text};
+
+/// Where a broker is, and how it is spoken to.
+#[derive(Drop)]
+pub struct Contact {
+    /// Its name or address.
+    pub host: String,
+    /// Its port, from 1.
+    pub port: u16,
+    /// How messages are serialized.
+    pub serializer: Serializer,
+    /// The realm that is joined, a URI.
+    pub realm: Text,
+    /// The authid that is asked for, if one is.
+    pub authid: Option<Text>,
+}
+
+/// What `subscribe` is told.
+#[derive(Drop)]
+pub struct SubscribeCommand {
+    /// The broker.
+    pub contact: Contact,
+    /// How topics are compared, and whether what is retained is asked for.
+    pub wishes: SubscribeWishes,
+    /// After how many events it ends; without one it goes on until something else ends it.
+    pub count: Option<u64>,
+    /// The topics. The SUBSCRIBE of each has its place as its request's id, from 1.
+    pub topics: Vec<Text>,
+}
+
+/// What `publish` is told.
+#[derive(Drop)]
+pub struct PublishCommand {
+    /// The broker.
+    pub contact: Contact,
+    /// What each publication wishes.
+    pub wishes: PublishWishes,
+    /// The topic of each publication.
+    pub topic: Text,
+    /// Its arguments.
+    pub arguments: Arguments,
+    /// What each publication names by keys, if anything: a dictionary.
+    pub kwargs: Option<Content>,
+}
+
+/// What is published.
+#[derive(Drop)]
+pub enum Arguments {
+    /// These, once: a list.
+    Words(Content),
+    /// Each line of an input as a publication's only argument, as [`crate::value_of`] reads it.
+    Lines,
+}

@@ -1,0 +1,69 @@
+//! The way into a session.
+ghost use Rattle.std.specs.Prelude.{◌≡◌, IfErr, IfOk};
+ghost use Rattle.rawsocket.specs.Steps.{told_by};
+ghost use Rattle.session.specs.Opened.{exchange};
+ghost use Rattle.session.specs.declared.messages.said.Said.TheVariants.{Hello as HelloSaid};
+ghost use Rattle.client_commands.specs.Acts.{Joins};
+ghost use Rattle.client_commands.specs.Faults.{AreFailuresTold, IsOfBroker, sink_told, source_told};
+
+use crate::command::Contact;
+use crate::fault::Fault;
+use crate::hearing::say;
+use client_session::{ClientSession, Link, Said};
+use message_tree::Text;
+use rawsocket::devices::{Sink, Source};
+use std::alloc::{AllocError, Global};
+
+/// The HELLO of a contact.
+fn hello(alloc: Global, contact: &Contact) -> Result<Said, AllocError>
+    ensures { IfOk result (λ said. said ≡ HelloSaid contact.now.realm contact.now.authid) }
+{
+    let realm = contact.realm.try_copy(alloc)?;
+    let authid = copy_if_any(alloc, &contact.authid)?;
+    Ok(Said::Hello { realm, authid })
+}
+
+fn copy_if_any(alloc: Global, text: &Option<Text>) -> Result<Option<Text>, AllocError>
+    ensures { IfOk result (λ copy. copy ≡ text.now) }
+{
+    match text {
+        None => Ok(None),
+        Some(text) => Ok(Some(text.try_copy(alloc)?)),
+    }
+}
+
+/// Joins the realm: the handshake, HELLO and WELCOME.
+///
+/// # Errors
+/// [`Fault::Refused`] by what an ABORT says, [`Fault::Unexpected`] where neither WELCOME nor ABORT comes,
+/// [`Fault::Connection`] and [`Fault::NoMemory`].
+pub(crate) fn join<I: Source, O: Sink>(
+    alloc: Global,
+    contact: &Contact,
+    source: &mut I,
+    sink: &mut O,
+) -> Result<ClientSession, Fault>
+    ensures joined { IfOk result (λ session. Joins contact.now.serializer contact.now.realm contact.now.authid
+        (exchange (I.given source.old) (O.taken sink.old))
+        (exchange (I.given source.new) (O.taken sink.new)) session) }
+    ensures aside { IfErr result IsOfBroker }
+    ensures reads { AreFailuresTold (I.failures source.old) (I.failures source.new)
+        (told_by source_told result) }
+    ensures writes { AreFailuresTold (O.failures sink.old) (O.failures sink.new)
+        (told_by sink_told result) }
+{
+    let Ok(said) = hello(alloc, contact) else {
+        return Err(Fault::NoMemory);
+    };
+    let link = match Link::connect(alloc, source, sink, contact.serializer) {
+        Ok(link) => link,
+        Err(fault) => return Err(Fault::from(fault)),
+    };
+    if let Err(fault) = say(alloc, &link, sink, said) {
+        return Err(fault);
+    }
+    match ClientSession::open(alloc, link, source, sink) {
+        Ok(session) => Ok(session),
+        Err(refusal) => Err(Fault::from(refusal)),
+    }
+}

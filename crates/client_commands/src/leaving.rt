@@ -1,0 +1,84 @@
+//! The way out of a session.
+ghost use Rattle.std.specs.Prelude.{◌≡◌, ◌++◌, IfErr, OnOk};
+ghost use Rattle.rawsocket.specs.Devices.{GrowsByBeginning};
+ghost use Rattle.rawsocket.specs.Steps.{Fine, told_by};
+ghost use Rattle.client_session.specs.Saying.{saying};
+ghost use Rattle.client_commands.specs.Acts.{Leaves, standing, terms_of};
+ghost use Rattle.client_commands.specs.Faults.{AreFailuresTold, IsOfBroker, sink_told, source_told};
+
+use crate::fault::Fault;
+use crate::hearing::{fault_of, hear, say};
+use client_session::{ClientSession, Heard, Said};
+use message_tree::Text;
+use rawsocket::devices::{Sink, Source};
+use std::alloc::Global;
+
+/// Whether a message may still come before the broker's GOODBYE: an event, or a subscription that is given.
+fn may_come(heard: &Heard) -> bool {
+    match heard {
+        Heard::Event { .. } => true,
+        Heard::Subscribed { .. } => true,
+        _ => false,
+    }
+}
+
+/// Says GOODBYE, and hears until the broker says it. Events that come before it are passed over.
+///
+/// # Errors
+/// [`Fault::Refused`] by an ERROR or an ABORT that comes before it, and as [`crate::subscribe`] fails.
+pub(crate) fn leave<I: Source, O: Sink>(
+    alloc: Global,
+    session: &mut ClientSession,
+    source: &mut I,
+    sink: &mut O,
+) -> Result<(), Fault>
+    ensures left { OnOk result (Leaves (terms_of session.old)
+        (standing session.old (I.given source.old) (O.taken sink.old))
+        (standing session.new (I.given source.new) (O.taken sink.new))) }
+    ensures aside { IfErr result IsOfBroker }
+    ensures reads { AreFailuresTold (I.failures source.old) (I.failures source.new)
+        (told_by source_told result) }
+    ensures writes { AreFailuresTold (O.failures sink.old) (O.failures sink.new)
+        (told_by sink_told result) }
+{
+    if let Err(fault) = say(alloc, session.link(), sink, Said::Goodbye) {
+        return Err(fault);
+    }
+    'messages: for _ in 0..u64::MAX {
+        let heard = match hear(alloc, session, source, sink) {
+            Ok(heard) => heard,
+            Err(fault) => return Err(fault),
+        };
+        match heard {
+            Heard::Goodbye { .. } => return Ok(()),
+            other => {
+                if !may_come(&other) {
+                    return Err(fault_of(other));
+                }
+            }
+        }
+    }
+    Err(Fault::Connection(client_session::Fault::TooManyReads))
+}
+
+/// Answers the broker that closed the session for this reason, and gives the fault by which a command ends.
+pub(crate) fn answer_goodbye<O: Sink>(
+    alloc: Global,
+    session: &ClientSession,
+    sink: &mut O,
+    reason: Text,
+) -> Fault
+    ensures answered { result ≡ Fault.Closed reason
+        → O.taken sink.new ≡ O.taken sink.old ++ saying session.now.line.serializer Said.Goodbye }
+    ensures begun { GrowsByBeginning (O.taken sink.old) (O.taken sink.new)
+        (saying session.now.line.serializer Said.Goodbye) }
+    ensures unread { source_told result ≡ Fine }
+    ensures aside { IsOfBroker result }
+    ensures writes { AreFailuresTold (O.failures sink.old) (O.failures sink.new)
+        (sink_told result) }
+{
+    match say(alloc, session.link(), sink, Said::Goodbye) {
+        Ok(()) => Fault::Closed(reason),
+        Err(fault) => fault,
+    }
+}

@@ -1,0 +1,28 @@
+//! What `wampd subscribe` and `wampd publish` do, over any device.
+//!
+//! It stands on `client_session` for the session with a broker, on `client` for wishes, and on `json_codec` for the values that are
+//! read and printed. Contracts say what is said to the broker and in which order, which line is printed for which event, and that
+//! each failure of a device is told, with nothing tried again after it. Command lines, sockets and threads are for the crates above.
+#![tactic(auto)]
+
+mod command;
+mod event_lines;
+mod fault;
+mod grants;
+mod hearing;
+mod joining;
+mod leaving;
+mod line_input;
+mod message_args;
+mod publishing;
+mod subscribing;
+mod value;
+
+pub use client::{PublishWishes, SubscribeWishes};
+pub use client_session::Serializer;
+pub use command::{Arguments, Contact, PublishCommand, SubscribeCommand};
+pub use event_lines::event_line;
+pub use fault::Fault;
+pub use publishing::publish;
+pub use subscribing::subscribe;
+pub use value::value_of;

@@ -1,0 +1,260 @@
+//! `subscribe`.
+ghost use Rattle.std.specs.Prelude.{◌≡◌, ◌++◌, ◌⊎◌, IfOk, IfErr, OnOk, length, true};
+ghost use Rattle.rawsocket.specs.Devices.{GrowsByBeginning};
+ghost use Rattle.rawsocket.specs.Steps.{Fine, Steps, WholeSteps, meter, told_by};
+ghost use Rattle.session.specs.Opened.{exchange};
+ghost use Rattle.session.specs.declared.messages.said.Said.TheVariants.{Subscribe as SubscribeSaid};
+ghost use Rattle.client.specs.Wishes.{subscribe_options};
+ghost use Rattle.client_commands.specs.Acts.{Follows, Prints, PrintsAfterAsking, Subscribes, asked, granted_with, is_event, line_for, standing, terms_of};
+ghost use Rattle.client_commands.specs.Faults.{AreFailuresTold, IsOfHere, output_told, sink_told, source_told};
+
+use crate::command::SubscribeCommand;
+use crate::event_lines::event_line;
+use crate::fault::Fault;
+use crate::grants::{Granted, grant, topic_told};
+use crate::hearing::{fault_of, hear, say};
+use crate::joining::join;
+use crate::leaving::{answer_goodbye, leave};
+use client::SubscribeWishes;
+use client_session::{ClientSession, Heard, Link, Said};
+use message_tree::Text;
+use rawsocket::devices::{Sink, Source, Turns, send};
+use std::alloc::{AllocError, Global};
+use wamp_ids::Id;
+
+/// The SUBSCRIBE of a topic.
+fn request_for(
+    alloc: Global,
+    wishes: SubscribeWishes,
+    request: Id,
+    topic: &Text,
+) -> Result<Said, AllocError>
+    ensures { IfOk result (λ said. said ≡ SubscribeSaid request (subscribe_options wishes) topic.now) }
+{
+    let options = wishes.options(alloc)?;
+    let topic = topic.try_copy(alloc)?;
+    Ok(Said::Subscribe {
+        request,
+        options,
+        topic,
+    })
+}
+
+/// Says the SUBSCRIBE of each topic, as requests 1, 2, ..
+///
+/// # Errors
+/// [`Fault::Usage`] where there are more topics than 2^53, as [`say`] fails, and [`Fault::NoMemory`].
+fn ask<O: Sink>(
+    alloc: Global,
+    command: &SubscribeCommand,
+    link: &Link,
+    sink: &mut O,
+) -> Result<(), Fault>
+    ensures asked { OnOk result (O.taken sink.new ≡ O.taken sink.old
+        ++ asked link.now.serializer command.now.wishes command.now.topics.items
+        (length command.now.topics.items)) }
+    ensures unread { told_by source_told result ≡ Fine }
+    ensures aside { told_by output_told result ≡ Fine }
+    ensures writes { AreFailuresTold (O.failures sink.old) (O.failures sink.new)
+        (told_by sink_told result) }
+{
+    'topics: for place in 0..command.topics.len() {
+        let Ok(request) = Id::new(place as u64 + 1) else {
+            return Err(Fault::Usage);
+        };
+        let topic = &command.topics[place];
+        let Ok(said) = request_for(alloc, command.wishes, request, topic) else {
+            return Err(Fault::NoMemory);
+        };
+        if let Err(fault) = say(alloc, link, sink, said) {
+            return Err(fault);
+        }
+    }
+    Ok(())
+}
+
+/// Prints a line, and passes it on.
+fn print<P: Sink>(output: &mut P, line: &[u8], turns: &mut Turns) -> Result<(), Fault>
+    ensures printed { OnOk result (P.taken output.new ≡ P.taken output.old ++ line.now) }
+    ensures begun { GrowsByBeginning (P.taken output.old) (P.taken output.new) line.now }
+    ensures untold { IfErr result IsOfHere }
+    ensures writes { Steps (meter (P.calls output.old) (P.failures output.old) turns.old)
+        (meter (P.calls output.new) (P.failures output.new) turns.new)
+        (told_by output_told result) }
+{
+    match send(output, line, turns) {
+        Ok(()) => Ok(()),
+        Err(rawsocket::Fault::WriteFault) => Err(Fault::WriteFault),
+        Err(_) => Err(Fault::TooManyTurns),
+    }
+}
+
+/// Takes what was heard: a subscription is noted, and the line of an event printed. Tells whether it is an event.
+///
+/// # Errors
+/// [`Fault::WriteFault`] and [`Fault::TooManyTurns`] of the output, a beginning of the line is printed then; [`Fault::Unexpected`]
+/// where a request is answered that isn't open, or something else is said; [`Fault::Refused`] and [`Fault::Closed`] by an ABORT, an
+/// ERROR and a GOODBYE; [`Fault::ForeignEvent`], [`Fault::NoMemory`].
+fn take<P: Sink>(
+    alloc: Global,
+    topics: &Vec<Text>,
+    granted: &mut Vec<Granted>,
+    heard: Heard,
+    output: &mut P,
+    turns: &mut Turns,
+) -> Result<bool, Fault>
+    ensures noted { OnOk result (granted.new.items ≡ granted_with granted.old.items heard) }
+    ensures printed { OnOk result (P.taken output.new ≡ P.taken output.old
+        ++ line_for topics.now.items granted.old.items heard) }
+    ensures event { IfOk result (λ told. told ≡ is_event heard) }
+    ensures begun { GrowsByBeginning (P.taken output.old) (P.taken output.new)
+        (line_for topics.now.items granted.old.items heard) }
+    ensures untold { IfErr result IsOfHere }
+    ensures writes { Steps (meter (P.calls output.old) (P.failures output.old) turns.old)
+        (meter (P.calls output.new) (P.failures output.new) turns.new)
+        (told_by output_told result) }
+{
+    match heard {
+        Heard::Subscribed {
+            request,
+            subscription,
+        } => match grant(topics, granted, request, subscription) {
+            Ok(()) => Ok(false),
+            Err(fault) => Err(fault),
+        },
+        Heard::Event {
+            subscription,
+            publication,
+            details,
+            args,
+        } => {
+            let Some(topic) = topic_told(topics, granted, subscription, &details.topic) else {
+                return Err(Fault::ForeignEvent);
+            };
+            let Ok(line) = event_line(alloc, topic.as_str(), publication, &details, &args) else {
+                return Err(Fault::NoMemory);
+            };
+            match print(output, &line, turns) {
+                Ok(()) => Ok(true),
+                Err(fault) => Err(fault),
+            }
+        }
+        other => Err(fault_of(other)),
+    }
+}
+
+/// Hears and prints, until so many events are printed.
+///
+/// # Errors
+/// As [`hear`] and [`take`] fail.
+fn follow<I: Source, O: Sink, P: Sink>(
+    alloc: Global,
+    command: &SubscribeCommand,
+    session: &mut ClientSession,
+    source: &mut I,
+    sink: &mut O,
+    output: &mut P,
+) -> Result<(), Fault>
+    ensures follows { OnOk result (Follows command.now.topics.items command.now.count
+        (terms_of session.old)
+        (standing session.old (I.given source.old) (O.taken sink.old))
+        (standing session.new (I.given source.new) (O.taken sink.new))
+        (P.taken output.old) (P.taken output.new)) }
+    ensures terms { terms_of session.new ≡ terms_of session.old }
+    ensures prints { Prints command.now.topics.items (terms_of session.old)
+        (standing session.old (I.given source.old) (O.taken sink.old))
+        (P.taken output.old) (P.taken output.new) }
+    ensures reads { AreFailuresTold (I.failures source.old) (I.failures source.new)
+        (told_by source_told result) }
+    ensures writes { AreFailuresTold (O.failures sink.old) (O.failures sink.new)
+        (told_by sink_told result) }
+    ensures lines { WholeSteps (meter (P.calls output.old) (P.failures output.old))
+        (meter (P.calls output.new) (P.failures output.new)) (told_by output_told result) }
+{
+    let mut granted = Vec::new(alloc);
+    let mut turns = Turns::new();
+    let mut printed = 0u64;
+    'messages: for turn in 0..u64::MAX {
+        if is_reached(command.count, printed) {
+            return Ok(());
+        }
+        let heard = match hear(alloc, session, source, sink) {
+            Ok(heard) => heard,
+            Err(fault) => return Err(fault),
+        };
+        let event = match take(
+            alloc,
+            &command.topics,
+            &mut granted,
+            heard,
+            output,
+            &mut turns,
+        ) {
+            Ok(event) => event,
+            Err(fault) => return Err(fault),
+        };
+        if event {
+            printed += 1;
+        }
+    }
+    Err(Fault::Connection(client_session::Fault::TooManyReads))
+}
+
+/// Whether so many events are all that are wanted.
+fn is_reached(count: Option<u64>, printed: u64) -> bool
+    ensures { result ≡ true → count ≡ Some printed }
+{
+    match count {
+        None => false,
+        Some(count) => count == printed,
+    }
+}
+
+/// Joins the realm, subscribes to the topics, and prints a line for each event as it comes, as [`crate::event_line`] spells it, until
+/// so many events as the count says are printed; then it leaves. Without a count it goes on until something else ends it.
+///
+/// All SUBSCRIBEs are said before the first answer is heard, and events may come before the last one is answered. The topic of a line is the
+/// one that the event names, else the one that was subscribed to.
+///
+/// # Errors
+/// [`Fault::Refused`] where the broker refuses the session or a subscription, [`Fault::Closed`] where it closes the session,
+/// [`Fault::Unexpected`], [`Fault::ForeignEvent`], [`Fault::Connection`]; [`Fault::WriteFault`] and [`Fault::TooManyTurns`] of the
+/// output; [`Fault::Usage`] where there are more than 2^53 topics; [`Fault::NoMemory`]. What was printed stays. The streams are to
+/// be closed.
+pub fn subscribe<I: Source, O: Sink, P: Sink>(
+    alloc: Global,
+    command: &SubscribeCommand,
+    source: &mut I,
+    sink: &mut O,
+    output: &mut P,
+) -> Result<(), Fault>
+    ensures subscribes { OnOk result (Subscribes command.now.contact.serializer command.now.contact.realm
+        command.now.contact.authid command.now.wishes command.now.topics.items command.now.count
+        (exchange (I.given source.old) (O.taken sink.old))
+        (exchange (I.given source.new) (O.taken sink.new))
+        (P.taken output.old) (P.taken output.new)) }
+    ensures prints { (P.taken output.new ≡ P.taken output.old)
+        ⊎ PrintsAfterAsking command.now.contact.serializer command.now.contact.realm
+        command.now.contact.authid command.now.wishes command.now.topics.items
+        (exchange (I.given source.old) (O.taken sink.old))
+        (P.taken output.old) (P.taken output.new) }
+    ensures reads { AreFailuresTold (I.failures source.old) (I.failures source.new)
+        (told_by source_told result) }
+    ensures writes { AreFailuresTold (O.failures sink.old) (O.failures sink.new)
+        (told_by sink_told result) }
+    ensures lines { WholeSteps (meter (P.calls output.old) (P.failures output.old))
+        (meter (P.calls output.new) (P.failures output.new)) (told_by output_told result) }
+{
+    let mut session = match join(alloc, &command.contact, source, sink) {
+        Ok(session) => session,
+        Err(fault) => return Err(fault),
+    };
+    if let Err(fault) = ask(alloc, command, session.link(), sink) {
+        return Err(fault);
+    }
+    match follow(alloc, command, &mut session, source, sink, output) {
+        Ok(()) => leave(alloc, &mut session, source, sink),
+        Err(Fault::Closed(reason)) => Err(answer_goodbye(alloc, &session, sink, reason)),
+        Err(fault) => Err(fault),
+    }
+}
