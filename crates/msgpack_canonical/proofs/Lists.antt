@@ -1,6 +1,7 @@
 -- The values of a list, one more at a time.
 use Rattle.std.proofs.Common.{◌≡◌, ℕ, suc, List, ◌++◌, Bool, true, false, ◌&&◌, Ok, refl, sym, ap, ◌∙◌, append_assoc}
 use Rattle.std.proofs.lemmas.List.{append-nil}
+use Rattle.std.proofs.Math.Bool.{and-true, and_assoc}
 use Rattle.message_tree.specs.Data as tree
 use Rattle.msgpack_codec.specs.Short.{short, items_short}
 use Rattle.msgpack_codec.specs.body.Decoder.{Found, push_item, items_at}
@@ -8,26 +9,9 @@ use Rattle.msgpack_codec.specs.body.Passing.{list_at}
 use Rattle.msgpack_codec.proofs.ReadIsSpelled.{behind}
 use Rattle.msgpack_canonical.specs.body.Fitting.{fits, items_fit, IsUnread}
 
--- one more test, in front of what both others pass
-before-both : (b all a c : Bool) → all ≡ (a && c) → (b && all) ≡ ((b && a) && c)
-before-both true all a c e = e
-before-both false all a c e = refl
-
-pub and-true : (b : Bool) → b ≡ (b && true)
-and-true true = refl
-and-true false = refl
-
-pub and_assoc : (a b c : Bool) → ((a && b) && c) ≡ (a && (b && c))
-and_assoc true b c = refl
-and_assoc false b c = refl
-
-alone : (b : Bool) → (b && true) ≡ (true && b)
-alone true = refl
-alone false = refl
-
 pub items_fit-push : (ds : tree.Items) (d : tree.Data) → items_fit (push_item ds d) ≡ (items_fit ds && fits d)
-items_fit-push tree.no_items d = alone (fits d)
-items_fit-push (tree.item x ds) d = before-both (fits x) _ (items_fit ds) (fits d) (items_fit-push ds d)
+items_fit-push tree.no_items d = and-true (fits d)
+items_fit-push (tree.item x ds) d = ap (λ b. fits x && b) (items_fit-push ds d) ∙ sym (and_assoc (fits x) (items_fit ds) (fits d))
 
 pub regrouped : (a b c d : List ℕ) → (a ++ (b ++ c)) ++ d ≡ a ++ (b ++ (c ++ d))
 regrouped a b c d = append_assoc a (b ++ c) d ∙ ap (λ o. a ++ o) (append_assoc b c d)

@@ -15,15 +15,19 @@ tie Less = refl
 tie Equal = refl
 tie Greater = refl
 
-turn : {A : Type 0} (a b : Bool) (x y z : A) → (a ≡ true → b ≡ true → ⊥) → cond a x (cond b y z) ≡ cond b y (cond a x z)
-turn true true x y z never = absurd (never refl refl)
-turn true false x y z never = refl
-turn false true x y z never = refl
-turn false false x y z never = refl
+-- one test of two that don't both pass may come before the other
+exchanged : {A : Type 0} (p q : Bool) (x y z : A) → (p ≡ true → q ≡ false) → cond p x (cond q y z) ≡ cond q y (cond p x z)
+exchanged true q x y z apart = sym (ap (λ b. cond b y x) (apart refl))
+exchanged false q x y z apart = refl
 
-twice : {A : Type 0} (b : Bool) (x y z : A) → cond b x z ≡ cond b x (cond b y z)
-twice true x y z = refl
-twice false x y z = refl
+-- behind a test the same test never passes
+hidden : {A : Type 0} (p q : Bool) (x y z : A) → q ≡ p → cond p x z ≡ cond p x (cond q y z)
+hidden true q x y z same = refl
+hidden false q x y z same = sym (ap (λ b. cond b y z) same)
+
+refuted : (b : Bool) → (b ≡ true → ⊥) → b ≡ false
+refuted true never = absurd (never refl)
+refuted false never = refl
 
 is-equal : (r : Ordering) → is_eq r ≡ true → r ≡ Equal
 is-equal Less h = absurd cc
@@ -70,13 +74,13 @@ module _ {X : Type 0} {c : X → X → Ordering} (o : IsTotalOrder c) where
       → first z (match_ordering r (x ∷ y ∷ ys) (x ∷ ys) (y ∷ placed c x ys)) ≡ cond (is_eq (c z x)) (Some x) (first z (y ∷ ys))
   first-at z x y ys Less e more = refl
   first-at z x y ys Equal e more =
-      twice (is_eq (c z x)) (Some x) (Some y) (first z ys) ∙ ap (λ r. cond (is_eq (c z x)) (Some x) (cond (is_eq r) (Some y) (first z ys))) (alike_right o x y z e)
+      hidden (is_eq (c z x)) (is_eq (c z y)) (Some x) (Some y) (first z ys) (sym (ap is_eq (alike_right o x y z e)))
   first-at z x y ys Greater e more =
       let apart = λ (a : is_eq (c z y) ≡ true) (b : is_eq (c z x) ≡ true).
       let same : c x y ≡ Equal = sym (o.congr z x y (is-equal _ b)) ∙ is-equal _ a in
       let never : Greater ≡ Equal = sym e ∙ same in
       let none : ⊥ = cc in none in
-      ap (cond (is_eq (c z y)) (Some y)) more ∙ turn (is_eq (c z y)) (is_eq (c z x)) (Some y) (Some x) (first z ys) apart
+      ap (cond (is_eq (c z y)) (Some y)) more ∙ exchanged (is_eq (c z y)) (is_eq (c z x)) (Some y) (Some x) (first z ys) (λ a. refuted (is_eq (c z x)) (apart a))
 
   first-placed : (z x : X) (ys : List X) → first z (placed c x ys) ≡ cond (is_eq (c z x)) (Some x) (first z ys)
   first-placed z x [] = refl
@@ -111,7 +115,7 @@ module _ {X : Type 0} {c : X → X → Ordering} (o : IsTotalOrder c) where
   same-at : (z k x : X) (xs : List X) (b : Bool) → is_eq (c x k) ≡ b → first z (dedup_from (eq_by_cmp c) k xs) ≡ first z (k ∷ xs) → first z (dedup_from (eq_by_cmp c) x xs) ≡ first z (x ∷ xs)
       → first z (cond b (dedup_from (eq_by_cmp c) k xs) (k ∷ dedup_from (eq_by_cmp c) x xs)) ≡ first z (k ∷ x ∷ xs)
   same-at z k x xs true e one other =
-      one ∙ (twice (is_eq (c z k)) (Some k) (Some x) (first z xs) ∙ ap (λ r. cond (is_eq (c z k)) (Some k) (cond (is_eq r) (Some x) (first z xs))) (sym (alike_right o x k z (is-equal _ e))))
+      one ∙ hidden (is_eq (c z k)) (is_eq (c z x)) (Some k) (Some x) (first z xs) (ap is_eq (alike_right o x k z (is-equal _ e)))
   same-at z k x xs false e one other = ap (cond (is_eq (c z k)) (Some k)) other
 
   first-dedup_from : (z k : X) (xs : List X) → first z (dedup_from (eq_by_cmp c) k xs) ≡ first z (k ∷ xs)

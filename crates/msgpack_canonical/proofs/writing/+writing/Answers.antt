@@ -17,7 +17,8 @@ use Rattle.msgpack_canonical.specs.body.Entries.{AreKept, AreRead, IsPlaced, IsS
 use Rattle.msgpack_canonical.specs.body.Sorting.{in_order}
 use Rattle.msgpack_canonical.proofs.Fronts.{list-read-inside, dict-read-inside, list-too_deep, dict-too_deep}
 use Rattle.msgpack_canonical.proofs.Tokens.{leaf-token-read, no-token}
-use Rattle.msgpack_canonical.proofs.Lists.{and-true, and_assoc, regrouped, items_fit-push, items_short-push, list-unread}
+use Rattle.std.proofs.Math.Bool.{and-true, and_assoc}
+use Rattle.msgpack_canonical.proofs.Lists.{regrouped, items_fit-push, items_short-push, list-unread}
 use Rattle.msgpack_canonical.proofs.Dicts.{value-unread}
 use Rattle.msgpack_canonical.proofs.Parts.{put_octets, put-entry, put-behind}
 use Rattle.msgpack_canonical.proofs.Sizes.{dict-put}
@@ -85,7 +86,7 @@ put_list-loop-init t c = record {
   found = tree.no_items;
   read = let e : c.args.count - 0 ≡ c.args.count = omega arith in ap (λ n. items_at (value_at c.args.room) n tree.no_items c.args.octets.now) e;
   many = refl;
-  fit = c.in_ok-is_written.ensures.fits ∙ and-true (ltb c.args.count 4294967296);
+  fit = c.in_ok-is_written.ensures.fits ∙ sym (and-true (ltb c.args.count 4294967296));
   written = λ is. c.in_ok-is_written.ensures.ok is ∙ ap (λ o. c.args.out.now.since ++ o) (sym (append-nil (list_head c.args.count)));
   before = c.put_short_list_head.ensures.before;
 }
