@@ -13,7 +13,7 @@ use Rattle.session.specs.declared.messages.said.Said.TheVariants.{Publish}
 use Rattle.session.specs.declared.messages.item.Publication.{Publication}
 use Rattle.session.specs.declared.messages.item.Reason.{Reason}
 use Rattle.session.specs.declared.messages.item.Reason.TheVariants.{InvalidArgument, InvalidUri, RetainedFull}
-use Rattle.retained.specs.Store.{retained_of, may_be_retained}
+use Rattle.retained.specs.Store.{retained_of, is_full, may_be_retained}
 use Rattle.realm.specs.declared.publish_options.PublishOptions.{PublishOptions}
 use Rattle.realm.specs.declared.entry.Entry.TheVariants.{Said}
 use Rattle.realm.specs.History.{History, begun, ◌▷◌}
@@ -75,6 +75,10 @@ kept (h ▷ e) = kept h
 -- the retained publications after h: the last of each topic, in ascending bytes of the topics
 abbrev pub retained : History → List Publication
 retained h = retained_of (kept h)
+
+-- as many topics as may have a retained publication have one
+abbrev pub is_retained_full : History → Bool
+is_retained_full h = is_full (retained h)
 
 -- the answer to a PUBLISH of c that comes after h
 abbrev pub published : History → ℕ → ℕ → Entries → List ℕ → Arguments → Result Made Reason

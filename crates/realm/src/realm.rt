@@ -2,6 +2,7 @@
 ghost use Rattle.std.specs.Prelude.{◌≡◌, ◌+◌, ◌≤◌, true, false, length, vec_capacity, OnOk, OnErr, IfOk, IsOk};
 ghost use Rattle.realm.specs.Grants.{pairs_of};
 ghost use Rattle.realm.specs.History.{begun, ◌▷◌};
+ghost use Rattle.realm.specs.Publications.{is_retained_full};
 ghost use Rattle.realm.specs.Sessions.{live, may_come, may_join, IsHistory};
 ghost use Rattle.realm.specs.Words.{is_silent};
 ghost use Rattle.realm.specs.Given.{GivesExactly};
@@ -112,6 +113,13 @@ impl Realm {
             Entry::Cut { conn, .. } => self.is_live(*conn),
             Entry::Closed { conn, .. } => self.is_live(*conn),
         }
+    }
+
+    /// Whether as many topics as may have a retained publication have one.
+    pub fn is_retained_full(&self) -> bool
+        ensures { result ≡ is_retained_full self.now }
+    {
+        self.state.store.is_full()
     }
 
     /// Shows that each entry of the history could come when it came.

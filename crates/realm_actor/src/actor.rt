@@ -2,6 +2,7 @@
 ghost use Rattle.std.specs.Prelude.{◌≡◌, [], IfOk, IfErr, is_some};
 ghost use Rattle.realm.specs.Grants.{pairs_of};
 ghost use Rattle.realm.specs.History.{begun};
+ghost use Rattle.realm.specs.Publications.{is_retained_full};
 ghost use Rattle.realm.specs.Sessions.{live};
 ghost use Rattle.realm_actor.specs.LastCut.{outbox_of};
 ghost use Rattle.realm_actor.specs.Run.{Handles, IsNextOf};
@@ -90,6 +91,13 @@ impl<S: Shut, W: IdSource> Actor<S, W> {
         ensures { result ≡ is_some (outbox_of self.now.rows conn) }
     {
         self.state.holds(conn)
+    }
+
+    /// Whether as many topics as may have a retained publication have one: 1,000.
+    pub fn is_retained_full(&self) -> bool
+        ensures { result ≡ is_retained_full self.now.history }
+    {
+        self.state.is_retained_full()
     }
 
     /// The connections that the last post found full, or cut for want of memory, ascending.

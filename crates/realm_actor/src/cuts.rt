@@ -60,6 +60,7 @@ fn mark_row<S: Shut>(rows: &mut [Row<S>], conn: Conn)
         return;
     };
     let row = &mut rows[place];
+    row.tell_lost();
     row.is_lost = true;
 }
 

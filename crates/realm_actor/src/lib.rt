@@ -38,3 +38,4 @@ pub use realm_inbox::{
     Act, Door, GhostList, Halt, IdSource, InTurn, Inbox, Joining, Letter, Post, Poster, Posting,
     RealmHistory, Seat, Shut, View, opening,
 };
+pub use run::{Nobody, Onlooker};

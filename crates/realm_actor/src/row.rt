@@ -41,6 +41,7 @@ impl<S: Shut> Held<S> {
         let stamped = self.outbox.stamp(item, history);
         if let Err(Full(_)) = self.outbox.add(rt, stamped) {
             self.is_full = true;
+            self.transport.note_full();
             return true;
         }
         self.count();
@@ -131,6 +132,13 @@ impl<S: Shut> Row<S> {
     pub fn shut(&self) {
         if let Some(held) = &self.held {
             held.transport.shut();
+        }
+    }
+
+    /// Tells the row's transport, if it is held, that the session is cut for want of memory.
+    pub fn tell_lost(&self) {
+        if let Some(held) = &self.held {
+            held.transport.note_lost();
         }
     }
 

@@ -30,6 +30,20 @@ fn is_stop<S: Shut>(post: &Post<S>) -> bool
     }
 }
 
+/// Who is shown a realm while its actor runs.
+pub trait Onlooker {
+    /// Is told after each post whether as many topics as may have a retained publication have one.
+    fn sees_retained(&mut self, is_full: bool);
+}
+
+/// Nobody looks on.
+#[derive(Clone, Copy, Drop)]
+pub struct Nobody;
+
+impl Onlooker for Nobody {
+    fn sees_retained(&mut self, _is_full: bool) {}
+}
+
 impl<S: Shut, W: IdSource> Actor<S, W> {
     /// Handles what the inbox gives, until a stop was handled or each sender is gone. Before each post it forgets the sessions
     /// that aren't live ([`Actor::sweep`]). What the actor has handled is, seat by seat, what the inbox has given so far, also
@@ -41,7 +55,27 @@ impl<S: Shut, W: IdSource> Actor<S, W> {
     ///
     /// It receives up to 256 posts ahead, and none behind a stop: all that it received is handled when it returns. Where memory
     /// for them is refused, it receives one by one. Writers are woken after at most 64 posts, and always before it waits.
-    pub fn run<R: Wait>(mut self, rt: &R, alloc: Global, inbox: &mut Inbox<S>) -> Actor<S, W>
+    pub fn run<R: Wait>(self, rt: &R, alloc: Global, inbox: &mut Inbox<S>) -> Actor<S, W>
+        requires in_turn { SameAtSeats self.handled (received inbox.old) }
+        ensures ran { (came : List (APost S)) × (received inbox.new ≡ received inbox.old ++ came)
+            × InOrder (received inbox.old) came × Ran self came result }
+        ensures begins { Begins self.history result.history }
+        ensures in_turn { SameAtSeats result.handled (received inbox.new) }
+        ensures order { (c : ℕ) → KeepsOrderSince self.history c (acts_for c result.handled)
+            result.history }
+        ensures held { KeepsHeld self result }
+    {
+        self.run_before(rt, alloc, inbox, &mut Nobody)
+    }
+
+    /// The same as [`Actor::run`], while somebody looks on.
+    pub fn run_before<R: Wait, O: Onlooker>(
+        mut self,
+        rt: &R,
+        alloc: Global,
+        inbox: &mut Inbox<S>,
+        onlooker: &mut O,
+    ) -> Actor<S, W>
         requires in_turn { SameAtSeats self.handled (received inbox.old) }
         ensures ran { (came : List (APost S)) × (received inbox.new ≡ received inbox.old ++ came)
             × InOrder (received inbox.old) came × Ran self came result }
@@ -61,6 +95,7 @@ impl<S: Shut, W: IdSource> Actor<S, W> {
             };
             let ends = is_stop(&post);
             self.take(rt, alloc, post);
+            onlooker.sees_retained(self.is_retained_full());
             if ends {
                 self.wake();
                 return self;

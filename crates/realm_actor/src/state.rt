@@ -2,6 +2,7 @@
 ghost use Rattle.std.specs.Prelude.{◌≡◌, [], ◌∷◌, ◌++◌, true, false, List, ℕ, IfOk};
 ghost use Rattle.realm.specs.Grants.{pairs_of};
 ghost use Rattle.realm.specs.History.{begun};
+ghost use Rattle.realm.specs.Publications.{is_retained_full};
 ghost use Rattle.realm.specs.Sessions.{conn_of, live, may_come};
 ghost use Rattle.realm.specs.declared.entry.Entry.{Entry as AnEntry};
 ghost use Rattle.ghost_state.specs.GhostList.{items_of};
@@ -61,6 +62,13 @@ impl<S: Shut, W: IdSource> State<S, W> {
         ensures { result ≡ live self.now.table.realm conn }
     {
         self.table.realm.is_live(conn)
+    }
+
+    /// Whether as many topics as may have a retained publication have one.
+    pub fn is_retained_full(&self) -> bool
+        ensures { result ≡ is_retained_full self.now.table.realm }
+    {
+        self.table.realm.is_retained_full()
     }
 
     /// The connections that the last post found full, or cut, ascending.

@@ -43,6 +43,10 @@ has_topic topic ps = list_any (λ p. bytes_eq p.topic topic) ps
 abbrev pub may_be_retained : List Publication → List ℕ → Bool
 may_be_retained kept topic = has_topic topic kept || nat_lt (length (last_of_each kept)) 1000
 
+-- as many topics as may have a retained publication have one
+abbrev pub is_full : List Publication → Bool
+is_full store = not (nat_lt (length store) 1000)
+
 -- the same, of what is retained
 abbrev pub has_room : List Publication → List ℕ → Bool
 has_room store topic = has_topic topic store || nat_lt (length store) 1000

@@ -5,7 +5,7 @@ ghost use Rattle.std.specs.List.{filter};
 ghost use Rattle.std.specs.Ordering.{nat_cmp};
 ghost use Rattle.wamp_ids.specs.Pattern.{matches};
 ghost use Rattle.retained.specs.body.Places.{GoesAt, IsAt};
-ghost use Rattle.retained.specs.Store.{AreByTopic, has_room, has_topic, set_topic};
+ghost use Rattle.retained.specs.Store.{AreByTopic, has_room, has_topic, is_full, set_topic};
 
 use crate::fault::Fault;
 use message_tree::Shared;
@@ -58,6 +58,13 @@ impl Store {
         ensures { result ≡ has_room self.now topic.now }
     {
         self.publications.len() < MOST_RETAINED || place_of(&self.publications, topic).is_ok()
+    }
+
+    /// Whether as many topics as may have a retained publication have one: 1,000.
+    pub fn is_full(&self) -> bool
+        ensures { result ≡ is_full self.now }
+    {
+        MOST_RETAINED <= self.publications.len()
     }
 
     /// Keeps a publication, in the place of what its topic had.

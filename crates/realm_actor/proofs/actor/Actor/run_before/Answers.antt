@@ -4,7 +4,7 @@ use Rattle.realm_actor.proofs.RunLemmas.{progress_none, progress_on, ends_left, 
 use Rattle.realm_actor.proofs.RunHistory.{ran_begins}
 use Rattle.realm_actor.proofs.LiveThroughRun.{ran_holds}
 use Rattle.realm_actor.proofs.MadeHistory.{run_order, run_same}
-use Rattle.realm_actor.proofs.actor.Actor.run.Goals as goal
+use Rattle.realm_actor.proofs.actor.Actor.run_before.Goals as goal
 
 pub loop-init : goal.loop-init
 loop-init g c = progress_none c.args.self (received c.args.inbox.now) c.new-ahead.result.items c.requires.in_turn c.new-ahead.ensures.items
