@@ -21,4 +21,4 @@ pub use fault::Fault;
 pub use in_use::{InUse, Using};
 pub use reader::{ReadEnd, read_posts};
 pub use seats::Seats;
-pub use writer::{WriteEnd, write_items};
+pub use writer::{Watch, WriteEnd, write_items, write_watched};

@@ -33,6 +33,25 @@ pub enum WriteEnd {
     TooManyTurns,
 }
 
+/// Who is shown what a writer does.
+pub trait Watch {
+    /// The writer took an item. Nothing of it is written yet.
+    fn takes(&mut self, item: &Item);
+
+    /// The writer gives up, as it can't make the frame of the item, by this fault. Nothing of it is written.
+    fn gives_up(&mut self, item: &Item, fault: Fault);
+}
+
+/// Nobody watches.
+#[derive(Clone, Copy, Drop)]
+struct Unwatched;
+
+impl Watch for Unwatched {
+    fn takes(&mut self, _item: &Item) {}
+
+    fn gives_up(&mut self, _item: &Item, _fault: Fault) {}
+}
+
 /// For whom a writer writes: what the client asked for in its handshake.
 #[derive(Clone, Copy, Drop)]
 struct Client {
@@ -161,11 +180,12 @@ fn give_up<S: Sink>(sink: &mut S, gathered: &mut Gathered, fault: Fault) -> Writ
 }
 
 /// Makes the frame of an item behind what is gathered. That is handed over once it is long.
-fn add_frame<S: Sink>(
+fn add_frame<S: Sink, W: Watch>(
     sink: &mut S,
     client: Client,
     item: &Item,
     gathered: &mut Gathered,
+    watch: &mut W,
 ) -> Result<(), WriteEnd>
     requires limit { client.limit ≤ 16777215 }
     requires held { length gathered.old.frames.items < 65536 }
@@ -185,6 +205,7 @@ fn add_frame<S: Sink>(
         item,
         &mut gathered.frames,
     ) {
+        watch.gives_up(item, fault);
         return Err(give_up(sink, gathered, fault));
     }
     if gathered.frames.len() < HELD {
@@ -194,12 +215,13 @@ fn add_frame<S: Sink>(
 }
 
 /// Takes the next item, and makes its frame.
-fn write_next<R: Wait, H: Owed<Item>, S: Sink>(
+fn write_next<R: Wait, H: Owed<Item>, S: Sink, W: Watch>(
     rt: &R,
     drain: &mut Drain<Item, H>,
     sink: &mut S,
     client: Client,
     gathered: &mut Gathered,
+    watch: &mut W,
 ) -> Result<(), WriteEnd>
     requires limit { client.limit ≤ 16777215 }
     requires held { length gathered.old.frames.items < 65536 }
@@ -221,7 +243,8 @@ fn write_next<R: Wait, H: Owed<Item>, S: Sink>(
         Ok(item) => item,
         Err(end) => return Err(end),
     };
-    add_frame(sink, client, &item, gathered)
+    watch.takes(&item);
+    add_frame(sink, client, &item, gathered, watch)
 }
 
 /// Takes items and writes their frames, one after another, until the outbox is closed and nothing is left in it, or something fails.
@@ -247,11 +270,33 @@ pub fn write_items<R: Wait, H: Owed<Item>, S: Sink>(
     ensures writes { WholeSteps (meter (S.calls sink.old) (S.failures sink.old))
         (meter (S.calls sink.new) (S.failures sink.new)) (write_told result.1) }
 {
+    write_watched(rt, alloc, drain, sink, serializer, limit, &mut Unwatched)
+}
+
+/// The same as [`write_items`], while somebody watches.
+pub fn write_watched<R: Wait, H: Owed<Item>, S: Sink, W: Watch>(
+    rt: &R,
+    alloc: Global,
+    drain: Drain<Item, H>,
+    sink: &mut S,
+    serializer: Serializer,
+    limit: u32,
+    watch: &mut W,
+) -> (Drain<Item, H>, WriteEnd)
+    requires { limit ≤ 16777215 }
+    ensures written { WritesSince drain.taken
+        result.0.taken (S.taken sink.old) (S.taken sink.new)
+        (IsWrittenBy serializer limit result.1) }
+    ensures drain { IsLater H.begins drain result.0 }
+    ensures stopped { result.1 ≡ WriteEnd.Stopped → drain.empty_finds < result.0.empty_finds }
+    ensures writes { WholeSteps (meter (S.calls sink.old) (S.failures sink.old))
+        (meter (S.calls sink.new) (S.failures sink.new)) (write_told result.1) }
+{
     let mut drain = drain;
     let mut gathered = Gathered::nothing(alloc);
     'items: for _ in rt.forever() {
         let client = Client { serializer, limit };
-        if let Err(end) = write_next(rt, &mut drain, sink, client, &mut gathered) {
+        if let Err(end) = write_next(rt, &mut drain, sink, client, &mut gathered, watch) {
             return (drain, end);
         }
     }

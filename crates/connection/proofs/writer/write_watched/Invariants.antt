@@ -2,7 +2,7 @@ use Rattle.std.specs.Prelude.{◌<◌, [], length}
 use Rattle.rawsocket.specs.Steps.{Fine, Steps, meter}
 use Rattle.connection.specs.Writer.{WritesSince, IsLater}
 use Rattle.connection.specs.body.Writer.{Passes}
-use Rattle.connection.proofs.writer.write_items.Given as goal
+use Rattle.connection.proofs.writer.write_watched.Given as goal
 
 abbrev pub invariant-items : goal.invariant-items
 invariant-items g l = record {

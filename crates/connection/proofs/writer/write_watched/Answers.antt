@@ -2,7 +2,7 @@ use Rattle.std.proofs.Common.{ap, Err, arith, length}
 use Rattle.rawsocket.proofs.Lemmas.{all_turns, then_steps}
 use Rattle.connection.proofs.WriterProgress.{then_passes, then_ends, none_so_far}
 use Rattle.connection.proofs.DrainProgress.{same_is_later, later_still}
-use Rattle.connection.proofs.writer.write_items.Goals as goal
+use Rattle.connection.proofs.writer.write_watched.Goals as goal
 
 pub items-init : goal.items-init
 items-init g c = record {
