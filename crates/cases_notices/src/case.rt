@@ -1,7 +1,9 @@
 //! What each word is answered by.
 use crate::closing::{full, long, openings, reasons, violations};
 use case_text::{Table, line_of, number_of, part, part_of, text_of};
-use notices::{Opening, accept_failed, accepted, listening, lost, opened, refused};
+use notices::{
+    Opening, Refusal, accept_failed, accepted, listening, lost, opened, refused, retained_full,
+};
 use rawsocket::Serializer;
 use std::alloc::{AllocError, Global};
 use std::io;
@@ -18,7 +20,9 @@ impl Table for Case {
             "#" => line_of(alloc, line),
             "listening" => told_listening(alloc, rest),
             "accepted" => told_accepted(alloc, rest),
-            "refused" => told_refused(alloc, rest),
+            "refused" => told_refused(alloc, rest, Refusal::NoSeat),
+            "lacking" => told_refused(alloc, rest, Refusal::NoMemory),
+            "store" => in_text(alloc, retained_full(alloc, word_of(alloc, rest)?.as_str())),
             "failed" => told_failed(alloc, rest),
             "lost" => in_text(alloc, lost(alloc, number_of(rest))),
             "opened" => told_opened(alloc, rest),
@@ -67,9 +71,9 @@ fn told_accepted(alloc: Global, rest: &str) -> io::Result<String> {
     in_text(alloc, accepted(alloc, conn, peer.as_str()))
 }
 
-fn told_refused(alloc: Global, rest: &str) -> io::Result<String> {
+fn told_refused(alloc: Global, rest: &str, refusal: Refusal) -> io::Result<String> {
     let peer = word_of(alloc, rest)?;
-    in_text(alloc, refused(alloc, peer.as_str()))
+    in_text(alloc, refused(alloc, peer.as_str(), refusal))
 }
 
 fn told_failed(alloc: Global, rest: &str) -> io::Result<String> {

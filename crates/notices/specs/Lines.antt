@@ -6,6 +6,8 @@ use Rattle.session.specs.declared.fault.Fault.{Fault}
 use Rattle.session.specs.declared.fault.Fault.TheVariants as fault
 use Rattle.notices.specs.Values.{quoted}
 use Rattle.notices.specs.declared.lines.Opening.{Opening}
+use Rattle.notices.specs.declared.reason.Refusal.{Refusal}
+use Rattle.notices.specs.declared.reason.Refusal.TheVariants.{NoSeat, NoMemory as OutOfMemory}
 use Rattle.notices.specs.declared.reason.Reason.{Reason}
 use Rattle.notices.specs.declared.reason.Reason.TheVariants as reason
 
@@ -15,8 +17,15 @@ listening_line host port = codes "listening host=" ++ quoted host ++ codes " por
 abbrev pub accepted_line : ℕ → List ℕ → List ℕ
 accepted_line conn peer = codes "accepted connection=" ++ decimal conn ++ codes " peer=" ++ quoted peer ++ 10 ∷ []
 
-abbrev pub refused_line : List ℕ → List ℕ
-refused_line peer = codes "refused peer=" ++ quoted peer ++ (codes " reason=no_seat" ++ 10 ∷ [])
+abbrev pub refusal_word : Refusal → List ℕ
+refusal_word NoSeat = codes "no_seat"
+refusal_word OutOfMemory = codes "no_memory"
+
+abbrev pub refused_line : List ℕ → Refusal → List ℕ
+refused_line peer refusal = codes "refused peer=" ++ quoted peer ++ codes " reason=" ++ refusal_word refusal ++ 10 ∷ []
+
+abbrev pub retained_full_line : List ℕ → List ℕ
+retained_full_line realm = codes "retained_full realm=" ++ quoted realm ++ 10 ∷ []
 
 abbrev pub accept_failed_line : List ℕ → List ℕ
 accept_failed_line why = codes "accept_failed reason=" ++ quoted why ++ 10 ∷ []

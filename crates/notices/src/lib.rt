@@ -11,5 +11,7 @@ mod lines;
 mod reason;
 mod values;
 
-pub use lines::{Opening, accept_failed, accepted, closed, listening, lost, opened, refused};
-pub use reason::Reason;
+pub use lines::{
+    Opening, accept_failed, accepted, closed, listening, lost, opened, refused, retained_full,
+};
+pub use reason::{Reason, Refusal};

@@ -1,8 +1,8 @@
 //! The lines.
 ghost use Rattle.std.specs.Prelude.{◌≡◌, ◌++◌, IfOk, OnOk, decimal};
-ghost use Rattle.notices.specs.Lines.{accept_failed_line, accepted_line, closed_line, fault_name, fault_part, listening_line, lost_line, opened_line, reason_more, reason_word, refused_line, serialization, who_part};
+ghost use Rattle.notices.specs.Lines.{accept_failed_line, accepted_line, closed_line, fault_name, fault_part, listening_line, lost_line, opened_line, reason_more, reason_word, refusal_word, refused_line, retained_full_line, serialization, who_part};
 
-use crate::reason::Reason;
+use crate::reason::{Reason, Refusal};
 use crate::values::{put, put_number, put_quoted};
 use rawsocket::Serializer;
 use session::Fault;
@@ -55,14 +55,37 @@ pub fn accepted(alloc: Global, conn: Conn, peer: &str) -> Result<Vec<u8>, AllocE
     Ok(line)
 }
 
-/// A connection was refused, as no seat is free.
-pub fn refused(alloc: Global, peer: &str) -> Result<Vec<u8>, AllocError>
-    ensures { IfOk result (λ line. line.items ≡ refused_line peer.now) }
+/// A connection was refused before it got a number.
+pub fn refused(alloc: Global, peer: &str, refusal: Refusal) -> Result<Vec<u8>, AllocError>
+    ensures { IfOk result (λ line. line.items ≡ refused_line peer.now refusal) }
 {
     let mut line = Vec::new(alloc);
     put(&mut line, "refused peer=")?;
     put_quoted(&mut line, peer)?;
-    put(&mut line, " reason=no_seat\n")?;
+    put(&mut line, " reason=")?;
+    put(&mut line, refusal_word(refusal))?;
+    put(&mut line, "\n")?;
+    Ok(line)
+}
+
+/// A refusal in a word.
+fn refusal_word(refusal: Refusal) -> &'static str
+    ensures { result.now ≡ refusal_word refusal }
+{
+    match refusal {
+        Refusal::NoSeat => "no_seat",
+        Refusal::NoMemory => "no_memory",
+    }
+}
+
+/// As many topics of a realm as may have a retained publication have one.
+pub fn retained_full(alloc: Global, realm: &str) -> Result<Vec<u8>, AllocError>
+    ensures { IfOk result (λ line. line.items ≡ retained_full_line realm.now) }
+{
+    let mut line = Vec::new(alloc);
+    put(&mut line, "retained_full realm=")?;
+    put_quoted(&mut line, realm)?;
+    put(&mut line, "\n")?;
     Ok(line)
 }
 

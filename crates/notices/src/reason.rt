@@ -1,5 +1,14 @@
-//! Why a connection was closed.
+//! Why a connection was refused, or closed.
 use session::Fault;
+
+/// Why a connection was refused before it got a number.
+#[derive(Clone, Copy, Debug, Drop, PartialEq, Eq)]
+pub enum Refusal {
+    /// As many connections are served as there are seats.
+    NoSeat,
+    /// A growth of memory, or a second handle to the stream, was refused.
+    NoMemory,
+}
 
 /// Why a connection was closed: the first of what ended it, in the broker's order of telling.
 #[derive(Clone, Copy, Debug, Drop, PartialEq, Eq)]
