@@ -6,16 +6,18 @@ use crate::steps::{Cue, Deed, Stand, Step};
 use crate::told::{tell, tell_last};
 use case_items::grant_of;
 use case_text::{line_of, number_of, octets_of};
+use rawsocket::devices::WriteSink;
 use std::alloc::Global;
 use std::collections::VecDeque;
 use std::io::{self, Read, Write};
 use std::mem;
 use std::net::{Net, TcpListener, TcpStream};
+use std::os::unix::net::UnixStream;
 use std::random::RandomSource;
 use std::sync::Wait;
 use std::thread::Threads;
 use std::time::Clock;
-use threaded_server::{Acceptor, Config, Ids, copy_grants, serve_on};
+use threaded_server::{Acceptor, Config, Ids, Log, copy_grants, serve_logged};
 use wamp_ids::Topic;
 
 /// How many items may wait for a session's writer, where a case doesn't say.
@@ -137,8 +139,25 @@ impl Case {
     ) -> io::Result<String> {
         let config = self.config(alloc)?;
         let mut script = Script::new(rt, alloc, self.take_steps(alloc));
-        let mut told = run(rt, alloc, &mut script, &config)?;
+        let mut told = run(rt, alloc, &mut script, &config, None)?;
         self.tell(alloc, &mut told, &mut script.pairs.play.clients)?;
+        Ok(told)
+    }
+
+    /// Does what [`Case::serve`] does with a log, and tells that in place of what the clients got: its lines, sorted.
+    pub fn serve_logged<R: Threads + Wait + RandomSource + Net + Drop + Copy + Send + 'static>(
+        &mut self,
+        rt: R,
+        alloc: Global,
+    ) -> io::Result<String> {
+        let config = self.config(alloc)?;
+        let mut script = Script::new(rt, alloc, self.take_steps(alloc));
+        let (near, mut far) = UnixStream::pair(&rt)?;
+        let (log, _) = Log::start(rt, alloc, WriteSink::new(near))?;
+        let mut told = run(rt, alloc, &mut script, &config, Some(log))?;
+        let mut lines = String::new(alloc);
+        let _ = far.read_to_string(&mut lines)?;
+        told.push_str(sorted(alloc, lines.as_str())?.as_str())?;
         Ok(told)
     }
 
@@ -178,7 +197,7 @@ impl Case {
     >(&mut self, rt: R, alloc: Global) -> io::Result<String> {
         let config = self.config(alloc)?;
         let mut loopback = Loopback::new(rt, alloc, self.take_steps(alloc))?;
-        let mut told = run(rt, alloc, &mut loopback, &config)?;
+        let mut told = run(rt, alloc, &mut loopback, &config, None)?;
         self.tell(alloc, &mut told, &mut loopback.sockets.play.clients)?;
         Ok(told)
     }
@@ -213,17 +232,33 @@ fn copies_of(alloc: Global, steps: &VecDeque<Step>) -> io::Result<VecDeque<Step>
     Ok(copies)
 }
 
+// The same lines, sorted.
+fn sorted(alloc: Global, text: &str) -> io::Result<String> {
+    let mut lines: Vec<&str> = Vec::new(alloc);
+    for line in text.lines() {
+        lines.push(line)?;
+    }
+    lines.sort()?;
+    let mut all = String::new(alloc);
+    for line in &lines {
+        all.push_str(line)?;
+        all.push('\n')?;
+    }
+    Ok(all)
+}
+
 // How serving ended.
 fn run<R: Threads + Wait + RandomSource + Copy + Send + 'static, A: Acceptor>(
     rt: R,
     alloc: Global,
     acceptor: &mut A,
     config: &Config,
+    log: Option<Log>,
 ) -> io::Result<String> {
     if config.realms.len() == 0 || config.outbox == 0 || config.outbox > 65_536 {
         return line_of(alloc, "nothing can be served");
     }
-    match serve_on(rt, alloc, acceptor, config) {
+    match serve_logged(rt, alloc, acceptor, config, log) {
         Ok(()) => line_of(alloc, "ended"),
         Err(fault) => Ok(format!(in alloc; "{fault}\n")?),
     }

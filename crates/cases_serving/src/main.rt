@@ -15,7 +15,7 @@
 //! - `serve` serves all that over pairs of connected sockets, `serve tcp` over TCP, where no sink stands still. It tells how serving ended
 //!   and what each client got, if it got anything; after `last N` only how many got the same last N octets as the first one, and what each
 //!   other one got. Where a `may K TEXT` has what the client K got, only that is told of it. `serve N` does so many times what `serve`
-//!   does, and tells once what was told each time.
+//!   does, and tells once what was told each time. `serve log` serves with a log, and tells its lines, sorted, in place of what clients got.
 #![tactic(auto)]
 
 mod case;
@@ -38,6 +38,7 @@ fn main(rt: HostRuntime) -> io::Result<()> {
         let told = match line.as_str() {
             "serve" => case.serve(rt, alloc)?,
             "serve tcp" => case.serve_tcp(rt, alloc)?,
+            "serve log" => case.serve_logged(rt, alloc)?,
             line => match line.strip_prefix("serve ") {
                 Some(times) => case.serve_often(rt, alloc, number_of(times))?,
                 None => case.take(alloc, line)?,

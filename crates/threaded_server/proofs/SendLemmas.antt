@@ -27,7 +27,10 @@ use Rattle.realm_inbox.specs.declared.transport.Shut.{Ghosts}
 use Rattle.session.proofs.SendLemmas.{item_send}
 use Rattle.session.specs.contracts.messages.item.Item as Item
 use Rattle.threaded_server.specs.contracts.actor_thread.ActorThread as ActorThread
+use Rattle.threaded_server.specs.contracts.fate.Fate as Fate
+use Rattle.threaded_server.specs.contracts.fate.Marked as Marked
 use Rattle.threaded_server.specs.contracts.handover.Handover as Handover
+use Rattle.threaded_server.specs.contracts.log.LogWriter as LogWriter
 use Rattle.threaded_server.specs.contracts.seat_table.SeatTable as SeatTable
 use Rattle.threaded_server.specs.contracts.id_words.IdWords as IdWords
 use Rattle.threaded_server.specs.contracts.plan.Plan as Plan
@@ -49,11 +52,17 @@ plan_send = search (maps, crosses, sendable) depth 60 fits 20000
 plan_sync : IsSync Plan.the_row
 plan_sync = search (maps, crosses, sendable) depth 60 fits 20000
 
+fate_send : IsSend Fate.the_row
+fate_send = search (maps, crosses, sendable) depth 60 fits 20000
+
+fate_sync : IsSync Fate.the_row
+fate_sync = search (maps, crosses, sendable) depth 60 fits 20000
+
 items_send : IsSend (Drain.the_row Item.the_row RealmHistory.the_row owed.ghosts)
 items_send = drain_send Item.the_row RealmHistory.the_row owed.ghosts item_send
 
 pub writer_send : (O S : RattleType) → IsSend O → IsSend S → IsSend (Writer.the_row O S)
-writer_send O S o s = declared_send (Writer.the_type O S) (search (heap.send, crosses, sendable) depth 60, (as_row_send (Drain.the_field Item.the_row RealmHistory.the_row owed.ghosts) items_send, (as_row_send (row_field O) o, (as_row_send (row_field S) s, (as_row_send Serializer.the_field serializer.the_field_send, (search sendable, tt))))))
+writer_send O S o s = declared_send (Writer.the_type O S) (search (heap.send, crosses, sendable) depth 60, (search (plan_send, plan_sync, crosses, sendable) depth 60 fits 20000, (search (fate_send, fate_sync, crosses, sendable) depth 60 fits 20000, (search sendable, (as_row_send (Drain.the_field Item.the_row RealmHistory.the_row owed.ghosts) items_send, (as_row_send (row_field O) o, (as_row_send (row_field S) s, (as_row_send Serializer.the_field serializer.the_field_send, (search sendable, tt)))))))))
 
 option_send : (R : RattleType) → IsSend R → IsSend (Option.the_row R)
 option_send R s = search (sendable, crosses) depth 40
@@ -80,12 +89,21 @@ module _ (S : RattleType) (shut : Ghosts S.Denot) where
 module _ (I O S : RattleType) (shut : Ghosts S.Denot) where
   pub reader_send : IsSend I → IsSend O → IsSend S → IsSend (Reader.the_row I O S shut)
   reader_send i o s = declared_send (Reader.the_type I O S shut)
-      (search (heap.send, crosses, sendable) depth 60, (search (plan_send, plan_sync, crosses, sendable) depth 60 fits 20000, (as_row_send (row_field I) i, (as_row_send (row_field O) o, (as_row_send (row_field S) s, (as_row_send (Arc.the_field (Mutex.the_row (Handover.the_row S shut)) Global.the_row global.ghosts) (shared_send S shut s), (search (crosses, sendable) depth 60, tt)))))))
+      (search (heap.send, crosses, sendable) depth 60, (search (plan_send, plan_sync, crosses, sendable) depth 60 fits 20000, (search (crosses, sendable) depth 60 fits 20000, (search (fate_send, fate_sync, crosses, sendable) depth 60 fits 20000, (as_row_send (row_field I) i, (as_row_send (row_field O) o, (as_row_send (row_field S) s, (as_row_send (Arc.the_field (Mutex.the_row (Handover.the_row S shut)) Global.the_row global.ghosts) (shared_send S shut s), (search (crosses, sendable) depth 60, tt)))))))))
 
 module _ (S : RattleType) (shut : Ghosts S.Denot) where
   pub actor_work_send : IsSend S → IsSend (ActorThread.the_row S shut)
   actor_work_send s = declared_send (ActorThread.the_type S shut)
-      (search (heap.send, crosses, sendable) depth 60, (search (maps, crosses, sendable) depth 60 fits 20000, (search (words_send, maps, crosses, sendable) depth 60 fits 20000, (inbox_send S shut s, (search (crosses, sendable) depth 60 fits 20000, (search (marks_send, marks_sync, crosses, sendable) depth 60 fits 20000, tt))))))
+      (search (heap.send, crosses, sendable) depth 60, (search (plan_send, plan_sync, crosses, sendable) depth 60 fits 20000, (search sendable, (search (maps, crosses, sendable) depth 60 fits 20000, (search (words_send, maps, crosses, sendable) depth 60 fits 20000, (inbox_send S shut s, (search (crosses, sendable) depth 60 fits 20000, (search (marks_send, marks_sync, crosses, sendable) depth 60 fits 20000, tt))))))))
+
+-- a handle that marks a fate
+pub marked_send : (S : RattleType) → IsSend S → IsSend (Marked.the_row S)
+marked_send S s = declared_send (Marked.the_type S) (as_row_send (row_field S) s, (search (fate_send, fate_sync, crosses, sendable) depth 60 fits 20000, tt))
+
+-- what writes a log
+pub log_writer_send : (S : RattleType) → IsSend S → IsSend (LogWriter.the_row S)
+log_writer_send S s = declared_send (LogWriter.the_type S)
+    (search (heap.send, crosses, sendable) depth 60, (search (maps, heap.send, crosses, sendable) depth 60 fits 20000, (search (maps, crosses, sendable) depth 60 fits 20000, (as_row_send (row_field S) s, tt))))
 
 -- a closure over two values
 pub both_send : (name : Sym) (A B : RattleType) → IsSend A → IsSend B → IsSend (TupleAt name (A ∷ B ∷ []))

@@ -75,6 +75,16 @@ pub trait Acceptor {
     ) -> Result<Parts<Self::Source, Self::Sink, Self::Shut>, AllocError>
         ensures { answers self.new ≡ answers self.old };
 
+    /// Who is at the other end of a stream, in words: empty where that isn't known. `None` where memory was refused.
+    fn peer(&self, alloc: Global, _stream: &Self::Stream) -> Option<String> {
+        Some(String::new(alloc))
+    }
+
+    /// Why accepting failed the last time that it did, in words: empty where that isn't known. `None` where memory was refused.
+    fn failure(&self, alloc: Global) -> Option<String> {
+        Some(String::new(alloc))
+    }
+
     /// A pause after a failure, before accepting is tried again: so many failures there were in a row, that one included.
     fn pause(&mut self, failures: u32)
         ensures { answers self.new ≡ answers self.old };

@@ -3,11 +3,13 @@ ghost use Rattle.std.specs.Prelude.{◌≡◌, length};
 ghost use Rattle.realm_inbox.specs.EndViews.{received};
 
 use crate::id_words::IdWords;
+use crate::plan::Plan;
 use crate::seat_table::SeatTable;
+use crate::told::tell_retained_full;
 use crate::work::Work;
 use crossbeam_channel::Sender;
 use realm::RealmConfig;
-use realm_actor::Actor;
+use realm_actor::{Actor, Onlooker};
 use realm_inbox::{Act, Inbox, Post, Shut};
 use std::alloc::Global;
 use std::sync::{Arc, Wait};
@@ -17,6 +19,9 @@ use wamp_ids::SEATS;
 #[derive(Drop)]
 pub struct ActorThread<S: Shut> {
     pub alloc: Global,
+    pub plan: Arc<Plan>,
+    /// The realm's place.
+    pub realm: usize,
     pub config: RealmConfig,
     pub words: IdWords,
     pub inbox: Inbox<S>,
@@ -27,11 +32,15 @@ pub struct ActorThread<S: Shut> {
 }
 
 impl<R: Wait + Copy, S: Shut> Work<R> for ActorThread<S> {
+    type Done = ();
+
     /// Makes the actor, which runs until it is stopped, marks whose sessions it holds then, and tells that they are marked. What is
     /// posted behind the stop is turned away until each sender is gone.
     fn run(self, rt: R) {
         let ActorThread {
             alloc,
+            plan,
+            realm,
             config,
             words,
             mut inbox,
@@ -43,11 +52,38 @@ impl<R: Wait + Copy, S: Shut> Work<R> for ActorThread<S> {
             return;
         };
         let _ = teller.send(&rt, true);
-        let actor = actor.run(&rt, alloc, &mut inbox);
+        let mut onlooker = StoreNotice {
+            rt,
+            plan: &plan,
+            realm,
+            is_told: false,
+        };
+        let actor = actor.run_before(&rt, alloc, &mut inbox, &mut onlooker);
         mark_held(&actor, &marks);
         drop(actor);
         let _ = teller.send(&rt, true);
         turn_away_rest(&rt, inbox);
+    }
+}
+
+// Tells, once, that as many topics of a realm as may have a retained publication have one.
+#[derive(Drop)]
+struct StoreNotice<'a, R> {
+    rt: R,
+    plan: &'a Plan,
+    realm: usize,
+    is_told: bool,
+}
+
+impl<R: Wait> Onlooker for StoreNotice<'_, R> {
+    fn sees_retained(&mut self, is_full: bool) {
+        if !is_full || self.is_told {
+            return;
+        }
+        self.is_told = true;
+        if let Some(realm) = self.plan.realms.get(self.realm) {
+            tell_retained_full(&self.rt, &self.plan.log, realm);
+        }
     }
 }
 

@@ -1,11 +1,14 @@
 //! The connections that are served, and their seats.
 use crate::acceptor::Parts;
+use crate::fate::Fate;
 use crate::handover::{Handover, Posters, Slot};
 use crate::plan::Plan;
 use crate::reader_thread::Reader;
 use crate::realm_handle::RealmHandle;
 use crate::seat_table::SeatTable;
+use crate::told::{tell_accepted, tell_closed, tell_refused};
 use connection::Seats;
+use notices::{Reason, Refusal};
 use rawsocket::devices::{Sink, Source, Turns, send};
 use rawsocket::no_seat_reply;
 use realm_inbox::Shut;
@@ -22,6 +25,16 @@ struct Connection<S: Shut> {
     slot: Arc<Slot<S>>,
     is_over: Arc<AtomicBool>,
     reader: JoinHandle<()>,
+}
+
+/// A stream that came, taken apart.
+#[derive(Drop)]
+pub struct Arrival<I, O, S> {
+    pub parts: Parts<I, O, S>,
+    /// What its handle marks.
+    pub fate: Arc<Fate>,
+    /// Who is at its other end, in words; nothing where nobody is told.
+    pub peer: Option<String>,
 }
 
 /// The connections that are served. The accepting thread alone has it.
@@ -140,14 +153,23 @@ impl<S: Shut + Send + 'static> ConnectionTable<S> {
         R: Threads + Wait + Copy + Send + 'static,
         I: Source + Drop + Send + 'static,
         O: Sink + Drop + Send + 'static,
-    >(&mut self, rt: R, parts: Parts<I, O, S>) {
+    >(&mut self, rt: R, arrival: Arrival<I, O, S>) {
+        let Arrival { parts, fate, peer } = arrival;
         let Ok(conn) = self.seats.take() else {
+            tell_refused(&rt, &self.plan.log, &peer, Refusal::NoSeat);
             refuse(parts);
             return;
         };
-        match new_slot(self.alloc) {
-            Ok(slot) => self.seat(rt, conn, parts, slot),
-            Err(_) => self.seats.give_back(conn),
+        tell_accepted(&rt, &self.plan.log, conn, &peer);
+        let seated = match new_slot(self.alloc) {
+            Ok(slot) => self.seat(rt, conn, parts, fate, slot),
+            Err(_) => {
+                self.seats.give_back(conn);
+                Err(Reason::NoMemory)
+            }
+        };
+        if let Err(reason) = seated {
+            tell_closed(&rt, &self.plan.log, conn, reason);
         }
     }
 
@@ -155,21 +177,38 @@ impl<S: Shut + Send + 'static> ConnectionTable<S> {
         R: Threads + Wait + Copy + Send + 'static,
         I: Source + Drop + Send + 'static,
         O: Sink + Drop + Send + 'static,
-    >(&mut self, rt: R, conn: Conn, parts: Parts<I, O, S>, slot: Arc<Slot<S>>) {
+    >(
+        &mut self,
+        rt: R,
+        conn: Conn,
+        parts: Parts<I, O, S>,
+        fate: Arc<Fate>,
+        slot: Arc<Slot<S>>,
+    ) -> Result<(), Reason> {
         let Ok(posters) = self.take_posters(conn) else {
             self.seats.give_back(conn);
-            return;
+            return Err(Reason::NoMemory);
         };
         let is_whole = posters.len() == self.realms.len();
         slot.lock(&rt).posters = Some(posters);
         self.marks.sits(conn);
-        match self.start(rt, conn, parts, &slot, is_whole) {
-            Some(entry) => self.keep(entry),
-            None => self.free(&rt, conn, &slot),
+        if !is_whole {
+            self.free(&rt, conn, &slot);
+            return Err(Reason::NoMemory);
+        }
+        match self.start(rt, conn, parts, fate, &slot) {
+            Ok(entry) => {
+                self.keep(entry);
+                Ok(())
+            }
+            Err(reason) => {
+                self.free(&rt, conn, &slot);
+                Err(reason)
+            }
         }
     }
 
-    // Starts the reader of a connection, if its posters are all there.
+    // Starts the reader of a connection, whose posters are all there.
     fn start<
         R: Threads + Wait + Copy + Send + 'static,
         I: Source + Drop + Send + 'static,
@@ -179,17 +218,39 @@ impl<S: Shut + Send + 'static> ConnectionTable<S> {
         rt: R,
         conn: Conn,
         parts: Parts<I, O, S>,
+        fate: Arc<Fate>,
         slot: &Arc<Slot<S>>,
-        is_whole: bool,
-    ) -> Option<Connection<S>> {
-        if !is_whole {
-            return None;
+    ) -> Result<Connection<S>, Reason> {
+        let Some((reader, is_over, slot)) = self.make_reader(&rt, conn, parts, fate, slot) else {
+            return Err(Reason::NoMemory);
+        };
+        match start_reader(rt, reader) {
+            Ok(reader) => Ok(Connection {
+                conn,
+                slot,
+                is_over,
+                reader,
+            }),
+            Err(_) => Err(Reason::NoThread),
         }
+    }
+
+    // The reader of a connection, what it sets at its end, and the slot. None where memory was refused.
+    fn make_reader<R: Wait, I: Source + Drop, O: Sink + Drop>(
+        &self,
+        rt: &R,
+        conn: Conn,
+        parts: Parts<I, O, S>,
+        fate: Arc<Fate>,
+        slot: &Arc<Slot<S>>,
+    ) -> Option<(Reader<I, O, S>, Arc<AtomicBool>, Arc<Slot<S>>)> {
         let Parts { source, sink, shut } = parts;
         let is_over = Arc::new(self.alloc, AtomicBool::new(false)).ok()?;
         let reader = Reader {
             alloc: self.alloc,
             plan: Arc::try_clone(&self.plan).ok()?,
+            conn,
+            fate,
             source,
             sink,
             transport: shut.twin()?,
@@ -197,14 +258,8 @@ impl<S: Shut + Send + 'static> ConnectionTable<S> {
             is_over: Arc::try_clone(&is_over).ok()?,
         };
         let slot = Arc::try_clone(slot).ok()?;
-        slot.lock(&rt).transport = Some(shut);
-        let reader = start_reader(rt, reader).ok()?;
-        Some(Connection {
-            conn,
-            slot,
-            is_over,
-            reader,
-        })
+        slot.lock(rt).transport = Some(shut);
+        Some((reader, is_over, slot))
     }
 
     fn keep(&mut self, entry: Connection<S>) {

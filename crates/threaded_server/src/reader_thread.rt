@@ -1,17 +1,22 @@
 //! The thread that reads what a client sends.
-ghost use Rattle.std.specs.Prelude.{◌≡◌, option_map, IfSome};
+ghost use Rattle.std.specs.Prelude.{◌≡◌, option_map, IfOk, IfSome};
 ghost use Rattle.std.specs.String.{string_bytes};
 
+use crate::closing::Closing;
+use crate::farewell::FarewellPoster;
+use crate::fate::Fate;
 use crate::handover::{Posters, Slot};
 use crate::plan::Plan;
+use crate::told::tell_closed;
 use crate::work::start;
-use crate::writer_thread::Writer;
-use connection::{EncodingPoster, Using, read_posts};
+use crate::writer_thread::{Writer, Written};
+use connection::{EncodingPoster, ReadEnd, Using, read_posts};
 use message_tree::Text;
+use notices::Reason;
 use outbox_queue::{Drain, pair};
 use rawsocket::devices::{Sink, Source};
 use realm_inbox::{Act, Joining, Poster, RealmHistory, Shut};
-use session::{Item, Opened, open_session};
+use session::{Fault, Item, Opened, open_session};
 use std::alloc::Global;
 use std::sync::atomic::{AtomicBool, Ordering};
 use std::sync::{Arc, Wait};
@@ -26,6 +31,8 @@ const MOST_OCTETS: u32 = 16_777_215;
 pub struct Reader<I, O, S: Shut> {
     pub alloc: Global,
     pub plan: Arc<Plan>,
+    pub conn: Conn,
+    pub fate: Arc<Fate>,
     pub source: I,
     pub sink: O,
     pub transport: S,
@@ -41,6 +48,8 @@ impl<I: Source + Drop, O: Sink + Drop + Send + 'static, S: Shut + Send + 'static
         let Reader {
             alloc,
             plan,
+            conn,
+            fate,
             source,
             sink,
             transport,
@@ -49,8 +58,14 @@ impl<I: Source + Drop, O: Sink + Drop + Send + 'static, S: Shut + Send + 'static
         } = self;
         let posters = slot.lock(&rt).posters.take();
         if let Some(mut posters) = posters {
-            let _ = serve(rt, alloc, &plan, source, sink, &transport, &mut posters);
+            let broker = Broker {
+                alloc,
+                plan: &plan,
+                fate: &fate,
+            };
+            let reason = serve(rt, broker, source, sink, &transport, &mut posters);
             slot.lock(&rt).posters = Some(posters);
+            tell_closed(&rt, &plan.log, conn, reason);
         }
         transport.shut();
         drop(transport);
@@ -60,7 +75,15 @@ impl<I: Source + Drop, O: Sink + Drop + Send + 'static, S: Shut + Send + 'static
     }
 }
 
-// Opens a session and serves it. None where there is none, or memory was refused.
+// What a connection is served with.
+#[derive(Clone, Copy, Drop)]
+struct Broker<'a> {
+    alloc: Global,
+    plan: &'a Arc<Plan>,
+    fate: &'a Arc<Fate>,
+}
+
+// Opens a session and serves it until it is over, for the reason that is given.
 fn serve<
     R: Threads + Wait + Copy + Send + 'static,
     I: Source + Drop,
@@ -68,47 +91,65 @@ fn serve<
     S: Shut + Send + 'static,
 >(
     rt: R,
-    alloc: Global,
-    plan: &Plan,
+    broker: Broker<'_>,
     mut source: I,
     mut sink: O,
     transport: &S,
     posters: &mut Posters<S>,
-) -> Option<()> {
-    let opened = open_session(alloc, &mut source, &mut sink, &plan.realms).ok()?;
-    let place = posters.get_mut(opened.realm)?;
-    let poster = place.take()?;
+) -> Reason {
+    let realms = &broker.plan.realms;
+    let opened = match open_session(broker.alloc, &mut source, &mut sink, realms) {
+        Ok(opened) => opened,
+        Err(fault) => return not_opened(broker.plan, fault),
+    };
+    let Some(place) = posters.get_mut(opened.realm) else {
+        return Reason::NoMemory;
+    };
+    let Some(poster) = place.take() else {
+        return Reason::NoMemory;
+    };
     let session = Session {
-        alloc,
-        plan,
+        broker,
         transport,
         sink,
         opened,
     };
-    *place = Some(run_session(rt, session, &mut source, poster));
-    Some(())
+    let (poster, reason) = run_session(rt, session, &mut source, poster);
+    *place = Some(poster);
+    reason
+}
+
+// Why a connection has no session: the fault, unless its stream was ended by a stop.
+fn not_opened(plan: &Plan, fault: Fault) -> Reason {
+    if plan.is_stopping.load(Ordering::SeqCst) {
+        Reason::Stop
+    } else {
+        Reason::NotOpened(fault)
+    }
 }
 
 // A session that was opened, and what it is served with.
 #[derive(Drop)]
 struct Session<'a, O, S> {
-    alloc: Global,
-    plan: &'a Plan,
+    broker: Broker<'a>,
     transport: &'a S,
     sink: O,
     opened: Opened,
 }
 
-// Serves a session until it is over. The poster comes back.
+// Serves a session until it is over. The poster comes back, with the reason.
 fn run_session<
     R: Threads + Wait + Copy + Send + 'static,
     I: Source,
     O: Sink + Drop + Send + 'static,
     S: Shut + Send + 'static,
->(rt: R, session: Session<O, S>, source: &mut I, mut poster: Poster<S>) -> Poster<S> {
-    let alloc = session.alloc;
-    let Some(begun) = begin(rt, session, poster.conn()) else {
-        return poster;
+>(rt: R, session: Session<O, S>, source: &mut I, mut poster: Poster<S>) -> (Poster<S>, Reason) {
+    let broker = session.broker;
+    let alloc = broker.alloc;
+    let limit = session.opened.limit.min(MOST_OCTETS);
+    let begun = match begin(rt, session, poster.conn()) {
+        Ok(begun) => begun,
+        Err(refused) => return (poster, refused.reason()),
     };
     let Begun {
         opened,
@@ -116,20 +157,59 @@ fn run_session<
         writer,
         using,
     } = begun;
-    let poster = match poster.post(&rt, Act::Join(joining)) {
-        Ok(()) => {
-            let mut encoding = EncodingPoster {
-                alloc,
-                in_use: using.in_use(),
-                poster,
-            };
-            read_posts(&rt, alloc, source, opened, &mut encoding);
-            encoding.poster
-        }
-        Err(_) => poster,
+    let encoding = EncodingPoster {
+        alloc,
+        in_use: using.in_use(),
+        poster,
     };
-    writer.join(&rt);
-    poster
+    let mut posting = FarewellPoster {
+        poster: encoding,
+        has_aborted: false,
+    };
+    let read = match posting.poster.poster.post(&rt, Act::Join(joining)) {
+        Ok(()) => read_posts(&rt, alloc, source, opened, &mut posting),
+        Err(_) => ReadEnd::ActorGone,
+    };
+    let ends = Ends {
+        read,
+        has_aborted: posting.has_aborted,
+        is_unwritable: broker.fate.is_unwritable(),
+        written: writer.join(&rt),
+    };
+    (posting.poster.poster, reason_of(broker, ends, limit))
+}
+
+// How both threads of a session ended.
+#[derive(Clone, Copy, Drop)]
+struct Ends {
+    read: ReadEnd,
+    has_aborted: bool,
+    // Whether a write had failed before the reader ended.
+    is_unwritable: bool,
+    written: Written,
+}
+
+// Why a session is over.
+fn reason_of(broker: Broker<'_>, ends: Ends, limit: u32) -> Reason {
+    let Broker {
+        alloc: _,
+        plan,
+        fate,
+    } = broker;
+    let closing = Closing {
+        read: ends.read,
+        has_aborted: ends.has_aborted,
+        write: ends.written.end,
+        octets: ends.written.octets,
+        is_admitted: fate.is_admitted(),
+        is_full: fate.is_full(),
+        is_lost: fate.is_lost(),
+        is_unwritable: ends.is_unwritable,
+        is_stopping: plan.is_stopping.load(Ordering::SeqCst),
+        outbox: plan.outbox,
+        limit,
+    };
+    closing.reason()
 }
 
 // A session whose writer runs.
@@ -137,49 +217,107 @@ fn run_session<
 struct Begun<S: Shut> {
     opened: Opened,
     joining: Joining<S>,
-    writer: JoinHandle<()>,
+    writer: JoinHandle<Written>,
     // Its place among those who use its serialization.
     using: Using,
 }
 
-// Starts the writer of a session. None where memory or a thread was refused.
+// Why the writer of a session wasn't started.
+#[derive(Clone, Copy, Drop)]
+enum Refused {
+    Memory,
+    Thread,
+}
+
+impl Refused {
+    // The reason that it is.
+    fn reason(self) -> Reason {
+        match self {
+            Refused::Memory => Reason::NoMemory,
+            Refused::Thread => Reason::NoThread,
+        }
+    }
+}
+
+// Starts the writer of a session.
 fn begin<
     R: Threads + Wait + Copy + Send + 'static,
     O: Sink + Drop + Send + 'static,
     S: Shut + Send + 'static,
->(rt: R, session: Session<O, S>, conn: Conn) -> Option<Begun<S>>
-    ensures own { IfSome result (λ b. b.joining.outbox.conn ≡ conn) }
-    ensures authid { IfSome result (λ b. b.joining.authid ≡ option_map string_bytes
+>(rt: R, session: Session<O, S>, conn: Conn) -> Result<Begun<S>, Refused>
+    ensures own { IfOk result (λ b. b.joining.outbox.conn ≡ conn) }
+    ensures authid { IfOk result (λ b. b.joining.authid ≡ option_map string_bytes
         session.entry.opened.authid) }
-    ensures frames { IfSome result (λ b. (b.opened.early ≡ session.entry.opened.early)
+    ensures frames { IfOk result (λ b. (b.opened.early ≡ session.entry.opened.early)
         × (b.opened.deframer ≡ session.entry.opened.deframer)
         × (b.opened.serializer ≡ session.entry.opened.serializer)) }
 {
+    let Some((made, writer)) = make(session, conn) else {
+        return Err(Refused::Memory);
+    };
+    let Made {
+        opened,
+        joining,
+        using,
+    } = made;
+    match start(rt, writer) {
+        Ok(writer) => Ok(Begun {
+            opened,
+            joining,
+            writer,
+            using,
+        }),
+        Err(_) => Err(Refused::Thread),
+    }
+}
+
+// A session whose writer doesn't run yet.
+#[derive(Drop)]
+struct Made<S: Shut> {
+    opened: Opened,
+    joining: Joining<S>,
+    using: Using,
+}
+
+// What a session begins with. None where memory was refused.
+fn make<O: Sink + Drop, S: Shut>(
+    session: Session<O, S>,
+    conn: Conn,
+) -> Option<(Made<S>, Writer<O, S>)>
+    ensures own { IfSome result (λ r. r.0.joining.outbox.conn ≡ conn) }
+    ensures authid { IfSome result (λ r. r.0.joining.authid ≡ option_map string_bytes
+        session.entry.opened.authid) }
+    ensures frames { IfSome result (λ r. (r.0.opened.early ≡ session.entry.opened.early)
+        × (r.0.opened.deframer ≡ session.entry.opened.deframer)
+        × (r.0.opened.serializer ≡ session.entry.opened.serializer)) }
+{
     let Session {
-        alloc,
-        plan,
+        broker,
         transport,
         sink,
         mut opened,
     } = session;
+    let Broker { alloc, plan, fate } = broker;
     let in_use = plan.in_use.get(opened.realm)?;
     let using = in_use.enter(opened.serializer).ok()?;
     let (joining, drain) = joining(alloc, plan, opened.authid.take(), conn, transport)?;
     let writer = Writer {
         alloc,
+        plan: Arc::try_clone(plan).ok()?,
+        fate: Arc::try_clone(fate).ok()?,
+        realm: opened.realm,
         drain,
         sink,
         transport: transport.twin()?,
         serializer: opened.serializer,
         limit: opened.limit.min(MOST_OCTETS),
     };
-    let writer = start(rt, writer).ok()?;
-    Some(Begun {
+    let made = Made {
         opened,
         joining,
-        writer,
         using,
-    })
+    };
+    Some((made, writer))
 }
 
 // What the connection brings to join, with an outbox of its own, and the other end of that.

@@ -3,22 +3,28 @@ ghost use Rattle.std.specs.Prelude.{◌≡◌, ◌≤◌, ◌<◌, length, IfOk}
 ghost use Rattle.realm.specs.Grants.{pairs_of};
 ghost use Rattle.threaded_server.specs.Answers.{Serves};
 
-use crate::acceptor::{Accepted, Acceptor};
+use crate::acceptor::{Accepted, Acceptor, Parts};
 use crate::actor_thread::ActorThread;
 use crate::config::Config;
-use crate::connection_table::ConnectionTable;
+use crate::connection_table::{Arrival, ConnectionTable};
+use crate::fate::Marked;
 use crate::fault::Fault;
 use crate::grants::copy_grants;
 use crate::id_words::IdWords;
+use crate::log::Log;
 use crate::plan::Plan;
 use crate::realm_handle::RealmHandle;
+use crate::told::{tell_failed, tell_refused};
 use connection::InUse;
 use crossbeam_channel::bounded;
+use notices::Refusal;
+use rawsocket::devices::{Sink, Source};
 use realm::RealmConfig;
 use realm_inbox::Shut;
 use realm_inbox::opening::inbox;
 use std::alloc::{AllocError, Global};
 use std::random::RandomSource;
+use std::sync::atomic::{AtomicBool, Ordering};
 use std::sync::{Arc, Wait};
 use std::thread::Threads;
 use wamp_ids::Topic;
@@ -50,7 +56,26 @@ pub fn serve_on<R: Threads + Wait + RandomSource + Copy + Send + 'static, A: Acc
     requires most { config.now.outbox ≤ 65536 }
     ensures { Serves (A.answers acceptor.old) (A.answers acceptor.new) result }
 {
-    let plan = plan_of(alloc, config)?;
+    serve_logged(rt, alloc, acceptor, config, None)
+}
+
+/// The same, where what happens to connections is told to a log, if there is one.
+///
+/// # Errors
+/// As for [`serve_on`].
+pub fn serve_logged<R: Threads + Wait + RandomSource + Copy + Send + 'static, A: Acceptor>(
+    rt: R,
+    alloc: Global,
+    acceptor: &mut A,
+    config: &Config,
+    log: Option<Log>,
+) -> Result<(), Fault>
+    requires realms { 0 < length config.now.realms.items }
+    requires least { 0 < config.now.outbox }
+    requires most { config.now.outbox ≤ 65536 }
+    ensures { Serves (A.answers acceptor.old) (A.answers acceptor.new) result }
+{
+    let plan = plan_of(alloc, config, log)?;
     let mut connection_table = ConnectionTable::new(alloc, plan)?;
     let served = open_and_accept(rt, acceptor, &mut connection_table, config);
     close(&rt, &mut connection_table);
@@ -61,7 +86,7 @@ pub fn serve_on<R: Threads + Wait + RandomSource + Copy + Send + 'static, A: Acc
 fn open_and_accept<R: Threads + Wait + RandomSource + Copy + Send + 'static, A: Acceptor>(
     rt: R,
     acceptor: &mut A,
-    connection_table: &mut ConnectionTable<A::Shut>,
+    connection_table: &mut ConnectionTable<Marked<A::Shut>>,
     config: &Config,
 ) -> Result<(), Fault>
     ensures { Serves (A.answers acceptor.old) (A.answers acceptor.new) result }
@@ -89,7 +114,7 @@ fn counts_of(alloc: Global, realms: usize) -> Result<Vec<InUse>, AllocError> {
     Ok(counts)
 }
 
-fn plan_of(alloc: Global, config: &Config) -> Result<Plan, AllocError>
+fn plan_of(alloc: Global, config: &Config, log: Option<Log>) -> Result<Plan, AllocError>
     requires least { 0 < config.now.outbox }
     requires most { config.now.outbox ≤ 65536 }
 {
@@ -99,6 +124,8 @@ fn plan_of(alloc: Global, config: &Config) -> Result<Plan, AllocError>
         realms,
         in_use,
         outbox: config.outbox,
+        log,
+        is_stopping: AtomicBool::new(false),
     })
 }
 
@@ -139,6 +166,8 @@ fn open_realm<R: Threads + Wait + RandomSource + Copy + Send + 'static, S: Shut 
     };
     let work = ActorThread {
         alloc,
+        plan: Arc::try_clone(&connection_table.plan)?,
+        realm: connection_table.realms.len(),
         config: realm_config(alloc, name, config)?,
         words,
         inbox,
@@ -158,7 +187,7 @@ fn open_realm<R: Threads + Wait + RandomSource + Copy + Send + 'static, S: Shut 
 fn accept_all<R: Threads + Wait + Copy + Send + 'static, A: Acceptor>(
     rt: R,
     acceptor: &mut A,
-    connection_table: &mut ConnectionTable<A::Shut>,
+    connection_table: &mut ConnectionTable<Marked<A::Shut>>,
 ) -> Result<(), Fault>
     ensures { Serves (A.answers acceptor.old) (A.answers acceptor.new) result }
 {
@@ -168,13 +197,12 @@ fn accept_all<R: Threads + Wait + Copy + Send + 'static, A: Acceptor>(
             Accepted::Stream(stream) => {
                 failures = 0;
                 connection_table.reap(&rt);
-                if let Ok(parts) = acceptor.split(connection_table.alloc, stream) {
-                    connection_table.admit(rt, parts);
-                }
+                receive(rt, acceptor, connection_table, stream);
             }
             Accepted::Stop => return Ok(()),
             Accepted::Failed => {
                 failures += 1;
+                tell_failure(&rt, acceptor, connection_table);
                 if failures >= MOST_FAILURES {
                     return Err(Fault::ListenFault);
                 }
@@ -186,9 +214,73 @@ fn accept_all<R: Threads + Wait + Copy + Send + 'static, A: Acceptor>(
     unreachable!()
 }
 
+// Takes a stream apart, and admits it.
+fn receive<R: Threads + Wait + Copy + Send + 'static, A: Acceptor>(
+    rt: R,
+    acceptor: &mut A,
+    connection_table: &mut ConnectionTable<Marked<A::Shut>>,
+    stream: A::Stream,
+)
+    ensures { A.answers acceptor.new ≡ A.answers acceptor.old }
+{
+    let peer = peer_of(acceptor, connection_table, &stream);
+    match acceptor.split(connection_table.alloc, stream) {
+        Ok(parts) => admit(rt, connection_table, parts, peer),
+        Err(_) => tell_refused(&rt, &connection_table.plan.log, &peer, Refusal::NoMemory),
+    }
+}
+
+// Who is at the other end of a stream, in words, where anybody is told.
+fn peer_of<A: Acceptor, S: Shut>(
+    acceptor: &A,
+    connection_table: &ConnectionTable<S>,
+    stream: &A::Stream,
+) -> Option<String> {
+    match &connection_table.plan.log {
+        Some(log) => acceptor.peer(log.alloc(), stream),
+        None => None,
+    }
+}
+
+// Tells why accepting failed, where anybody is told.
+fn tell_failure<R: Wait, A: Acceptor, S: Shut>(
+    rt: &R,
+    acceptor: &A,
+    connection_table: &ConnectionTable<S>,
+) {
+    if let Some(log) = &connection_table.plan.log {
+        tell_failed(rt, log, &acceptor.failure(log.alloc()));
+    }
+}
+
+// Admits a stream, whose handle marks the fate of its connection from now on. Where memory is refused it is closed.
+fn admit<
+    R: Threads + Wait + Copy + Send + 'static,
+    I: Source + Drop + Send + 'static,
+    O: Sink + Drop + Send + 'static,
+    S: Shut + Send + 'static,
+>(
+    rt: R,
+    connection_table: &mut ConnectionTable<Marked<S>>,
+    parts: Parts<I, O, S>,
+    peer: Option<String>,
+) {
+    let Parts { source, sink, shut } = parts;
+    let Ok((shut, fate)) = Marked::new(connection_table.alloc, shut) else {
+        tell_refused(&rt, &connection_table.plan.log, &peer, Refusal::NoMemory);
+        return;
+    };
+    let parts = Parts { source, sink, shut };
+    connection_table.admit(rt, Arrival { parts, fate, peer });
+}
+
 // Stops the actors, ends the streams that no session's writer will end, and waits for all threads. Each actor turns away what is posted behind
 // its stop until the realm's door and seats are given up, which is last of all: so no thread waits for what nobody would do.
 fn close<R: Threads + Wait, S: Shut>(rt: &R, connection_table: &mut ConnectionTable<S>) {
+    connection_table
+        .plan
+        .is_stopping
+        .store(true, Ordering::SeqCst);
     for realm in connection_table.realms.iter_mut() {
         realm.stop(rt);
     }

@@ -134,6 +134,20 @@ impl<R: Clock + Drop> Acceptor for TcpAcceptor<R> {
         })
     }
 
+    fn peer(&self, alloc: Global, stream: &TcpStream) -> Option<String> {
+        match stream.peer_addr() {
+            Ok(address) => format!(in alloc; "{address}").ok(),
+            Err(_) => Some(String::new(alloc)),
+        }
+    }
+
+    fn failure(&self, alloc: Global) -> Option<String> {
+        match &self.failure {
+            Some(failure) => format!(in alloc; "{failure}").ok(),
+            None => Some(String::new(alloc)),
+        }
+    }
+
     fn pause(&mut self, failures: u32) {
         let pause = MOST_PAUSE.min(PAUSE * failures as u64);
         thread::sleep(&self.clock, Duration::from_millis(pause));

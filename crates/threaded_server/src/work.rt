@@ -5,7 +5,10 @@ use std::thread::{self, JoinHandle, Threads};
 
 /// What a thread does with what it owns.
 pub trait Work<R>: Sized + Drop {
-    fn run(self, rt: R);
+    /// What it ends with.
+    type Done: Drop + Send + 'static;
+
+    fn run(self, rt: R) -> Self::Done;
 }
 
 /// Starts a thread that does the work.
@@ -15,7 +18,7 @@ pub trait Work<R>: Sized + Drop {
 pub fn start<R: Threads + Wait + Copy + Send + 'static, W: Work<R> + Send + 'static>(
     rt: R,
     work: W,
-) -> Result<JoinHandle<()>, AllocError> {
+) -> Result<JoinHandle<W::Done>, AllocError> {
     let handle = thread::spawn(&rt, move || work.run(rt))?;
     Ok(handle)
 }

@@ -1,40 +1,76 @@
 //! The thread that writes to a client.
 ghost use Rattle.std.specs.Prelude.{◌≤◌};
 
+use crate::fate::Fate;
+use crate::herald::Herald;
+use crate::plan::Plan;
 use crate::work::Work;
-use connection::write_items;
+use connection::{WriteEnd, write_watched};
 use outbox_queue::Drain;
 use rawsocket::Serializer;
 use rawsocket::devices::Sink;
 use realm_inbox::{RealmHistory, Shut};
 use session::Item;
 use std::alloc::Global;
-use std::sync::Wait;
+use std::sync::{Arc, Wait};
 
 /// What a writer's thread has.
 #[derive(Drop)]
 pub struct Writer<O, S> {
     pub alloc: Global,
+    pub plan: Arc<Plan>,
+    pub fate: Arc<Fate>,
+    /// The place of the session's realm.
+    pub realm: usize,
     pub drain: Drain<Item, RealmHistory>,
     pub sink: O,
     pub transport: S,
     pub serializer: Serializer,
     pub limit: u32,
-    ghost fits: { limit ≤ 16777215 },
+    ghost small: { limit ≤ 16777215 },
+}
+
+/// How a writer ended.
+#[derive(Clone, Copy, Drop)]
+pub struct Written {
+    /// Why it did.
+    pub end: WriteEnd,
+    /// How many octets the payload of the item has that it couldn't write, where that is known.
+    pub octets: Option<usize>,
 }
 
 impl<R: Wait + Copy, O: Sink + Drop, S: Shut> Work<R> for Writer<O, S> {
+    type Done = Written;
+
     /// Writes what the session is owed, and shuts the transport.
-    fn run(self, rt: R) {
+    fn run(self, rt: R) -> Written {
         let Writer {
             alloc,
+            plan,
+            fate,
+            realm,
             drain,
             mut sink,
             transport,
             serializer,
             limit,
         } = self;
-        let _ = write_items(&rt, alloc, drain, &mut sink, serializer, limit);
+        let mut herald = Herald::new(&rt, alloc, &plan, &fate, realm, serializer, limit);
+        let (drain, end) = write_watched(
+            &rt,
+            alloc,
+            drain,
+            &mut sink,
+            serializer,
+            limit,
+            &mut herald,
+        );
+        let octets = herald.octets();
+        if end == WriteEnd::Device {
+            fate.fail_to_write();
+        }
         transport.shut();
+        drop(drain);
+        Written { end, octets }
     }
 }

@@ -5,11 +5,8 @@ use Rattle.threaded_server.proofs.serve.accept_all.Goals as goal
 pub accepting-init : goal.accepting-init
 accepting-init g c = none_yet _
 
-pub accepting-preserved-in-Ok : goal.accepting-preserved-in-Ok
-accepting-preserved-in-Ok g c = came_on _ _ _ _ c.accepting.invariant (c.split.ensures ∙ c.in-Stream.ensures)
-
-pub accepting-preserved-in_default : goal.accepting-preserved-in_default
-accepting-preserved-in_default g c = came_on _ _ _ _ c.accepting.invariant (c.split.ensures ∙ c.in-Stream.ensures)
+pub accepting-preserved-in-Stream : goal.accepting-preserved-in-Stream
+accepting-preserved-in-Stream g c = came_on _ _ _ _ c.accepting.invariant (c.receive.ensures ∙ c.in-Stream.ensures)
 
 pub returns-in-Stop : goal.returns-in-Stop
 returns-in-Stop g c = ends_stopped _ _ _ _ c.accepting.invariant c.in-Stop.ensures

@@ -1,0 +1,109 @@
+//! What is told of what a session's writer does.
+use crate::fate::Fate;
+use crate::plan::Plan;
+use connection::Watch;
+use notices::{Opening, opened};
+use rawsocket::Serializer;
+use session::{Fault, Item, Who, write_payload};
+use std::alloc::{AllocError, Global};
+use std::sync::Wait;
+
+/// Tells of the session that a WELCOME opens, and counts the octets of an item that can't be written.
+#[derive(Drop)]
+pub struct Herald<'a, R> {
+    rt: &'a R,
+    alloc: Global,
+    plan: &'a Plan,
+    fate: &'a Fate,
+    realm: usize,
+    serializer: Serializer,
+    limit: u32,
+    // Whether the writer took an item: a WELCOME is the first one.
+    has_begun: bool,
+    octets: Option<usize>,
+}
+
+impl<'a, R> Herald<'a, R> {
+    /// Who watches the writer of a session of the realm at this place, whose client takes so many octets in one payload.
+    pub fn new(
+        rt: &'a R,
+        alloc: Global,
+        plan: &'a Plan,
+        fate: &'a Fate,
+        realm: usize,
+        serializer: Serializer,
+        limit: u32,
+    ) -> Herald<'a, R> {
+        Herald {
+            rt,
+            alloc,
+            plan,
+            fate,
+            realm,
+            serializer,
+            limit,
+            has_begun: false,
+            octets: None,
+        }
+    }
+
+    /// How many octets the payload of the item has that couldn't be written: `None` where each one could, where that one has no spelling,
+    /// or where there was no memory to count them.
+    pub fn octets(&self) -> Option<usize> {
+        self.octets
+    }
+
+    // The line of a session.
+    fn line(&self, alloc: Global, who: &Who) -> Result<Vec<u8>, AllocError> {
+        let realm = match self.plan.realms.get(self.realm) {
+            Some(realm) => realm.text(),
+            None => "",
+        };
+        let opening = Opening {
+            session: who.id.value(),
+            realm,
+            authid: who.authid.value().as_str(),
+            authrole: who.authrole.value().as_str(),
+            serializer: self.serializer,
+            limit: self.limit,
+        };
+        opened(alloc, who.conn, &opening)
+    }
+}
+
+impl<R: Wait> Herald<'_, R> {
+    // Tells of a session that is open.
+    fn welcome(&self, who: &Who) {
+        self.fate.admit();
+        if let Some(log) = &self.plan.log {
+            log.tell(self.rt, self.line(log.alloc(), who));
+        }
+    }
+}
+
+impl<R: Wait> Watch for Herald<'_, R> {
+    fn takes(&mut self, item: &Item) {
+        if self.has_begun {
+            return;
+        }
+        self.has_begun = true;
+        if let Item::Welcome(who) = item {
+            self.welcome(who);
+        }
+    }
+
+    fn gives_up(&mut self, item: &Item, fault: Fault) {
+        if self.plan.log.is_some() && fault == Fault::TooLongForClient {
+            self.octets = octets_in(self.alloc, self.serializer, item);
+        }
+    }
+}
+
+// How many octets the item has in one payload. None where it has no spelling, or there is no memory for them.
+fn octets_in(alloc: Global, serializer: Serializer, item: &Item) -> Option<usize> {
+    let mut payload = Vec::new(alloc);
+    match write_payload(alloc, serializer, item, &mut payload) {
+        Ok(()) => Some(payload.len()),
+        Err(_) => None,
+    }
+}

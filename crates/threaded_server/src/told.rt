@@ -1,0 +1,46 @@
+//! What is told of connections.
+use crate::log::Log;
+use notices::{Reason, Refusal, accept_failed, accepted, closed, refused, retained_full};
+use std::sync::Wait;
+use wamp_ids::{Conn, Topic};
+
+/// Tells of a connection that got its number.
+pub fn tell_accepted<R: Wait>(rt: &R, log: &Option<Log>, conn: Conn, peer: &Option<String>) {
+    if let Some(log) = log {
+        log.tell(rt, accepted(log.alloc(), conn, text_of(peer)));
+    }
+}
+
+/// Tells of a connection that is refused before it gets a number.
+pub fn tell_refused<R: Wait>(rt: &R, log: &Option<Log>, peer: &Option<String>, refusal: Refusal) {
+    if let Some(log) = log {
+        log.tell(rt, refused(log.alloc(), text_of(peer), refusal));
+    }
+}
+
+/// Tells of a connection that is closed.
+pub fn tell_closed<R: Wait>(rt: &R, log: &Option<Log>, conn: Conn, reason: Reason) {
+    if let Some(log) = log {
+        log.tell(rt, closed(log.alloc(), conn, reason));
+    }
+}
+
+/// Tells that as many topics of a realm as may have a retained publication have one.
+pub fn tell_retained_full<R: Wait>(rt: &R, log: &Option<Log>, realm: &Topic) {
+    if let Some(log) = log {
+        log.tell(rt, retained_full(log.alloc(), realm.text()));
+    }
+}
+
+/// Tells why accepting failed.
+pub fn tell_failed<R: Wait>(rt: &R, log: &Log, reason: &Option<String>) {
+    log.tell(rt, accept_failed(log.alloc(), text_of(reason)));
+}
+
+// A text, or nothing.
+fn text_of(text: &Option<String>) -> &str {
+    match text {
+        Some(text) => text.as_str(),
+        None => "",
+    }
+}
