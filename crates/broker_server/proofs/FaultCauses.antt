@@ -6,7 +6,7 @@ use Rattle.rawsocket.specs.declared.fault.Fault as stream
 use Rattle.rawsocket.specs.declared.fault.Fault.TheVariants as of_stream
 use Rattle.broker_server.specs.Outcome.{HasCause, read_told, write_told}
 use Rattle.broker_server.specs.declared.fault.Fault.{Fault}
-use Rattle.broker_server.specs.declared.fault.Fault.TheVariants.{NoMemory, ReadFault, WriteFault, Usage, BadLine, TooManyTurns, ListenFault}
+use Rattle.broker_server.specs.declared.fault.Fault.TheVariants.{NoMemory, ReadFault, WriteFault, Usage, BadLine, TooManyTurns, ListenFault, ConnectFault, Refused, ConnectionFault}
 
 -- the same cause, seen from further before
 pub weaker : (f : Fault) (r r2 w w2 u u2 : Type 0) → (r → r2) → (w → w2) → (u → u2) → HasCause r w u f → HasCause r2 w2 u2 f
@@ -17,6 +17,9 @@ weaker Usage r r2 w w2 u u2 fr fw fu h = absurd h
 weaker (BadLine k) r r2 w w2 u u2 fr fw fu h = tt
 weaker TooManyTurns r r2 w w2 u u2 fr fw fu h = fu h
 weaker ListenFault r r2 w w2 u u2 fr fw fu h = absurd h
+weaker ConnectFault r r2 w w2 u u2 fr fw fu h = absurd h
+weaker Refused r r2 w w2 u u2 fr fw fu h = absurd h
+weaker ConnectionFault r r2 w w2 u u2 fr fw fu h = absurd h
 
 -- where no read can have failed, none is told
 pub no_read_fault : (f : Fault) (w u : Type 0) → HasCause ⊥ w u f → read_told f ≡ Fine
@@ -27,6 +30,9 @@ no_read_fault Usage w u h = refl
 no_read_fault (BadLine k) w u h = refl
 no_read_fault TooManyTurns w u h = refl
 no_read_fault ListenFault w u h = refl
+no_read_fault ConnectFault w u h = refl
+no_read_fault Refused w u h = refl
+no_read_fault ConnectionFault w u h = refl
 
 -- where no write can have failed, none is told
 pub no_write_fault : (f : Fault) (r u : Type 0) → HasCause r ⊥ u f → write_told f ≡ Fine
@@ -37,6 +43,9 @@ no_write_fault Usage r u h = refl
 no_write_fault (BadLine k) r u h = refl
 no_write_fault TooManyTurns r u h = refl
 no_write_fault ListenFault r u h = refl
+no_write_fault ConnectFault r u h = refl
+no_write_fault Refused r u h = refl
+no_write_fault ConnectionFault r u h = refl
 
 -- a bad line is no fault of a device
 pub bad-not-read : (f : Fault) (k : ℕ) → f ≡ BadLine k → f ≢ ReadFault

@@ -4,7 +4,7 @@ use Rattle.rawsocket.specs.Devices.{GrowsByBeginning}
 use Rattle.rawsocket.specs.Steps.{Told, Fine, Failed}
 use Rattle.realm.specs.Grants.{Grants}
 use Rattle.broker_server.specs.declared.fault.Fault.{Fault}
-use Rattle.broker_server.specs.declared.fault.Fault.TheVariants.{NoMemory, ReadFault, WriteFault, Usage, BadLine, TooManyTurns, ListenFault}
+use Rattle.broker_server.specs.declared.fault.Fault.TheVariants.{NoMemory, ReadFault, WriteFault, Usage, BadLine, TooManyTurns, ListenFault, ConnectFault, Refused, ConnectionFault}
 use Rattle.broker_server.specs.Lines.{HaveNoLineFeed, joined, lines_of}
 use Rattle.broker_server.specs.Progress.{IsAllTold, IsBadAt, ReplayInput}
 use Rattle.broker_server.specs.Transcript.{IsTranscript, Replay, starting}
@@ -59,7 +59,7 @@ pub record BeginsReplay (start : Replay) (s : Streams) (ended : Bool) : Type 0 w
   pub transcript : IsTranscript start lines next out
   pub wrote : GrowsByBeginning s.taken_before s.taken out
 
--- a fault has its cause: that a read failed, that a write failed, that all turns were used up; it is never `Usage` or `ListenFault`
+-- a fault has its cause: that a read failed, that a write failed, that all turns were used up; it is never `Usage`, nor a fault of listening or of a client
 abbrev pub HasCause : Type 0 → Type 0 → Type 0 → Fault → Type 0
 HasCause read_failed write_failed used_up NoMemory = ⊤
 HasCause read_failed write_failed used_up ReadFault = read_failed
@@ -68,6 +68,9 @@ HasCause read_failed write_failed used_up Usage = ⊥
 HasCause read_failed write_failed used_up (BadLine k) = ⊤
 HasCause read_failed write_failed used_up TooManyTurns = used_up
 HasCause read_failed write_failed used_up ListenFault = ⊥
+HasCause read_failed write_failed used_up ConnectFault = ⊥
+HasCause read_failed write_failed used_up Refused = ⊥
+HasCause read_failed write_failed used_up ConnectionFault = ⊥
 
 -- what a fault tells of the input; that no turn was left may be told of either stream, and is told by its cause
 abbrev pub read_told : Fault → Told

@@ -29,11 +29,16 @@ dots text = if nat_le (length text) 1000 then [] else 46 ∷ 46 ∷ []
 abbrev pub shown_line : List ℕ → List ℕ
 shown_line text = shown (first text) ++ (dots text ++ 10 ∷ [])
 
+-- what the help of a client's command is asked of
+abbrev pub client_of : List ℕ → List ℕ
+client_of word =
+    if bytes_eq (codes "subscribe") word then codes "wampd subscribe" else if bytes_eq (codes "publish") word then codes "wampd publish" else codes "wampd"
+
 -- what the help of the command that the words begin with is asked of
 abbrev pub command_of : List (String Global) → List ℕ
 command_of [] = codes "wampd"
 command_of (word ∷ words) =
-    if bytes_eq (codes "replay") (string_bytes word) then codes "wampd replay" else if bytes_eq (codes "serve") (string_bytes word) then codes "wampd serve" else codes "wampd"
+    if bytes_eq (codes "replay") (string_bytes word) then codes "wampd replay" else if bytes_eq (codes "serve") (string_bytes word) then codes "wampd serve" else client_of (string_bytes word)
 
 -- where that help is
 abbrev pub hint : List ℕ → List ℕ

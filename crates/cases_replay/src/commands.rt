@@ -1,4 +1,5 @@
 //! Words of a command line, and faults as they are reported.
+use crate::clients::{publish_line, subscribe_line};
 use broker_server::{
     Command, Config, Fault, Ids, explain, read_command, report, report_failure, shown_line,
 };
@@ -24,9 +25,22 @@ pub fn command(alloc: Global, text: &str) -> io::Result<String> {
             let start = String::from_str(alloc, "replay")?;
             config_line(start, &config)
         }
-        Ok(Command::Serve { host, port, config }) => {
-            serve_line(alloc, host.as_str(), port, &config)
+        Ok(
+            Command::Serve {
+                host,
+                port,
+                config,
+                log,
+            },
+        ) => {
+            let mut line = serve_line(alloc, host.as_str(), port, &config)?;
+            if log {
+                line.insert_str(0, "logged ")?;
+            }
+            Ok(line)
         }
+        Ok(Command::Subscribe(command)) => subscribe_line(alloc, &command),
+        Ok(Command::Publish(command)) => publish_line(alloc, &command),
         Err(fault) => Ok(format!(in alloc; "fault {fault}\n")?),
     }
 }
@@ -91,7 +105,7 @@ fn config_line(start: String, config: &Config) -> io::Result<String> {
     Ok(line)
 }
 
-const FAULTS: [Fault; 7] = [
+const FAULTS: [Fault; 10] = [
     Fault::NoMemory,
     Fault::ReadFault,
     Fault::WriteFault,
@@ -99,6 +113,9 @@ const FAULTS: [Fault; 7] = [
     Fault::BadLine(8),
     Fault::TooManyTurns,
     Fault::ListenFault,
+    Fault::ConnectFault,
+    Fault::Refused,
+    Fault::ConnectionFault,
 ];
 
 /// What is reported of each fault, and the exit status.

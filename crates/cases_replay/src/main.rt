@@ -15,6 +15,7 @@
 #![tactic(auto)]
 
 mod case;
+mod clients;
 mod commands;
 mod outcome;
 mod script;

@@ -1,6 +1,7 @@
 //! Why the program ends with a fault.
 ghost use Rattle.std.specs.Prelude.{◌≡◌, []};
-ghost use Rattle.broker_server.specs.declared.fault.Fault.TheVariants.{ListenFault};
+ghost use Rattle.broker_server.specs.declared.fault.Fault.TheVariants.{ConnectFault, ListenFault};
+ghost use Rattle.broker_server.specs.Commands.{fault_of_client};
 
 use broker_server::{Fault, explain, help, shown_line};
 use std::alloc::{AllocError, Global};
@@ -45,6 +46,22 @@ impl Failure {
         Failure::with_reason(alloc, Fault::ListenFault, reason.ok())
     }
 
+    /// No connection to a broker could be made.
+    pub fn to_connect(alloc: Global, host: &str, port: u16, error: &io::Error) -> Failure
+        ensures { result.fault ≡ ConnectFault }
+    {
+        let reason = format!(in alloc; "cannot connect to {host}:{port}: {error}");
+        Failure::with_reason(alloc, Fault::ConnectFault, reason.ok())
+    }
+
+    /// A client ended by this fault.
+    pub fn of_client(alloc: Global, of: client_commands::Fault) -> Failure
+        ensures { result.fault ≡ fault_of_client of }
+    {
+        let reason = reason_of(alloc, &of);
+        Failure::with_reason(alloc, Fault::from(of), reason)
+    }
+
     /// Serving ended by this fault, and accepting failed so the last time that it did.
     pub fn to_serve(alloc: Global, fault: Fault, failed: Option<&io::Error>) -> Failure
         ensures { result.fault ≡ fault }
@@ -76,4 +93,25 @@ fn told_of(alloc: Global, words: &[String]) -> Result<Vec<u8>, AllocError> {
         return Ok(help(alloc)?.into_bytes());
     }
     shown_line(alloc, explain(alloc, words)?.as_str())
+}
+
+/// Why a client ended, for people: what the broker says, or how the connection failed. `None` where the fault's name tells all, or there is
+/// no memory.
+fn reason_of(alloc: Global, of: &client_commands::Fault) -> Option<String> {
+    match of {
+        client_commands::Fault::Refused(uri) => {
+            format!(in alloc; "the broker says {}", uri.as_str()).ok()
+        }
+        client_commands::Fault::Closed(uri) => {
+            format!(in alloc; "the broker closed the session: {}", uri.as_str()).ok()
+        }
+        client_commands::Fault::Connection(fault) => format!(in alloc; "{fault}").ok(),
+        client_commands::Fault::Unexpected => {
+            format!(in alloc; "the broker says what nothing asked for").ok()
+        }
+        client_commands::Fault::ForeignEvent => {
+            format!(in alloc; "an event of no subscription came").ok()
+        }
+        _ => None,
+    }
 }

@@ -1,6 +1,6 @@
-//! `wampd`: a publish-subscribe broker for WAMP. The command line asks for help, a replay or a running broker.
+//! `wampd`: a publish-subscribe broker for WAMP. The command line asks for help, a replay, a running broker, or a client of one.
 //!
-//! It stands on `broker_server` and `rawsocket`. Contracts say that help is printed whole, what is told of a fault, and which exit status
+//! It stands on `broker_server`, `client_commands` and `rawsocket`. Contracts say that help is printed whole, what is told of a fault, and which exit status
 //! it has.
 #![tactic(auto)]
 
@@ -10,21 +10,24 @@ ghost use Rattle.rawsocket.specs.Steps.{WholeSteps, meter, told_by};
 ghost use Rattle.broker_server.specs.Commands.{IsServable, IsWritten, fault_line, status_of};
 ghost use Rattle.broker_server.specs.Outcome.{write_told};
 
+mod clients;
 mod failure;
 
 use broker_server::{
-    Command, Config, Fault, TcpAcceptor, read_command, replay, report_failure, serve_on,
+    Command, Config, Fault, Log, LogEnd, TcpAcceptor, listening, read_command, replay,
+    report_failure, serve_logged,
 };
+use clients::{run_publish, run_subscribe};
 use failure::Failure;
 use rawsocket::devices::{ReadSource, Sink, Turns, WriteSink, send};
-use std::alloc::Global;
+use std::alloc::{AllocError, Global};
 use std::env;
 use std::net::{Net, TcpListener, TcpStream};
 use std::process::ExitCode;
 use std::random::RandomSource;
 use std::sync::Wait;
-use std::thread::Threads;
-use std::time::Clock;
+use std::thread::{self, Threads};
+use std::time::{Clock, Duration};
 
 fn main(rt: HostRuntime) -> ExitCode {
     let ran = run(&rt, rt);
@@ -74,8 +77,27 @@ where
             let mut input = ReadSource::new(host.stdin());
             replay(alloc, &mut input, &mut output, &config)
         }
-        Command::Serve { host, port, config } => {
-            return serve(rt, alloc, &mut output, host.as_str(), port, &config);
+        Command::Serve {
+            host: name,
+            port,
+            config,
+            log,
+        } => {
+            let errors = if log {
+                Some(WriteSink::new(host.stderr()))
+            } else {
+                None
+            };
+            let place = Place {
+                host: name.as_str(),
+                port,
+            };
+            return serve(rt, alloc, &mut output, errors, place, &config);
+        }
+        Command::Subscribe(command) => return run_subscribe(&rt, alloc, &mut output, &command),
+        Command::Publish(command) => {
+            let mut input = ReadSource::new(host.stdin());
+            return run_publish(&rt, alloc, &mut input, &command);
         }
     };
     match ran {
@@ -89,13 +111,20 @@ fn words_of(host: &HostRuntime) -> Option<Vec<String>> {
     env::args(host).ok()?.skip(1).collect(host.alloc()).ok()
 }
 
-/// Listens, says so, and serves whoever connects.
-fn serve<R, S: Sink>(
+/// Where it listens.
+#[derive(Clone, Copy, Drop)]
+struct Place<'a> {
+    host: &'a str,
+    port: u16,
+}
+
+/// Listens, says so, and serves whoever connects. What happens to connections is told to `errors`, if there are any.
+fn serve<R, S: Sink, E: Sink + Drop + Send + 'static>(
     rt: R,
     alloc: Global,
     output: &mut S,
-    host: &str,
-    port: u16,
+    errors: Option<E>,
+    place: Place<'_>,
     config: &Config,
 ) -> Result<(), Failure>
 where
@@ -109,6 +138,7 @@ where
         + 'static,
     requires { IsServable config.now }
 {
+    let Place { host, port } = place;
     let listener = match TcpListener::bind(&rt, (host, port)) {
         Ok(listener) => listener,
         Err(error) => return Err(Failure::to_listen(alloc, host, port, &error)),
@@ -116,10 +146,42 @@ where
     if let Err(fault) = announce(alloc, output, host, port) {
         return Err(Failure::of(alloc, fault));
     }
+    let Ok((log, end)) = start_log(rt, alloc, errors, place) else {
+        return Err(Failure::of(alloc, Fault::NoMemory));
+    };
     let mut acceptor = TcpAcceptor::new(listener, rt);
-    match serve_on(rt, alloc, &mut acceptor, config) {
+    let served = serve_logged(rt, alloc, &mut acceptor, config, log);
+    if let Some(end) = &end {
+        await_end(&rt, end);
+    }
+    match served {
         Ok(()) => Ok(()),
         Err(fault) => Err(Failure::to_serve(alloc, Fault::from(fault), acceptor.last_failure())),
+    }
+}
+
+/// Starts the log that is written to `errors`, if there are any, by where it listens.
+fn start_log<R: Threads + Wait + Copy + Send + 'static, E: Sink + Drop + Send + 'static>(
+    rt: R,
+    alloc: Global,
+    errors: Option<E>,
+    place: Place<'_>,
+) -> Result<(Option<Log>, Option<LogEnd>), AllocError> {
+    let Some(errors) = errors else {
+        return Ok((None, None));
+    };
+    let (log, end) = Log::start(rt, alloc, errors)?;
+    log.tell(&rt, listening(alloc, place.host, place.port));
+    Ok((Some(log), Some(end)))
+}
+
+/// Waits until a log is written, but no longer than a second: its sink may take nothing.
+fn await_end<R: Clock>(clock: &R, end: &LogEnd) {
+    for _ in 0..200 {
+        if end.is_over() {
+            return;
+        }
+        thread::sleep(clock, Duration::from_millis(5));
     }
 }
 

@@ -3,13 +3,17 @@ ghost use Rattle.std.specs.Prelude.{◌≡◌, ◌⊎◌, ◌≤◌, true, IfErr
 ghost use Rattle.broker_server.specs.Commands.{IsRunnable, IsVersion, SaysVersion, are_distinct, asks_for_version, is_among};
 ghost use Rattle.broker_server.specs.Reasons.{EndsIn, NamesValue, command_of, hint, no_realm};
 
+use crate::command_line::clients::{read_publish, read_subscribe};
 use crate::command_line::grammar::grammar;
 use crate::command_line::grants::{read_grants, wrong_grants};
-use crate::command_line::refusal::{Refusal, command_of, invalid_value, one_line, with_hint};
+use crate::command_line::refusal::{
+    Refusal, command_of, one_line, refused, refused_value, with_hint,
+};
 use crate::command_line::version::{asks_for_version, version};
 use crate::fault::Fault;
 use clap::ArgMatches;
 use clap::error::ErrorKind;
+use client_commands::{PublishCommand, SubscribeCommand};
 use std::alloc::{AllocError, Global};
 use threaded_server::{Config, Ids};
 use wamp_ids::Topic;
@@ -46,7 +50,13 @@ pub enum Command {
         port: u16,
         /// What it runs on.
         config: Config,
+        /// Whether it tells on standard error what happens to connections.
+        log: bool,
     },
+    /// A client that prints events.
+    Subscribe(SubscribeCommand),
+    /// A client that publishes.
+    Publish(PublishCommand),
 }
 
 /// Reads the words after the program's name. A replay has the outbox and the ids that are taken where none are named.
@@ -141,30 +151,19 @@ fn read_matches(alloc: Global, matches: &ArgMatches<'_>) -> Result<Command, Refu
     if let Some(replay) = matches.subcommand_matches("replay") {
         return read_replay(alloc, replay);
     }
+    if let Some(subscribe) = matches.subcommand_matches("subscribe") {
+        return Ok(Command::Subscribe(read_subscribe(alloc, subscribe)?));
+    }
+    if let Some(publish) = matches.subcommand_matches("publish") {
+        return Ok(Command::Publish(read_publish(alloc, publish)?));
+    }
     match matches.subcommand_matches("serve") {
         Some(serve) => read_serve(alloc, serve),
-        None => refused(alloc, "a command is missing: replay or serve"),
+        None => refused(
+            alloc,
+            "a command is missing: replay, serve, subscribe or publish",
+        ),
     }
-}
-
-/// Refuses the words with this reason.
-fn refused<T: Drop>(alloc: Global, reason: &str) -> Result<T, Refusal>
-    ensures { IfOk result (λ _. ⊥) }
-{
-    Err(Refusal::Usage(String::from_str(alloc, reason)?))
-}
-
-/// Refuses the words since this value isn't one that the argument takes.
-fn refused_value<T: Drop>(
-    alloc: Global,
-    value: &str,
-    argument: &str,
-    why: &str,
-) -> Result<T, Refusal>
-    ensures none { IfOk result (λ _. ⊥) }
-    ensures reason { IfErr result (NamesValue value.now argument.now why.now) }
-{
-    Err(Refusal::Usage(invalid_value(alloc, value, argument, why)?))
 }
 
 /// What the words after `replay` ask for.
@@ -197,7 +196,12 @@ fn read_serve(alloc: Global, serve: &ArgMatches<'_>) -> Result<Command, Refusal>
         outbox: read_outbox(alloc, serve)?,
         ids: read_ids(alloc, serve)?,
     };
-    Ok(Command::Serve { host, port, config })
+    Ok(Command::Serve {
+        host,
+        port,
+        config,
+        log: serve.get_flag("log"),
+    })
 }
 
 /// Why a text is no realm.

@@ -22,6 +22,9 @@ fn name(fault: &Fault) -> &'static str
         Fault::BadLine(_) => "E20 bad line ",
         Fault::TooManyTurns => "E25 too many turns",
         Fault::ListenFault => "E26 listen fault",
+        Fault::ConnectFault => "E27 connect fault",
+        Fault::Refused => "E28 refused by the broker",
+        Fault::ConnectionFault => "E29 connection fault",
     }
 }
 
@@ -76,6 +79,9 @@ fn status(fault: &Fault) -> u8
         Fault::WriteFault => 1,
         Fault::TooManyTurns => 1,
         Fault::ListenFault => 1,
+        Fault::ConnectFault => 1,
+        Fault::Refused => 1,
+        Fault::ConnectionFault => 1,
     }
 }
 

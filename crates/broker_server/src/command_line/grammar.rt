@@ -1,4 +1,5 @@
 //! The grammar of the command line, and its help.
+use crate::command_line::client_grammar::{flag, publish, subscribe};
 use crate::command_line::version::VERSION;
 use clap::{Arg, ArgAction, Command};
 use std::alloc::{AllocError, Global};
@@ -12,7 +13,9 @@ pub fn grammar<'a>(alloc: Global) -> Result<Command<'a>, AllocError> {
         .no_binary_name(true)
         .subcommand_required(true)
         .subcommand(replay(alloc)?)?
-        .subcommand(serve(alloc)?)
+        .subcommand(serve(alloc)?)?
+        .subcommand(subscribe(alloc)?)?
+        .subcommand(publish(alloc)?)
 }
 
 /// What stands after `replay`.
@@ -54,6 +57,9 @@ fn serve<'a>(alloc: Global) -> Result<Command<'a>, AllocError> {
                 .help("What ids are made of: random (if none is named) or count"),
         )?
         .arg(grants(alloc))?
+        .arg(flag(alloc, "log").help(
+            "Tell on standard error what happens to connections, a line each",
+        ))?
         .arg(
             Arg::new(alloc, "realm")
                 .value_name("REALM")
@@ -65,7 +71,7 @@ fn serve<'a>(alloc: Global) -> Result<Command<'a>, AllocError> {
 }
 
 /// An option that takes a value.
-fn option<'a>(alloc: Global, name: &'a str) -> Arg<'a> {
+pub fn option<'a>(alloc: Global, name: &'a str) -> Arg<'a> {
     Arg::new(alloc, name).long(name).action(ArgAction::Set)
 }
 

@@ -1,7 +1,7 @@
 //! Why words are refused, in words.
-ghost use Rattle.std.specs.Prelude.{◌≡◌, ◌++◌, IfOk, string_bytes};
+ghost use Rattle.std.specs.Prelude.{◌≡◌, ◌++◌, IfErr, IfOk, string_bytes};
 ghost use Rattle.broker_server.specs.Commands.{fault_of_refusal};
-ghost use Rattle.broker_server.specs.Reasons.{command_of, hint, invalid_value};
+ghost use Rattle.broker_server.specs.Reasons.{NamesValue, client_of, command_of, hint, invalid_value};
 
 use crate::fault::Fault;
 use std::alloc::{AllocError, AllocFailed, Global};
@@ -62,6 +62,26 @@ pub fn invalid_value(
     format!(in alloc; "invalid value '{value}' for '{argument}': {why}")
 }
 
+/// Refuses the words with this reason.
+pub fn refused<T: Drop>(alloc: Global, reason: &str) -> Result<T, Refusal>
+    ensures { IfOk result (λ _. ⊥) }
+{
+    Err(Refusal::Usage(String::from_str(alloc, reason)?))
+}
+
+/// Refuses the words since this value isn't one that the argument takes.
+pub fn refused_value<T: Drop>(
+    alloc: Global,
+    value: &str,
+    argument: &str,
+    why: &str,
+) -> Result<T, Refusal>
+    ensures none { IfOk result (λ _. ⊥) }
+    ensures reason { IfErr result (NamesValue value.now argument.now why.now) }
+{
+    Err(Refusal::Usage(invalid_value(alloc, value, argument, why)?))
+}
+
 /// What a text of the parser says is wrong, on one line: `error: ` in front and the usage behind are
 /// left out, and a tip stands behind a semicolon.
 pub fn one_line(alloc: Global, text: &str) -> Result<String, AllocError> {
@@ -103,6 +123,19 @@ pub fn command_of(words: &[String]) -> &'static str
         "wampd replay"
     } else if word == "serve" {
         "wampd serve"
+    } else {
+        client_of(word)
+    }
+}
+
+/// The same, of a word that names no command but perhaps a client's.
+fn client_of(word: &str) -> &'static str
+    ensures { result.now ≡ client_of word.now }
+{
+    if word == "subscribe" {
+        "wampd subscribe"
+    } else if word == "publish" {
+        "wampd publish"
     } else {
         "wampd"
     }

@@ -1,0 +1,114 @@
+//! What the command lines of the clients ask for.
+use client_commands::{
+    Arguments, Contact, PublishCommand, PublishWishes, Serializer, SubscribeCommand,
+    SubscribeWishes,
+};
+use message_tree::{Content, Message, Text};
+use std::alloc::{AllocError, Global};
+use std::io;
+use wamp_ids::Policy;
+
+/// What `subscribe` is told.
+pub fn subscribe_line(alloc: Global, command: &SubscribeCommand) -> io::Result<String> {
+    let mut line = contact_line(alloc, "subscribe", &command.contact)?;
+    put_wishes(&mut line, command.wishes)?;
+    if let Some(count) = command.count {
+        line.push_str(format!(in alloc; " count {count}")?.as_str())?;
+    }
+    put_session(&mut line, &command.contact)?;
+    for topic in &command.topics {
+        put_word(&mut line, topic)?;
+    }
+    line.push('\n')?;
+    Ok(line)
+}
+
+/// What `publish` is told.
+pub fn publish_line(alloc: Global, command: &PublishCommand) -> io::Result<String> {
+    let mut line = contact_line(alloc, "publish", &command.contact)?;
+    put_publish_wishes(&mut line, &command.wishes)?;
+    put_session(&mut line, &command.contact)?;
+    put_word(&mut line, &command.topic)?;
+    match &command.arguments {
+        Arguments::Lines => line.push_str(" lines")?,
+        Arguments::Words(words) => put_content(alloc, &mut line, words)?,
+    }
+    if let Some(kwargs) = &command.kwargs {
+        put_content(alloc, &mut line, kwargs)?;
+    }
+    line.push('\n')?;
+    Ok(line)
+}
+
+/// A line that begins with the broker.
+fn contact_line(alloc: Global, name: &str, contact: &Contact) -> io::Result<String> {
+    let serializer = match contact.serializer {
+        Serializer::Json => "json",
+        Serializer::MsgPack => "msgpack",
+    };
+    let host = contact.host.as_str();
+    let port = contact.port;
+    Ok(format!(in alloc; "{name} {host} {port} {serializer}")?)
+}
+
+/// The authid, if one is asked for, and the realm.
+fn put_session(line: &mut String, contact: &Contact) -> Result<(), AllocError> {
+    if let Some(authid) = &contact.authid {
+        line.push_str(" authid")?;
+        put_word(line, authid)?;
+    }
+    put_word(line, &contact.realm)
+}
+
+/// What a SUBSCRIBE wishes.
+fn put_wishes(line: &mut String, wishes: SubscribeWishes) -> Result<(), AllocError> {
+    line.push_str(match wishes.policy {
+        Policy::Exact => " exact",
+        Policy::Prefix => " prefix",
+        Policy::Wildcard => " wildcard",
+    })?;
+    if wishes.get_retained {
+        line.push_str(" get-retained")?;
+    }
+    Ok(())
+}
+
+/// What a PUBLISH wishes.
+fn put_publish_wishes(line: &mut String, wishes: &PublishWishes) -> Result<(), AllocError> {
+    if wishes.acknowledge {
+        line.push_str(" acknowledge")?;
+    }
+    if wishes.retain {
+        line.push_str(" retain")?;
+    }
+    if let Some(roles) = &wishes.eligible_authrole {
+        for role in roles {
+            line.push_str(" for")?;
+            put_word(line, role)?;
+        }
+    }
+    Ok(())
+}
+
+fn put_word(line: &mut String, word: &Text) -> Result<(), AllocError> {
+    line.push(' ')?;
+    line.push_str(word.as_str())
+}
+
+/// A value in JSON; nothing where it has no spelling.
+fn put_content(alloc: Global, line: &mut String, content: &Content) -> Result<(), AllocError> {
+    let Ok(copy) = content.try_copy(alloc) else {
+        return Err(AllocError);
+    };
+    let Ok(message) = Message::of(copy.into_tree()) else {
+        return Ok(());
+    };
+    match json_codec::encode(alloc, &message) {
+        Ok(octets) => {
+            line.push(' ')?;
+            line.push_str(std::str::from_utf8(&octets).unwrap_or(""))
+        }
+        Err(json_codec::Fault::NoMemory) => Err(AllocError),
+        Err(_) => Ok(()),
+    }
+}
