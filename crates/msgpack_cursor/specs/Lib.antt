@@ -1,0 +1,3 @@
+pub mod Standing
+pub mod Seen
+pub mod body
