@@ -1,6 +1,7 @@
 //! A case: each line is answered by itself.
 use crate::canonical::{canonical, same, shape};
 use crate::json::json;
+use crate::looking::{get, look};
 use case_text::{Table, line_of, octets_of, part};
 use std::alloc::Global;
 use std::io;
@@ -18,6 +19,8 @@ impl Table for Case {
             "same" => same(alloc, &octets_of(alloc, text)?),
             "json" => json(alloc, &octets_of(alloc, text)?),
             "shape" => shape(alloc, text),
+            "look" => look(alloc, &octets_of(alloc, text)?),
+            "get" => get(alloc, text),
             _ => line_of(alloc, "no case has this word"),
         }
     }

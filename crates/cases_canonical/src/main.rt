@@ -1,5 +1,5 @@
-//! Cases of MessagePack in canonical form (`msgpack_canonical`), and of JSON written from that (`transcoder`), as lines of standard
-//! input; what each is answered by is printed. In octets `\7f` is an octet.
+//! Cases of MessagePack in canonical form (`msgpack_canonical`), of JSON written from that (`transcoder`), and of values where they
+//! stand in octets (`msgpack_cursor`), as lines of standard input; what each is answered by is printed. In octets `\7f` is an octet.
 //!
 //! - `# TEXT` begins a case, and is printed as it stands.
 //! - `canonical ROOM OCTETS`: writes the value at the front of octets, with so much room to nest in, behind the octets `ab`, and
@@ -8,11 +8,16 @@
 //! - `json OCTETS`: writes the value at the front of octets, which are in canonical form, as JSON behind the octets `ab`, and prints
 //!   what stands there then, and the octets after the value; or the fault.
 //! - `shape N HEAD MEMBER END`: how many octets HEAD, so many times MEMBER, and END have in canonical form; `-` is nothing.
+//! - `look OCTETS`: the message that the octets are, in words (`looking`), where a dictionary is told by what it has at eight keys, and
+//!   is `{..}` where it has only others; or the refusal.
+//! - `get KEY OCTETS`: what the dictionary that the octets are has at a key (`-` is the empty one): the value in words, how many levels
+//!   it may nest, and its octets; or `none`, `no dictionary`, or the refusal.
 #![tactic(auto)]
 
 mod canonical;
 mod case;
 mod json;
+mod looking;
 
 use case::Case;
 use case_text::tell_all;
