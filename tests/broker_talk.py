@@ -6,6 +6,7 @@ import importlib.machinery
 import importlib.util
 import itertools
 import os
+import random
 import select
 import socket
 import struct
@@ -201,9 +202,15 @@ class Client:
 
 
 def free_port():
-    with socket.socket() as free:
-        free.bind(("127.0.0.1", 0))
-        return free.getsockname()[1]
+    """A port that is free, below those that the system gives to who connects: so nobody takes it before a broker does."""
+    for port in random.sample(range(20_000, 32_000), 1_000):
+        with socket.socket() as free:
+            try:
+                free.bind(("127.0.0.1", port))
+                return port
+            except OSError:
+                pass
+    raise Wrong("no port is free")
 
 
 class Broker:
