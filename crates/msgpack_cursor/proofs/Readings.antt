@@ -1,8 +1,9 @@
 -- What is read of octets is what contracts see in them.
-use Rattle.std.proofs.Common.{◌≡◌, ◌-◌, ℕ, zero, suc, List, [], ◌∷◌, ◌++◌, true, false, Ok, refl, sym, ap, ◌∙◌, subst, arith, length, ◌==◌}
+use Rattle.std.proofs.Common.{◌≡◌, ◌-◌, ℕ, zero, suc, List, [], ◌∷◌, ◌++◌, Bool, true, false, Ok, refl, sym, ap, ◌∙◌, subst, arith, length, ◌==◌}
 use Rattle.std.proofs.lemmas.Bool.{eqb-true}
 use Rattle.std.proofs.lemmas.List.{append-nil}
 use Rattle.message_tree.specs.Data as tree
+use Rattle.message_tree.proofs.Entries.{find_entry-put}
 use Rattle.msgpack_codec.specs.Grammar.{IsNoMessage, Spells}
 use Rattle.msgpack_codec.specs.Written.{IsNoValue}
 use Rattle.msgpack_codec.specs.Values.{keep_entry, is_text}
@@ -182,6 +183,57 @@ pub none-entries : (room n : ℕ) (octets : List ℕ) → n ≡ 0 → entries_in
 unfolding entries_in dict_at
 none-entries room zero octets is = refl
 none-entries room (suc n) octets is = absurd (omega (arith, is))
+
+-- a text that is put stands there
+put-some : (k : List ℕ) (d : tree.Data) (es : tree.Entries) → tree.put k d es ≡ tree.no_entries → ⊥
+put-some k d es none =
+    let found = ap (tree.find_entry k) (sym none) ∙ find_entry-put k d es in
+    cc
+
+keep-some : (k v : tree.Data) (es : tree.Entries) → is_text k ≡ true → keep_entry k v es ≡ tree.no_entries → ⊥
+keep-some (tree.text s) v es is none = put-some s v es none
+keep-some tree.null v es is none = absurd cc
+keep-some (tree.flag b) v es is none = absurd cc
+keep-some (tree.whole z) v es is none = absurd cc
+keep-some (tree.bytes b) v es is none = absurd cc
+keep-some (tree.list ds) v es is none = absurd cc
+keep-some (tree.dict ms) v es is none = absurd cc
+keep-some tree.uncarried v es is none = absurd cc
+
+-- in a dictionary each key is a text
+text-key : (p : List ℕ → Found tree.Data) (n : ℕ) (found : tree.Entries) (b : Bool) (octets : List ℕ) (es : tree.Entries) (rest : List ℕ) → dict_at p n found b octets ≡ Ok (tree.dict es, rest)
+    → b ≡ true
+text-key p n found true octets es rest e = refl
+text-key p n found false octets es rest e = let nay = uncarried-read p n found octets (tree.dict es) rest e in absurd cc
+
+-- what is found with one more entry, which isn't nothing
+entry-behind : (p : List ℕ → Found tree.Data) (n : ℕ) (found : tree.Entries) (octets : List ℕ) (es : tree.Entries) (rest : List ℕ) → dict_at p (suc n) found true octets ≡ Ok (tree.dict es, rest)
+    → (more : tree.Entries) × (after : List ℕ) × (more ≡ tree.no_entries → ⊥) × (dict_at p n more true after ≡ Ok (tree.dict es, rest))
+unfolding dict_at
+entry-behind p n found octets es rest e =
+    let k = behind (p octets) (λ k. p k.1 >>= λ v. dict_at p n (keep_entry k.0 v.0 found) (is_text k.0) v.1) (tree.dict es, rest) e in
+    let v = behind (p k.rest) (λ v. dict_at p n (keep_entry k.value v.0 found) (is_text k.value) v.1) (tree.dict es, rest) k.after in
+    let more = keep_entry k.value v.value found in
+    let is = text-key p n more (is_text k.value) v.rest es rest v.after in
+    (more, v.rest, keep-some k.value v.value found is, ap (λ b. dict_at p n more b v.rest) (sym is) ∙ v.after)
+
+some-read : (p : List ℕ → Found tree.Data) (n : ℕ) (found : tree.Entries) (octets : List ℕ) (es : tree.Entries) (rest : List ℕ) → dict_at p n found true octets ≡ Ok (tree.dict es, rest)
+    → (found ≡ tree.no_entries → ⊥) → es ≡ tree.no_entries → ⊥
+unfolding dict_at
+some-read p zero found octets es rest e some none =
+    let same : tree.dict found ≡ tree.dict es = (found-is (tree.dict found) (tree.dict es) octets rest e).0 in
+    some (ap entries_of same ∙ none)
+some-read p (suc n) found octets es rest e some none =
+    let next = entry-behind p n found octets es rest e in
+    some-read p n next.0 next.1 es rest next.3 next.2 none
+
+pub no-entries : (room n : ℕ) (octets : List ℕ) → IsDictionary room n octets → entries_in room n octets ≡ tree.no_entries → (n == 0) ≡ true
+no-entries room zero octets is none = refl
+no-entries room (suc n) octets is none =
+    let es = entries_in room (suc n) octets in
+    let rest = rest_of (dict_in room (suc n) octets) in
+    let next = entry-behind (value_at room) n tree.no_entries octets es rest is in
+    absurd (some-read (value_at room) n next.0 next.1 es rest next.3 next.2 none)
 
 -- a token that is no head
 pub no-head : (t : Token) → ((n : ℕ) → t ≡ ListOf n → ⊥) → ((n : ℕ) → t ≡ DictOf n → ⊥) → IsLeafToken t

@@ -1,5 +1,5 @@
 //! The entries of a dictionary.
-ghost use Rattle.std.specs.Prelude.{◌≡◌, ℕ, List, IfSome, IfNone, Ok, true};
+ghost use Rattle.std.specs.Prelude.{◌≡◌, ◌↔◌, ℕ, List, IfSome, IfNone, Ok, true};
 ghost use Rattle.message_tree.specs.Data.{Data, Entries, dict, find_entry, no_entries, put};
 ghost use Rattle.msgpack_codec.specs.body.Decoder.{value_at};
 ghost use Rattle.msgpack_cursor.specs.Standing.{dict_in};
@@ -34,7 +34,7 @@ impl<'a> Model for Dictionary<'a> {
 impl<'a> Dictionary<'a> {
     /// Whether it has no entries.
     pub fn is_empty(&self) -> bool
-        ensures { result ≡ true → self.now ≡ no_entries }
+        ensures { result ≡ true ↔ self.now ≡ no_entries }
     {
         self.count == 0
     }

@@ -31,7 +31,8 @@ impl<'a> Model for Elements<'a> {
 impl<'a> Elements<'a> {
     /// The next element.
     pub fn next(&mut self) -> Option<Value<'a>>
-        ensures { MatchOption result (self.old ≡ no_items) (λ v. self.old ≡ item v self.new) }
+        ensures { MatchOption result ((self.old ≡ no_items) × (self.new ≡ no_items))
+            (λ v. self.old ≡ item v self.new) }
     {
         if self.left == 0 {
             return None;

@@ -3,7 +3,9 @@ use Rattle.msgpack_cursor.proofs.Readings.{none-there, there-first, there-more}
 use Rattle.msgpack_cursor.proofs.elements.Elements.next.Goals as goal
 
 pub returns-then-self-eq0 : goal.returns-then-self-eq0
-returns-then-self-eq0 c = sym c.self.view_is ∙ none-there c.self.inside.room c.self.inside.left c.self.inside.octets.now c.if-self-eq0.true
+returns-then-self-eq0 c =
+    let none = sym c.self.view_is ∙ none-there c.self.inside.room c.self.inside.left c.self.inside.octets.now c.if-self-eq0.true in
+    (none, none)
 
 pub unreachable-requires : goal.unreachable-requires
 unreachable-requires c =
