@@ -18,7 +18,7 @@ const KEYS: [&str; 8] = [
 ];
 
 /// How many values stand inside one another in a message.
-const ROOM: u8 = 101;
+pub const ROOM: u8 = 101;
 
 /// What the octets of a message are.
 pub fn look(alloc: Global, octets: &[u8]) -> io::Result<String> {
@@ -47,23 +47,29 @@ pub fn get(alloc: Global, text: &str) -> io::Result<String> {
     }
 }
 
-/// A value that was found: what it is, how many levels it may nest, its octets.
+/// A value that was found: what it is, how many levels it may nest, whether its octets are the shortest, and they themselves.
 fn found(alloc: Global, value: Option<Value>) -> io::Result<String> {
     let Some(value) = value else {
         return line_of(alloc, "none");
     };
     let mut told = String::new(alloc);
     tell(&mut told, &value, ROOM)?;
-    let (octets, room) = value.octets();
-    write!(&mut told, " {room} ")?;
-    spell(&mut told, octets)?;
+    let spelling = value.spelling();
+    let room = spelling.room;
+    let length = if spelling.is_shortest {
+        "shortest"
+    } else {
+        "other"
+    };
+    write!(&mut told, " {room} {length} ")?;
+    spell(&mut told, spelling.octets)?;
     told.push('\n')?;
     Ok(told)
 }
 
 /// Adds a value, and so many values inside one another.
 #[cycle(telling)]
-fn tell(out: &mut String, value: &Value, room: u8) -> io::Result<()> {
+pub fn tell(out: &mut String, value: &Value, room: u8) -> io::Result<()> {
     if room == 0 {
         out.push_str("..")?;
         return Ok(());
@@ -80,9 +86,10 @@ fn tell(out: &mut String, value: &Value, room: u8) -> io::Result<()> {
         Seen::List(elements) => tell_elements(out, elements, room - 1)?,
         Seen::Dict(dictionary) => tell_dictionary(out, &dictionary, room - 1)?,
         Seen::Uncarried => {
-            let (octets, room) = value.octets();
+            let spelling = value.spelling();
+            let room = spelling.room;
             write!(out, "?{room}:")?;
-            hexadecimal(out, octets)?;
+            hexadecimal(out, spelling.octets)?;
         }
     }
     Ok(())
@@ -124,7 +131,8 @@ fn tell_dictionary(out: &mut String, dictionary: &Dictionary, room: u8) -> io::R
     Ok(())
 }
 
-fn separate(out: &mut String, is_first: bool) -> io::Result<()> {
+/// Adds what stands between two of a row.
+pub fn separate(out: &mut String, is_first: bool) -> io::Result<()> {
     if !is_first {
         out.push(',')?;
     }
@@ -132,7 +140,7 @@ fn separate(out: &mut String, is_first: bool) -> io::Result<()> {
 }
 
 /// Adds a text between quotation marks.
-fn quote(out: &mut String, text: &str) -> io::Result<()> {
+pub fn quote(out: &mut String, text: &str) -> io::Result<()> {
     out.push('"')?;
     spell(out, text.as_bytes())?;
     out.push('"')?;

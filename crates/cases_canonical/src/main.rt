@@ -11,13 +11,19 @@
 //! - `look OCTETS`: the message that the octets are, in words (`looking`), where a dictionary is told by what it has at eight keys, and
 //!   is `{..}` where it has only others; or the refusal.
 //! - `get KEY OCTETS`: what the dictionary that the octets are has at a key (`-` is the empty one): the value in words, how many levels
-//!   it may nest, and its octets; or `none`, `no dictionary`, or the refusal.
+//!   it may nest, whether its octets are the shortest that spell it (or `other`), and the octets; or `none`, `no dictionary`, or the
+//!   refusal.
+//! - `unread OCTETS`: the elements of a message, read one by one as far as they come; before them whether they are whole, behind them
+//!   whether that is the end (or there is more), and whether what is left is whole; or `no list`.
+//! - `take KINDS OCTETS`: the next element by each letter: `w` a whole number, `t` a text, `v` any value; behind them the same of what
+//!   is left; or `none` where such an element isn't there, and nothing behind that; or `no list`.
 #![tactic(auto)]
 
 mod canonical;
 mod case;
 mod json;
 mod looking;
+mod reading;
 
 use case::Case;
 use case_text::tell_all;

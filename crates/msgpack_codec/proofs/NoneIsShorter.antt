@@ -430,7 +430,7 @@ keep_fits k v es =
     kept_or_put (λ x. length (entries_short x) ≤ length (short k) + (length (short v) + length (entries_short es))) k v es (omega arith)
     (λ s e. omega (arith, put_fits s v es, length-append (text_head (length s)) s, ap (λ x. length (short x)) e))
 
-keep_count : (k v : tree.Data) (es : tree.Entries) → tree.entry_count (keep_entry k v es) ≤ suc (tree.entry_count es)
+pub keep_count : (k v : tree.Data) (es : tree.Entries) → tree.entry_count (keep_entry k v es) ≤ suc (tree.entry_count es)
 keep_count k v es = kept_or_put (λ x. tree.entry_count x ≤ suc (tree.entry_count es)) k v es (omega arith) (λ s e. put_count s v es)
 
 map_fits : (S : List ℕ → tree.Data → Type 0) (fits : (o : List ℕ) (d : tree.Data) → Low o → S o d → length (short d) ≤ length o) (size : Size) (n m : ℕ) (found : tree.Entries) (texts : Bool) (body : List ℕ)

@@ -15,7 +15,7 @@ use crate::decoder::{number_of, octets_of, signed, size_of, sized};
 use crate::fault::Fault;
 use crate::format::{Form, form_of};
 use crate::shortest::{
-    are, before, is_bytes_head, is_dict_head, is_list_head, is_text_head, is_whole,
+    before, is_bytes_head, is_dict_head, is_list_head, is_one, is_text_head, is_whole,
 };
 use std::cmp::Ordering;
 use thiserror::Error;
@@ -86,9 +86,9 @@ fn is_flag(front: &[u8], flag: bool) -> bool
     ensures { TellsLeaf result true front.now (short (of_flag flag)) }
 {
     if flag {
-        are(front, 0xc3, &[])
+        is_one(front, 0xc3)
     } else {
-        are(front, 0xc2, &[])
+        is_one(front, 0xc2)
     }
 }
 
@@ -140,11 +140,7 @@ fn leaf<'a>(form: Form, all: &'a [u8], octets: &'a [u8]) -> Result<Seen<'a>, Fau
         → IsJudged (leaf_at form octets.entry.now) all.entry.now s.rest.now s.is_shortest) }
 {
     match form {
-        Form::Null => Ok(no_text(
-            octets,
-            Carriage::Carried,
-            are(before(all, octets), 0xc0, &[]),
-        )),
+        Form::Null => Ok(no_text(octets, Carriage::Carried, is_one(before(all, octets), 0xc0))),
         Form::Flag(flag) => {
             let is_shortest = is_flag(before(all, octets), flag);
             Ok(no_text(octets, Carriage::Carried, is_shortest))

@@ -1,5 +1,5 @@
 //! Whether octets are the least that spell a value.
-ghost use Rattle.std.specs.Prelude.{◌≡◌, ◌^◌, ◌<◌, ◌++◌, ◌∷◌, ◌↔◌, ℕ, List, true};
+ghost use Rattle.std.specs.Prelude.{◌≡◌, ◌^◌, ◌<◌, ◌++◌, ◌∷◌, ◌↔◌, [], ℕ, List, true};
 ghost use Rattle.message_tree.specs.Data.{fits_codecs};
 ghost use Rattle.msgpack_codec.specs.Short.{text_head, bytes_head, list_head, dict_head, from_zero, below_zero, whole_short};
 
@@ -11,11 +11,21 @@ pub(crate) fn before<'a>(octets: &'a [u8], after: &[u8]) -> &'a [u8]
 }
 
 /// Whether octets are one, and others behind it.
-pub(crate) fn are(octets: &[u8], first: u8, others: &[u8]) -> bool
+fn are(octets: &[u8], first: u8, others: &[u8]) -> bool
     ensures { result ≡ true ↔ (octets.now ≡ first ∷ others.now) }
 {
     match octets.split_first() {
         Some((found, behind)) => *found == first && behind == others,
+        None => false,
+    }
+}
+
+/// Whether octets are this one.
+pub(crate) fn is_one(octets: &[u8], octet: u8) -> bool
+    ensures { result ≡ true ↔ (octets.now ≡ octet ∷ []) }
+{
+    match octets.split_first() {
+        Some((found, behind)) => *found == octet && behind.is_empty(),
         None => false,
     }
 }
@@ -26,7 +36,7 @@ pub(crate) fn is_text_head(octets: &[u8], len: u64) -> bool
     ensures { result ≡ true ↔ ((len < 2 ^ 32) × (octets.now ≡ text_head len)) }
 {
     if len < 32 {
-        are(octets, 0xa0 + len as u8, &[])
+        is_one(octets, 0xa0 + len as u8)
     } else if len < 0x100 {
         are(octets, 0xd9, &[len as u8])
     } else if len < 0x1_0000 {
@@ -60,7 +70,7 @@ pub(crate) fn is_list_head(octets: &[u8], len: u64) -> bool
     ensures { result ≡ true ↔ ((len < 2 ^ 32) × (octets.now ≡ list_head len)) }
 {
     if len < 16 {
-        are(octets, 0x90 + len as u8, &[])
+        is_one(octets, 0x90 + len as u8)
     } else if len < 0x1_0000 {
         are(octets, 0xdc, &(len as u16).to_be_bytes())
     } else if len < 0x1_0000_0000 {
@@ -76,7 +86,7 @@ pub(crate) fn is_dict_head(octets: &[u8], len: u64) -> bool
     ensures { result ≡ true ↔ ((len < 2 ^ 32) × (octets.now ≡ dict_head len)) }
 {
     if len < 16 {
-        are(octets, 0x80 + len as u8, &[])
+        is_one(octets, 0x80 + len as u8)
     } else if len < 0x1_0000 {
         are(octets, 0xde, &(len as u16).to_be_bytes())
     } else if len < 0x1_0000_0000 {
@@ -92,7 +102,7 @@ fn is_from_zero(octets: &[u8], number: u64) -> bool
     ensures { result ≡ true ↔ (octets.now ≡ from_zero number) }
 {
     if number < 0x80 {
-        are(octets, number as u8, &[])
+        is_one(octets, number as u8)
     } else if number < 0x100 {
         are(octets, 0xcc, &[number as u8])
     } else if number < 0x1_0000 {
@@ -111,7 +121,7 @@ fn is_below_zero(octets: &[u8], below: u64) -> bool
     ensures { result ≡ true ↔ (octets.now ≡ below_zero below) }
 {
     if below < 0x20 {
-        are(octets, 0xff - below as u8, &[])
+        is_one(octets, 0xff - below as u8)
     } else if below < 0x80 {
         are(octets, 0xd0, &[0xff - below as u8])
     } else if below < 0x8000 {

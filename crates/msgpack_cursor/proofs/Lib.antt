@@ -1,1 +1,4 @@
 pub mod Readings
+pub mod Spellings
+pub mod Walking
+pub mod Wholes

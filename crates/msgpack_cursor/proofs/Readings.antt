@@ -37,11 +37,12 @@ pub whole-value : (room : ℕ) (octets : List ℕ) (d : tree.Data) → value_at 
 whole-value room octets d e = e ∙ ap (λ (x : tree.Data). Ok (x, [])) (sym (value-read room octets d [] e))
 
 -- a front that spells a value is that value
-pub front-value : (room : ℕ) (octets front rest : List ℕ) (d : tree.Data) → octets ≡ front ++ rest → Spells room front d → (value_at room octets ≡ Ok (value_in room front, rest)) × IsValue room front
+pub front-value : (room : ℕ) (octets front rest : List ℕ) (d : tree.Data) → octets ≡ front ++ rest → Spells room front d → (value_at room octets ≡ Ok (value_in room front, rest)) × IsValue room front × (d ≡ value_in room front)
 front-value room octets front rest d parts s =
     let alone : value_at room front ≡ Ok (d, []) = ap (value_at room) (sym (append-nil front)) ∙ value_again room front d [] s in (
       ap (value_at room) parts ∙ (value_again room front d rest s ∙ ap (λ (x : tree.Data). Ok (x, rest)) (sym (value-read room front d [] alone))),
       whole-value room front d alone,
+      sym (value-read room front d [] alone),
     )
 
 pub value-spelled : (room : ℕ) (octets : List ℕ) → IsValue room octets → Spells room octets (value_in room octets)
@@ -51,15 +52,15 @@ value-spelled room octets e =
 
 -- ---- the values of a list
 
-abbrev joined : tree.Items → tree.Items → tree.Items
+abbrev pub joined : tree.Items → tree.Items → tree.Items
 joined tree.no_items more = more
 joined (tree.item d ds) more = tree.item d (joined ds more)
 
-joined-push : (found : tree.Items) (d : tree.Data) (more : tree.Items) → joined (push_item found d) more ≡ joined found (tree.item d more)
+pub joined-push : (found : tree.Items) (d : tree.Data) (more : tree.Items) → joined (push_item found d) more ≡ joined found (tree.item d more)
 joined-push tree.no_items d more = refl
 joined-push (tree.item x found) d more = ap (tree.item x) (joined-push found d more)
 
-joined-none : (found : tree.Items) → joined found tree.no_items ≡ found
+pub joined-none : (found : tree.Items) → joined found tree.no_items ≡ found
 joined-none tree.no_items = refl
 joined-none (tree.item x found) = ap (tree.item x) (joined-none found)
 

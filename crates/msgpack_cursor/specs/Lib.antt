@@ -1,3 +1,4 @@
 pub mod Standing
 pub mod Seen
+pub mod Unread
 pub mod body

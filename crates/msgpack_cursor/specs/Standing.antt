@@ -1,6 +1,7 @@
 -- The values that stand in octets one behind the other, by any spelling: what `decode` reads of them.
-use Rattle.std.specs.Prelude.{◌≡◌, ℕ, zero, suc, List, [], true, Ok, Err}
+use Rattle.std.specs.Prelude.{◌≡◌, ℕ, zero, suc, List, [], length, ◌==◌, Bool, true, false, ◌&&◌, Ok, Err}
 use Rattle.message_tree.specs.Data as tree
+use Rattle.msgpack_codec.specs.Written.{IsShortest}
 use Rattle.msgpack_codec.specs.body.Decoder.{Found, value_at, dict_at}
 
 -- what was read; null where nothing was
@@ -36,6 +37,16 @@ unfoldable pub items_in : ℕ → ℕ → List ℕ → tree.Items
 items_in room zero octets = tree.no_items
 items_in room (suc n) octets = tree.item (value_in room octets) (items_in room n (rest_in room octets))
 
+-- whether a value was read
+abbrev pub is_found : Found tree.Data → Bool
+is_found (Ok x) = true
+is_found (Err e) = false
+
+-- whether the octets are so many values, and nothing more
+unfoldable pub is_whole : ℕ → ℕ → List ℕ → Bool
+is_whole room zero octets = length octets == 0
+is_whole room (suc n) octets = is_found (value_at room octets) && is_whole room n (rest_in room octets)
+
 -- so many keys from the front on, each with its value behind it
 abbrev pub dict_in : ℕ → ℕ → List ℕ → Found tree.Data
 dict_in room n octets = dict_at (value_at room) n tree.no_entries true octets
@@ -47,6 +58,10 @@ entries_in room n octets = entries_of (value_of (dict_in room n octets))
 -- the octets are one value
 abbrev pub IsValue : ℕ → List ℕ → Type 0
 IsValue room octets = value_at room octets ≡ Ok (value_in room octets, [])
+
+-- where they are told to be the shortest, they are what `encode` writes for the value
+abbrev pub IsLeast : Bool → ℕ → List ℕ → Type 0
+IsLeast is_shortest room octets = is_shortest ≡ true → IsShortest octets (value_in room octets)
 
 -- so many values stand there
 unfoldable pub AreThere : ℕ → ℕ → List ℕ → Type 0

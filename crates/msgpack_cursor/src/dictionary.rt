@@ -1,11 +1,11 @@
 //! The entries of a dictionary.
-ghost use Rattle.std.specs.Prelude.{◌≡◌, ◌↔◌, ℕ, List, IfSome, IfNone, Ok, true};
+ghost use Rattle.std.specs.Prelude.{◌≡◌, ◌≤◌, ◌↔◌, ℕ, List, IfSome, IfNone, Ok, true};
 ghost use Rattle.message_tree.specs.Data.{Data, Entries, dict, find_entry, no_entries, put};
 ghost use Rattle.msgpack_codec.specs.body.Decoder.{value_at};
 ghost use Rattle.msgpack_cursor.specs.Standing.{dict_in};
 ghost use Rattle.msgpack_cursor.specs.body.Fronts.{IsEntry, IsMap, IsNoEntry};
 
-use crate::front::{front, text_at};
+use crate::front::{first_value, text_at};
 use crate::value::Value;
 use std::marker::Model;
 
@@ -18,6 +18,7 @@ pub struct Dictionary<'a> {
 }
 
 impl<'a> Model for Dictionary<'a> {
+    ghost use Rattle.std.specs.Prelude.{◌≤◌};
     ghost use Rattle.message_tree.specs.Data.{Entries};
     ghost use Rattle.message_tree.specs.Code.{entries_code};
     ghost use Rattle.msgpack_cursor.specs.Standing.{entries_in, IsDictionary};
@@ -28,7 +29,7 @@ impl<'a> Model for Dictionary<'a> {
 
     ghost view = { λ d. entries_in d.room d.count d.octets.now };
 
-    ghost invariant = { λ d. IsDictionary d.room d.count d.octets.now };
+    ghost invariant = { λ d. IsDictionary d.room d.count d.octets.now × (d.room ≤ 100) };
 }
 
 impl<'a> Dictionary<'a> {
@@ -57,13 +58,14 @@ struct Entry<'a> {
 
 /// The key at the front and the value behind it; `None` where the key is no text, or one is missing.
 fn entry_at(octets: &[u8], room: u8) -> Option<Entry<'_>>
+    requires { room ≤ 100 }
     ensures some { IfSome result (λ e. IsEntry (value_at room) octets.now e.key.now e.value e.rest.now) }
     ensures none { IfNone result (IsNoEntry (value_at room) octets.now) }
 {
     let Some((key, rest)) = text_at(octets) else {
         return None;
     };
-    let Some((value, rest)) = front(rest, room) else {
+    let Some((value, rest)) = first_value(rest, room) else {
         return None;
     };
     Some(Entry { key, value, rest })
@@ -71,6 +73,7 @@ fn entry_at(octets: &[u8], room: u8) -> Option<Entry<'_>>
 
 /// Whether each of so many keys is a text.
 pub(crate) fn are_keys_texts(octets: &[u8], count: u64, room: u8) -> bool
+    requires { room ≤ 100 }
     ensures { (d : Data) (rest : List ℕ) → dict_in room count octets.now ≡ Ok (d, rest)
         → IsMap result d }
 {
@@ -98,6 +101,7 @@ fn latest<'a>(found: Option<Value<'a>>, entry: Entry<'a>, key: &str) -> Option<V
 
 /// The value at a key among so many entries.
 fn find<'a>(octets: &'a [u8], count: u64, room: u8, key: &str) -> Option<Value<'a>>
+    requires { room ≤ 100 }
     ensures { (es : Entries) (rest : List ℕ) → dict_in room count octets.entry.now ≡ Ok (dict es, rest)
         → result ≡ find_entry key.now es }
 {

@@ -2,7 +2,7 @@
 ghost use Rattle.std.specs.Prelude.{◌≡◌, MatchOption};
 ghost use Rattle.message_tree.specs.Data.{item, no_items};
 
-use crate::front::front;
+use crate::front::first_value;
 use crate::value::Value;
 use std::marker::Model;
 
@@ -15,6 +15,7 @@ pub struct Elements<'a> {
 }
 
 impl<'a> Model for Elements<'a> {
+    ghost use Rattle.std.specs.Prelude.{◌≤◌};
     ghost use Rattle.message_tree.specs.Data.{Items};
     ghost use Rattle.message_tree.specs.Code.{items_code};
     ghost use Rattle.msgpack_cursor.specs.Standing.{items_in, AreThere};
@@ -25,7 +26,7 @@ impl<'a> Model for Elements<'a> {
 
     ghost view = { λ e. items_in e.room e.left e.octets.now };
 
-    ghost invariant = { λ e. AreThere e.room e.left e.octets.now };
+    ghost invariant = { λ e. AreThere e.room e.left e.octets.now × (e.room ≤ 100) };
 }
 
 impl<'a> Elements<'a> {
@@ -37,7 +38,7 @@ impl<'a> Elements<'a> {
         if self.left == 0 {
             return None;
         }
-        let Some((value, rest)) = front(self.octets, self.room) else {
+        let Some((value, rest)) = first_value(self.octets, self.room) else {
             unreachable!()
         };
         self.octets = rest;

@@ -1,6 +1,6 @@
 //! The value at the front of octets.
-ghost use Rattle.std.specs.Prelude.{◌≡◌, ◌++◌, ℕ, List, IfSome, IfNone, Ok, false};
-ghost use Rattle.message_tree.specs.Data.{Data, text};
+ghost use Rattle.std.specs.Prelude.{◌≡◌, ◌≤◌, ◌++◌, ℕ, ℤ, List, IfSome, IfNone, Ok, false};
+ghost use Rattle.message_tree.specs.Data.{Data, text, whole};
 ghost use Rattle.msgpack_codec.specs.Values.{is_text};
 ghost use Rattle.msgpack_codec.specs.body.Decoder.{value_at};
 ghost use Rattle.msgpack_canonical.specs.body.Fitting.{IsUnread};
@@ -16,15 +16,22 @@ fn before<'a>(octets: &'a [u8], rest: &[u8]) -> &'a [u8]
     octets.split_at(octets.len().saturating_sub(rest.len())).0
 }
 
-/// The value at the front, which nests no more than `room` levels, and the octets after it; `None` where there is none.
-pub(crate) fn front(octets: &[u8], room: u8) -> Option<(Value<'_>, &[u8])>
+/// The value at the front of octets, which nests no more than `room` levels, and the octets after it; `None` where there is none.
+///
+/// `room` is 100 at most.
+pub fn first_value(octets: &[u8], room: u8) -> Option<(Value<'_>, &[u8])>
+    requires { room ≤ 100 }
     ensures some { IfSome result (λ x. value_at room octets.now ≡ Ok (x.0, x.1.now)) }
     ensures none { IfNone result (IsUnread (value_at room octets.now)) }
 {
     match pass(octets, room) {
         Ok(passed) => {
-            let octets = before(octets, passed.rest);
-            Some((Value { octets, room }, passed.rest))
+            let value = Value {
+                octets: before(octets, passed.rest),
+                room,
+                is_shortest: passed.is_shortest,
+            };
+            Some((value, passed.rest))
         }
         Err(_) => None,
     }
@@ -60,5 +67,21 @@ pub(crate) fn text_at(octets: &[u8]) -> Option<(&str, &[u8])>
     match text_of(token) {
         Some(text) => Some((text, rest)),
         None => None,
+    }
+}
+
+/// The whole number at the front, and the octets after it; `None` where another value stands there, or none.
+pub(crate) fn whole_at(octets: &[u8]) -> Option<(i128, &[u8])>
+    ensures some { IfSome result (λ x. (room : ℕ)
+        → value_at room octets.now ≡ Ok (whole x.0, x.1.now)) }
+    ensures none { IfNone result ((room : ℕ) (z : ℤ) (rest : List ℕ)
+        → value_at room octets.now ≡ Ok (whole z, rest) → ⊥) }
+{
+    let Ok((token, rest)) = first_token(octets) else {
+        return None;
+    };
+    match token {
+        Token::Whole(number) => Some((number, rest)),
+        _ => None,
     }
 }

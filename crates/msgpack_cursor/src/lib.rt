@@ -9,9 +9,12 @@ mod dictionary;
 mod elements;
 mod front;
 mod seen;
+mod unread;
 mod value;
 
 pub use dictionary::Dictionary;
 pub use elements::Elements;
+pub use front::first_value;
 pub use seen::Seen;
-pub use value::{Value, message};
+pub use unread::Unread;
+pub use value::{Spelling, Value, message};

@@ -1,7 +1,9 @@
 //! One value.
-ghost use Rattle.std.specs.Prelude.{◌≡◌, IfOk, IfErr, ℕ, List, Ok};
+ghost use Rattle.std.specs.Prelude.{◌≡◌, ◌≤◌, IfOk, IfErr, ℕ, List, Ok, true};
 ghost use Rattle.message_tree.specs.Data.{Data};
+ghost use Rattle.message_tree.specs.View.{view};
 ghost use Rattle.msgpack_codec.specs.Grammar.{IsDeep, IsNoMessage, Spells};
+ghost use Rattle.msgpack_codec.specs.Written.{IsShortest};
 ghost use Rattle.msgpack_codec.specs.body.Tokens.{data_of as token_data};
 ghost use Rattle.msgpack_cursor.specs.Seen.{data_of};
 ghost use Rattle.msgpack_cursor.specs.Standing.{dict_in};
@@ -10,7 +12,9 @@ ghost use Rattle.msgpack_cursor.specs.body.Fronts.{IsReadable};
 use crate::dictionary::{Dictionary, are_keys_texts};
 use crate::elements::Elements;
 use crate::seen::Seen;
-use msgpack_codec::{Refusal, Token, first_token, pass};
+use message_tree::Tree;
+use msgpack_codec::{Fault, Refusal, Token, decode, first_token, pass};
+use std::alloc::{AllocError, Global};
 use std::marker::Model;
 
 /// The most levels that lists and dictionaries nest in a message.
@@ -21,12 +25,25 @@ const ROOM: u8 = 100;
 pub struct Value<'a> {
     pub(crate) octets: &'a [u8],
     pub(crate) room: u8,
+    pub(crate) is_shortest: bool,
+}
+
+/// How a value stands in a message.
+#[derive(Clone, Copy, Debug, Drop)]
+pub struct Spelling<'a> {
+    /// The octets that spell the value.
+    pub octets: &'a [u8],
+    /// How many levels they may nest: at most 100.
+    pub room: u8,
+    /// Whether they are what [`encode`](msgpack_codec::encode) writes for it. Then it is carried.
+    pub is_shortest: bool,
 }
 
 impl<'a> Model for Value<'a> {
     ghost use Rattle.message_tree.specs.Data.{Data};
     ghost use Rattle.message_tree.specs.Code.{data_code};
-    ghost use Rattle.msgpack_cursor.specs.Standing.{value_in, IsValue};
+    ghost use Rattle.std.specs.Prelude.{◌≤◌};
+    ghost use Rattle.msgpack_cursor.specs.Standing.{value_in, IsLeast, IsValue};
 
     ghost Value = { Data };
 
@@ -34,15 +51,38 @@ impl<'a> Model for Value<'a> {
 
     ghost view = { λ v. value_in v.room v.octets.now };
 
-    ghost invariant = { λ v. IsValue v.room v.octets.now };
+    ghost invariant = { λ v. IsValue v.room v.octets.now × (v.room ≤ 100)
+        × IsLeast v.is_shortest v.room v.octets.now };
 }
 
 impl<'a> Value<'a> {
-    /// The octets, and how many levels they may nest.
-    pub fn octets(&self) -> (&'a [u8], u8)
-        ensures { Spells result.1 result.0.now self.now }
+    /// The octets that spell it.
+    pub fn spelling(&self) -> Spelling<'a>
+        ensures spelled { Spells result.room result.octets.now self.now }
+        ensures room { result.room ≤ 100 }
+        ensures shortest { result.is_shortest ≡ true → IsShortest result.octets.now self.now }
     {
-        (self.octets, self.room)
+        Spelling {
+            octets: self.octets,
+            room: self.room,
+            is_shortest: self.is_shortest,
+        }
+    }
+
+    /// Its tree.
+    ///
+    /// # Errors
+    /// [`AllocError`] where a growth was refused.
+    pub fn tree(&self, alloc: Global) -> Result<Tree, AllocError>
+        ensures { IfOk result (λ t. view t ≡ self.now) }
+    {
+        match decode(alloc, self.octets) {
+            Ok(message) => Ok(message.into_tree()),
+            Err(Fault::NoMemory) => Err(AllocError),
+            Err(Fault::TooDeep) => unreachable!(),
+            Err(Fault::Malformed) => unreachable!(),
+            Err(Fault::UncarriedLeaf) => unreachable!(),
+        }
     }
 
     /// What it is.
@@ -80,7 +120,8 @@ fn leaf(token: Token<'_>) -> Seen<'_>
 
 /// So many keys, each with its value behind it: a dictionary, where each key is a text.
 fn map(octets: &[u8], count: u64, room: u8) -> Seen<'_>
-    requires { IsReadable room count octets.now }
+    requires readable { IsReadable room count octets.now }
+    requires room { room ≤ 100 }
     ensures { (d : Data) (rest : List ℕ) → dict_in room count octets.now ≡ Ok (d, rest)
         → data_of result ≡ d }
 {
@@ -112,5 +153,9 @@ pub fn message(octets: &[u8]) -> Result<Value<'_>, Refusal>
     if !passed.rest.is_empty() {
         return Err(Refusal::Malformed);
     }
-    Ok(Value { octets, room: ROOM })
+    Ok(Value {
+        octets,
+        room: ROOM,
+        is_shortest: passed.is_shortest,
+    })
 }

@@ -16,7 +16,7 @@ returns-in-Null-clause-shortest c = λ o begins.
     judged-is _ c.args.all.now _ c.no_text.result.is_shortest tree.null (search rules)
     (λ front parts.
     let ends : c.args.all.now ≡ front ++ c.args.octets.now = rw c.no_text.ensures.rest at parts in
-    let said = rw (c.before-in-Null.ensures front ends) at c.are.ensures in
+    let said = rw (c.before-in-Null.ensures front ends) at c.is_one.ensures in
     rw c.no_text.ensures.shortest (λ t. (refl, said.0 t), λ h e. said.1 e))
 
 pub returns-in-Flag-clause-ok : goal.returns-in-Flag-clause-ok

@@ -1,5 +1,5 @@
-use Rattle.std.proofs.Common.{◌≡◌}
-use Rattle.msgpack_codec.specs.Written.{settled}
+use Rattle.std.proofs.Common.{◌≡◌, subst, arith}
+use Rattle.msgpack_codec.specs.Written.{IsShortest, settled}
 use Rattle.msgpack_cursor.proofs.Readings.{front-value, value-spelled, is-empty, not-empty, none-left, two-values, no-value}
 use Rattle.msgpack_cursor.proofs.value.message.Goals as goal
 
@@ -15,7 +15,8 @@ pub invariant_of-result : goal.invariant_of-result
 invariant_of-result c =
     let p = c.in-Ok.ensures.ok in
     let all : c.args.octets.now ≡ p.front = none-left c.args.octets.now p.front c.in-Ok.passed.rest.now p.parts (is-empty c.in-Ok.passed.rest.now c.if-not-is_empty.ensures) in
-    rw all (front-value 100 c.args.octets.now p.front c.in-Ok.passed.rest.now (settled p.written) p.parts p.spelled).1
+    let v = front-value 100 c.args.octets.now p.front c.in-Ok.passed.rest.now (settled p.written) p.parts p.spelled in
+    rw all (v.1, omega arith, λ is. subst (IsShortest p.front) v.2 (p.least is))
 
 pub returns-clause-ok : goal.returns-clause-ok
-returns-clause-ok c = value-spelled 100 c.args.octets.now (invariant_of-result c)
+returns-clause-ok c = value-spelled 100 c.args.octets.now (invariant_of-result c).0

@@ -9,11 +9,11 @@ returns-then-self-eq0 c =
 
 pub unreachable-requires : goal.unreachable-requires
 unreachable-requires c =
-    let first = there-first c.self.inside.room c.self.inside.left c.self.inside.octets.now c.if-self-eq0.false c.self.invariant in
+    let first = there-first c.self.inside.room c.self.inside.left c.self.inside.octets.now c.if-self-eq0.false c.self.invariant.0 in
     c.in_default.ensures.none _ _ first
 
 pub invariant_of-self : goal.invariant_of-self
-invariant_of-self c = (there-more c.self.inside.room c.self.inside.left c.self.inside.octets.now c.in-Some.value c.in-Some.rest.now c.if-self-eq0.false c.self.invariant c.in-Some.ensures.some).0
+invariant_of-self c = ((there-more c.self.inside.room c.self.inside.left c.self.inside.octets.now c.in-Some.value c.in-Some.rest.now c.if-self-eq0.false c.self.invariant.0 c.in-Some.ensures.some).0, c.self.invariant.1)
 
 pub returns : goal.returns
-returns c = sym c.self.view_is ∙ (there-more c.self.inside.room c.self.inside.left c.self.inside.octets.now c.in-Some.value c.in-Some.rest.now c.if-self-eq0.false c.self.invariant c.in-Some.ensures.some).1
+returns c = sym c.self.view_is ∙ (there-more c.self.inside.room c.self.inside.left c.self.inside.octets.now c.in-Some.value c.in-Some.rest.now c.if-self-eq0.false c.self.invariant.0 c.in-Some.ensures.some).1
