@@ -1,0 +1,4 @@
+pub mod Arguments
+pub mod Endings
+pub mod Reading
+pub mod body
