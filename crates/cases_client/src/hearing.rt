@@ -124,11 +124,11 @@ fn put_text(alloc: Global, words: &mut String, name: &str, text: &Option<Text>) 
 /// Arguments, each behind a space.
 fn args_in_words(alloc: Global, args: &Args) -> io::Result<String> {
     let mut words = String::new(alloc);
-    for content in [args.args(), args.kwargs()] {
+    let arguments = args.decoded(alloc)?;
+    for content in [arguments.args, arguments.kwargs] {
         if let Some(content) = content {
             words.push_str(" ")?;
-            let tree = content.tree().try_copy(alloc)?;
-            words.push_str(tree_json(alloc, tree)?.as_str())?;
+            words.push_str(tree_json(alloc, content.into_tree())?.as_str())?;
         }
     }
     Ok(words)

@@ -1,7 +1,8 @@
 //! A case: the octets of a client, the devices, and the opening of its session.
+use crate::holding::{args, trees};
 use crate::opening::Stream;
 use crate::publishing::{arguments, carried, event, threads};
-use crate::saying::said;
+use crate::saying::{payload, said};
 use crate::telling::{faults, reasons, replies};
 use crate::writing::{frame, frames};
 use case_text::{Table, line_of, number_of, octets_of};
@@ -30,8 +31,11 @@ impl Table for Case {
                 line_of(alloc, line)
             }
             Some(("say", json)) => said(alloc, json),
+            Some(("payload", text)) => payload(alloc, &octets_of(alloc, text)?),
             Some(("event", text)) => event(alloc, text),
             Some(("carried", json)) => carried(alloc, json),
+            Some(("args", text)) => args(alloc, &octets_of(alloc, text)?),
+            Some(("trees", json)) => trees(alloc, json),
             Some(("frames", serializer)) => frames(alloc, serializer),
             Some(("frame", words)) => frame(alloc, words),
             Some(("realms", names)) => self.stream.take_realms(alloc, names),

@@ -1,10 +1,16 @@
-//! Cases of `session`, as lines of standard input; what each is answered by is printed.
+//! Cases of `session` and of `arguments`, as lines of standard input; what each is answered by is printed.
 //!
 //! - `# TEXT` begins a case, and is printed as it stands.
-//! - `say JSON`: what a client's message says.
+//! - `say JSON`: what a client's message says; `payload OCTETS`: the same of one in MessagePack, from its octets, or `differs` where the
+//!   tree that they decode to says something else.
 //! - `event MARKS JSON`: the EVENT that a PUBLISH in JSON gives subscription 1; the
 //!   marks are letters of `dtr`: disclosed, with its topic, retained.
 //! - `carried JSON`: whether the arguments of a PUBLISH are carried, and whether they are taken so.
+//! - `args OCTETS`: the elements of a list in MessagePack as Arguments, or as Arguments and ArgumentsKw: how many they are, whether
+//!   they are carried, and each in JSON; then what is kept of them for the end of a message, in MessagePack and in JSON (`-` where
+//!   nothing is), as they were read, of a copy, and once both were asked for; behind the last two what is put behind the octets
+//!   `ab`, or `uncarried`.
+//! - `trees JSON`: the same of the arguments of a PUBLISH in JSON.
 //! - `arguments`: none, and a list alone.
 //! - `threads`: that what is said and published may be shared between threads.
 //! - `replies`, `reasons`, `faults`: each message of that kind.
@@ -21,6 +27,7 @@
 #![tactic(auto)]
 
 mod case;
+mod holding;
 mod opening;
 mod publishing;
 mod saying;

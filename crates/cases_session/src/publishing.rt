@@ -22,7 +22,7 @@ fn listed(alloc: Global) -> io::Result<String> {
 }
 
 /// The arguments of a PUBLISH in JSON.
-fn args_of(alloc: Global, json: &str) -> Option<Args> {
+pub fn args_of(alloc: Global, json: &str) -> Option<Args> {
     let message = json_codec::decode(alloc, json.as_bytes()).ok()?;
     match read_said(alloc, message).ok()? {
         Said::Publish { args, .. } => Some(args),

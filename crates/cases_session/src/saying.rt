@@ -1,6 +1,7 @@
 //! What a client's message says, in words.
 use message_tree::{Message, Options, Text, Tree};
-use session::{Args, Said, read_said};
+use rawsocket::Serializer;
+use session::{Args, Fault, Said, decode, read_payload, read_said};
 use std::alloc::Global;
 use std::io;
 use wamp_ids::Id;
@@ -8,13 +9,28 @@ use wamp_ids::Id;
 /// What a message in JSON says.
 pub fn said(alloc: Global, json: &str) -> io::Result<String> {
     match json_codec::decode(alloc, json.as_bytes()) {
-        Ok(message) => said_by(alloc, message),
+        Ok(message) => answer(alloc, read_said(alloc, message)),
         Err(fault) => Ok(format!(in alloc; "{fault}\n")?),
     }
 }
 
-fn said_by(alloc: Global, message: Message) -> io::Result<String> {
-    match read_said(alloc, message) {
+/// What the octets of a message in MessagePack say, unless its tree says something else.
+pub fn payload(alloc: Global, octets: &[u8]) -> io::Result<String> {
+    let words = answer(alloc, read_payload(alloc, Serializer::MsgPack, octets))?;
+    let by_tree = answer(alloc, said_by_tree(alloc, octets))?;
+    if words == by_tree {
+        Ok(words)
+    } else {
+        Ok(format!(in alloc; "differs: {words}its tree: {by_tree}")?)
+    }
+}
+
+fn said_by_tree(alloc: Global, octets: &[u8]) -> Result<Said, Fault> {
+    read_said(alloc, decode(alloc, Serializer::MsgPack, octets)?)
+}
+
+fn answer(alloc: Global, said: Result<Said, Fault>) -> io::Result<String> {
+    match said {
         Ok(said) => in_words(alloc, said),
         Err(fault) => Ok(format!(in alloc; "{fault}\n")?),
     }
@@ -93,11 +109,11 @@ fn unsubscribe(alloc: Global, request: Id, subscription: Id) -> io::Result<Strin
 /// Arguments, each behind a space.
 pub fn args_in_words(alloc: Global, args: &Args) -> io::Result<String> {
     let mut words = String::new(alloc);
-    for content in [args.args(), args.kwargs()] {
+    let arguments = args.decoded(alloc)?;
+    for content in [arguments.args, arguments.kwargs] {
         if let Some(content) = content {
             words.push_str(" ")?;
-            let tree = content.tree().try_copy(alloc)?;
-            words.push_str(json_of(alloc, tree)?.as_str())?;
+            words.push_str(json_of(alloc, content.into_tree())?.as_str())?;
         }
     }
     Ok(words)

@@ -65,9 +65,5 @@ fn are_arguments(args: &Args)
     ensures kwargs { is_kwargs_if_any args.now.kwargs ≡ true }
     ensures alone { args.now.args ≡ None → args.now.kwargs ≡ None }
 {
-    match (args.args(), args.kwargs()) {
-        (None, _) => {}
-        (Some(_), None) => {}
-        (Some(_), Some(_)) => {}
-    }
+    args.fit();
 }

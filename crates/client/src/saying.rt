@@ -139,24 +139,21 @@ fn publish(
     let request = number(request.value());
     let options = spent_options(options);
     let topic = spent_text(topic);
-    match (args.args(), args.kwargs()) {
+    let arguments = args.decoded(alloc)?;
+    match (arguments.args, arguments.kwargs) {
         (None, _) => message(vec![in alloc; kind, request, options, topic]?),
         (Some(args), None) => {
-            let args = copy(alloc, args)?;
-            message(vec![in alloc; kind, request, options, topic, args]?)
+            message(vec![in alloc; kind, request, options, topic, args.into_tree()]?)
         }
-        (Some(args), Some(kwargs)) => {
-            let args = copy(alloc, args)?;
-            let kwargs = copy(alloc, kwargs)?;
-            message(vec![in alloc; kind, request, options, topic, args, kwargs]?)
-        }
+        (Some(args), Some(kwargs)) => message(vec![in alloc;
+            kind,
+            request,
+            options,
+            topic,
+            args.into_tree(),
+            kwargs.into_tree(),
+        ]?),
     }
-}
-
-fn copy(alloc: Global, content: &Content) -> Result<Tree, AllocError>
-    ensures ok { IfOk result (λ t. view t ≡ content.now) }
-{
-    content.tree().try_copy(alloc)
 }
 
 /// [SUBSCRIBE, Request, Options, Topic]

@@ -136,28 +136,25 @@ fn put_arguments(alloc: Global, dict: &mut Dict, args: &Args) -> Result<(), Allo
     if !args.is_carried() {
         return put(alloc, dict, "uncarried", Tree::Flag(true));
     }
-    put_content(alloc, dict, "kwargs", args.kwargs())?;
-    put_content(alloc, dict, "args", args.args())
+    let arguments = args.decoded(alloc)?;
+    put_content(alloc, dict, "kwargs", arguments.kwargs)?;
+    put_content(alloc, dict, "args", arguments.args)
 }
 
 fn put_content(
     alloc: Global,
     dict: &mut Dict,
     key: &str,
-    content: Option<&Content>,
+    content: Option<Content>,
 ) -> Result<(), AllocError>
-    ensures set { OnOk result (dict_view dict.new
-        ≡ put_some key.now (option_copied content.entry) (dict_view dict.old)) }
-    ensures carried { OnOk result (is_carried_if_any (option_copied content.entry) ≡ true
+    ensures set { OnOk result (dict_view dict.new ≡ put_some key.now content (dict_view dict.old)) }
+    ensures carried { OnOk result (is_carried_if_any content ≡ true
         → entries_carried (dict_view dict.old) ≡ true
         → entries_carried (dict_view dict.new) ≡ true) }
 {
     match content {
         None => Ok(()),
-        Some(content) => {
-            let value = content.tree().try_copy(alloc)?;
-            put(alloc, dict, key, value)
-        }
+        Some(content) => put(alloc, dict, key, content.into_tree()),
     }
 }
 

@@ -15,23 +15,8 @@ use Rattle.session.specs.declared.fault.Fault.{Fault}
 use Rattle.session.specs.declared.fault.Fault.TheVariants.{Shape}
 use Rattle.session.specs.declared.messages.said.Said as session
 use Rattle.session.specs.declared.messages.said.Said.TheVariants.{Abort, Goodbye}
-
--- a payload is a message of a client, which says this
-pub record Says (s : Serializer) (payload : List ℕ) (said : session.Said) : Type 0 where
-  pub message : Data
-  pub decodes : Decodes s payload message
-  pub says : said_of message ≡ Some said
-
--- it is a message, but of no client
-pub record HasNoShape (s : Serializer) (payload : List ℕ) : Type 0 where
-  pub message : Data
-  pub decodes : Decodes s payload message
-  pub says : said_of message ≡ None
-
--- it says nothing, for this fault
-abbrev pub SaysNothing : Serializer → List ℕ → Fault → Type 0
-SaysNothing s payload Shape = HasNoShape s payload
-SaysNothing s payload fault = IsUndecodable s payload fault
+-- what a payload says
+pub use Rattle.session.specs.Says.{Says, HasNoShape, SaysNothing}
 
 -- after it a client says no more
 abbrev pub is_farewell : session.Said → Bool

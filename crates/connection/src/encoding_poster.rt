@@ -40,18 +40,21 @@ impl<S: Shut, P: Posting<S>> Posting<S> for EncodingPoster<'_, P> {
     }
 }
 
-// The same act.
+// The same act. MessagePack's octets are what arguments are held as, so only JSON's are made.
 fn encoded<S: Shut>(alloc: Global, in_use: &InUse, act: Act<S>) -> Act<S>
     ensures { result ≡ act }
 {
+    if !in_use.is_shared(Serializer::Json) {
+        return act;
+    }
     match act {
-        Act::Said(said) => Act::Said(encoded_said(alloc, in_use, said)),
+        Act::Said(said) => Act::Said(encoded_said(alloc, said)),
         other => other,
     }
 }
 
 // What was said, the same.
-fn encoded_said(alloc: Global, in_use: &InUse, said: Said) -> Said
+fn encoded_said(alloc: Global, said: Said) -> Said
     ensures { result ≡ said }
 {
     match said {
@@ -64,7 +67,7 @@ fn encoded_said(alloc: Global, in_use: &InUse, said: Said) -> Said
             let args = if is_retained(&options) {
                 args
             } else {
-                encoded_args(alloc, in_use, args)
+                args.encoded(alloc, Serializer::Json)
             };
             Said::Publish {
                 request,
@@ -80,26 +83,4 @@ fn encoded_said(alloc: Global, in_use: &InUse, said: Said) -> Said
 // Whether a PUBLISH with these options, where it is accepted, is retained.
 fn is_retained(options: &Options) -> bool {
     matches!(options.get("retain"), Some(Tree::Flag(true)))
-}
-
-// The same arguments, encoded for each serialization that is shared, unless there are none.
-fn encoded_args(alloc: Global, in_use: &InUse, args: Args) -> Args
-    ensures { result ≡ args }
-{
-    if args.args().is_none() {
-        return args;
-    }
-    let args = encoded_for(alloc, in_use, Serializer::Json, args);
-    encoded_for(alloc, in_use, Serializer::MsgPack, args)
-}
-
-// The same arguments, encoded for a serialization where it is shared.
-fn encoded_for(alloc: Global, in_use: &InUse, serializer: Serializer, args: Args) -> Args
-    ensures { result ≡ args }
-{
-    if in_use.is_shared(serializer) {
-        args.encoded(alloc, serializer)
-    } else {
-        args
-    }
 }

@@ -11,7 +11,7 @@ use message_tree::Octets;
 use rawsocket::devices::{NoOctets, PIECE, Source, Turns, read_piece};
 use rawsocket::{Deframer, Frame, Kind, Serializer};
 use realm_inbox::{Act, Posting, Shut};
-use session::{Fault, Opened, Said, decode, read_said};
+use session::{Fault, Opened, Said, read_payload};
 use std::alloc::Global;
 use std::collections::VecDeque;
 use std::sync::Wait;
@@ -57,18 +57,6 @@ fn is_last(said: &Said) -> bool
     matches!(said, Said::Abort | Said::Goodbye)
 }
 
-// What a payload says.
-fn read_message(alloc: Global, serializer: Serializer, payload: &[u8]) -> Result<Said, Fault>
-    ensures ok { IfOk result (λ said. Says serializer payload.now said) }
-    ensures bad { IfErr result (λ f. f ≢ Fault.NoMemory → SaysNothing serializer payload.now f) }
-{
-    let message = match decode(alloc, serializer, payload) {
-        Ok(message) => message,
-        Err(fault) => return Err(fault),
-    };
-    read_said(alloc, message)
-}
-
 // Lets go of an act that came back.
 fn let_go<S: Shut>(_back: Act<S>) {}
 
@@ -100,7 +88,7 @@ fn post_message<R: Wait, S: Shut, P: Posting<S>>(
         (batch (record { kind = Kind.Message; payload = payload.now } ∷ []) None)
         (P.posted poster.old) (P.posted poster.new) result }
 {
-    let said = match read_message(alloc, serializer, payload) {
+    let said = match read_payload(alloc, serializer, payload) {
         Ok(said) => said,
         Err(Fault::NoMemory) => return Err(ReadEnd::NoMemory),
         Err(fault) => {

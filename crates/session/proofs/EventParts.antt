@@ -8,7 +8,7 @@ use Rattle.rawsocket.specs.declared.handshake.Serializer.TheVariants.{Json, MsgP
 use Rattle.session.specs.Arguments.{last_items}
 use Rattle.session.specs.ToClient.{number, event, event_details, put_if}
 use Rattle.session.specs.Serializer.{serialized}
-use Rattle.session.specs.body.EncodedArguments.{IsTail}
+use Rattle.arguments.specs.Endings.{IsEnding}
 use Rattle.session.specs.body.EventHead.{event_front}
 use Rattle.session.specs.body.SerializedParts.{has_spelling, list_opening, list_closing, separator, further}
 use Rattle.session.specs.declared.messages.item.Publication.{Publication}
@@ -34,7 +34,7 @@ joined : (opened type sep n m details rest closed : List ℕ)
 joined opened type sep n m details rest closed = simp append_assoc
 
 -- what stands before the arguments, the arguments, and the end of the list
-pub event_octets : (s : Serializer) (subscription : ℕ) (p : Publication) (tail : List ℕ) → IsTail s p.args tail → p.disclosed ≡ false
+pub event_octets : (s : Serializer) (subscription : ℕ) (p : Publication) (tail : List ℕ) → IsEnding s p.args tail → p.disclosed ≡ false
     → event_front s (4 + item_count (last_items p.args.args p.args.kwargs)) subscription p.id ++ (tail ++ list_closing s) ≡ serialized s (event subscription p false false)
 event_octets s subscription p tail t plain =
     let rest = last_items p.args.args p.args.kwargs in
@@ -54,13 +54,13 @@ few None k = refl
 few (Some a) None = refl
 few (Some a) (Some k) = refl
 
-spelled_of : (s : Serializer) (p : Publication) (subscription : ℕ) (tail : List ℕ) → IsTail s p.args tail
+spelled_of : (s : Serializer) (p : Publication) (subscription : ℕ) (tail : List ℕ) → IsEnding s p.args tail
     → has_spelling s (list (item (number 36) (item (number subscription) (item (number p.id) (item (dict no_entries) (last_items p.args.args p.args.kwargs)))))) ≡ true
 spelled_of Json p subscription tail t = refl
 spelled_of MsgPack p subscription tail t = rw (few p.args.args p.args.kwargs) t.spelled
 
 -- it has a spelling, where its arguments have one
-pub event_is_spelled : (s : Serializer) (subscription : ℕ) (p : Publication) (tail : List ℕ) → IsTail s p.args tail → p.disclosed ≡ false → has_spelling s (event subscription p false false) ≡ true
+pub event_is_spelled : (s : Serializer) (subscription : ℕ) (p : Publication) (tail : List ℕ) → IsEnding s p.args tail → p.disclosed ≡ false → has_spelling s (event subscription p false false) ≡ true
 event_is_spelled s subscription p tail t plain =
     let rest = last_items p.args.args p.args.kwargs in
     subst (λ es. has_spelling s (list (item (number 36) (item (number subscription) (item (number p.id) (item (dict es) rest))))) ≡ true) (sym (no_details p plain)) (spelled_of s p subscription tail t)

@@ -6,13 +6,12 @@ use Rattle.message_tree.proofs.shared.Shared.TheSendSync as shared_law
 use Rattle.message_tree.specs.contracts.shared.Shared as shared
 use Rattle.eligibility.proofs.who.Who.TheSendSync as who_law
 use Rattle.eligibility.specs.contracts.lists.Lists as lists
-use Rattle.session.specs.contracts.messages.args.Args as args
-use Rattle.session.specs.contracts.messages.args.CarriedArgs as carried
 use Rattle.session.specs.contracts.messages.item.Item as item
 use Rattle.session.specs.contracts.messages.item.Publication as publication
 use Rattle.session.specs.contracts.messages.said.Said as said
 use Rattle.wamp_ids.specs.contracts.topic.Topic as topic
-use Rattle.message_tree.proofs.SendLemmas.{content_send, content_sync, options_send, options_sync, text_send, text_sync, octets_send, octets_sync}
+pub use Rattle.arguments.proofs.SendLemmas.{args_send, args_sync, carried_send, carried_sync}
+use Rattle.message_tree.proofs.SendLemmas.{options_send, options_sync, text_send, text_sync, octets_send, octets_sync}
 
 lists_send : IsSend lists.the_row
 lists_send = search (maps, crosses, sendable) depth 60 fits 20000
@@ -25,18 +24,6 @@ topic_send = search (maps, crosses, sendable) depth 60 fits 20000
 
 topic_sync : IsSync topic.the_row
 topic_sync = search (maps, crosses, sendable) depth 60 fits 20000
-
-pub args_send : IsSend args.the_row
-args_send = search (content_send, octets_send, crosses, sendable) depth 60 fits 20000
-
-pub args_sync : IsSync args.the_row
-args_sync = search (content_sync, octets_sync, crosses, sendable) depth 60 fits 20000
-
-pub carried_send : IsSend carried.the_row
-carried_send = search (args_send, sendable) depth 60 fits 20000
-
-pub carried_sync : IsSync carried.the_row
-carried_sync = search (args_sync, sendable) depth 60 fits 20000
 
 pub publication_send : IsSend publication.the_row
 publication_send = search (who_law.the_field_send, lists_send, topic_send, carried_send, sendable) depth 60 fits 20000

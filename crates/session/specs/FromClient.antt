@@ -2,10 +2,12 @@
 use Rattle.std.specs.Prelude.{◌≡◌, ◌⊎◌, ⊤, ℕ, ℤ, pos, negsuc, ◌&&◌, nat_lt, List, codes, None, Some, if◌then◌else◌}
 use Rattle.std.specs.declared.option.Option.{Option}
 use Rattle.std.specs.Option.{option_map}
-use Rattle.message_tree.specs.Data.{Data, null, whole, text, list, dict, uncarried, Items, no_items, item, Entries, no_entries, find_entry}
+use Rattle.message_tree.specs.Data.{Data, null, whole, text, list, dict, Items, no_items, item, Entries, find_entry}
 use Rattle.eligibility.specs.Options.{number_of, text_of}
 use Rattle.eligibility.specs.Lists.{is_number}
 use Rattle.session.specs.Arguments.{Arguments}
+-- what Arguments and ArgumentsKw are read as
+pub use Rattle.arguments.specs.Reading.{args_of, kwargs_of, with_args, with_both}
 use Rattle.session.specs.declared.fault.Fault.{Fault}
 use Rattle.session.specs.declared.fault.Fault.TheVariants as fault
 use Rattle.session.specs.declared.messages.said.Said.{Said}
@@ -23,20 +25,6 @@ id_among (negsuc n) = None
 abbrev pub id_of : Data → Option ℕ
 id_of (whole z) = id_among z
 id_of _ = None
-
--- null is read as the empty list
-abbrev pub args_of : Data → Option Data
-args_of null = Some (list no_items)
-args_of (list ds) = Some (list ds)
-args_of uncarried = Some uncarried
-args_of _ = None
-
--- null is read as the empty dictionary
-abbrev pub kwargs_of : Data → Option Data
-kwargs_of null = Some (dict no_entries)
-kwargs_of (dict es) = Some (dict es)
-kwargs_of uncarried = Some uncarried
-kwargs_of _ = None
 
 -- a text, or no text where it is absent or null
 abbrev pub text_or_none : Option Data → Option (Option (List ℕ))
@@ -62,14 +50,6 @@ last (item d ds) y = None
 abbrev pub IsMore : Items → Type 0
 IsMore no_items = ⊥
 IsMore (item d ds) = ⊤
-
-abbrev pub with_args : Option Data → Option Arguments
-with_args None = None
-with_args (Some a) = Some (record { args = Some a; kwargs = None })
-
-abbrev pub with_both : Option Data → Option Data → Option Arguments
-with_both (Some a) (Some k) = Some (record { args = Some a; kwargs = Some k })
-with_both _ _ = None
 
 -- (Arguments, (ArgumentsKw))
 abbrev pub arguments_of : Items → Option Arguments

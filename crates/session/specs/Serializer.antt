@@ -2,13 +2,13 @@
 use Rattle.std.specs.Prelude.{◌≤◌, ℕ, List}
 use Rattle.message_tree.specs.Data.{Data, depth}
 use Rattle.json_codec.specs.Decoder.{Reads, IsTooDeep, IsUnreadable}
-use Rattle.json_codec.specs.Encoder.{json_text}
 use Rattle.msgpack_codec.specs.Grammar.{Spells, IsDeep, IsNoMessage}
-use Rattle.msgpack_codec.specs.Short.{short}
 use Rattle.rawsocket.specs.declared.handshake.Serializer.{Serializer}
 use Rattle.rawsocket.specs.declared.handshake.Serializer.TheVariants.{Json, MsgPack}
 use Rattle.session.specs.declared.fault.Fault.{Fault}
 use Rattle.session.specs.declared.fault.Fault.TheVariants.{TooDeep, Malformed}
+-- the octets that a message is written as
+pub use Rattle.arguments.specs.Endings.{serialized}
 
 -- the octets are this message
 abbrev pub Decodes : Serializer → List ℕ → Data → Type 0
@@ -23,8 +23,3 @@ IsUndecodable Json octets _ = ⊥
 IsUndecodable MsgPack octets TooDeep = IsDeep 100 octets
 IsUndecodable MsgPack octets Malformed = IsNoMessage octets
 IsUndecodable MsgPack octets _ = ⊥
-
--- the octets that a message is written as
-abbrev pub serialized : Serializer → Data → List ℕ
-serialized Json d = json_text d
-serialized MsgPack d = short d

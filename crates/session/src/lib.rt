@@ -11,10 +11,10 @@ mod messages;
 mod opening;
 mod wire;
 
+pub use arguments::{Args, CarriedArgs, Decoded};
 pub use eligibility::{Lists, Who};
 pub use fault::Fault;
-pub use messages::args::{Args, CarriedArgs};
-pub use messages::from_client::read_said;
+pub use messages::from_client::{read_payload, read_said};
 pub use messages::item::{Item, Publication, Reason, Request};
 pub use messages::said::Said;
 pub use messages::to_client::item_message;

@@ -1,9 +1,10 @@
 //! The messages of a session, as types and as trees.
 
-pub(crate) mod args;
 pub(crate) mod details;
 pub(crate) mod elements;
 pub(crate) mod from_client;
 pub(crate) mod item;
+pub(crate) mod octet_elements;
 pub(crate) mod said;
 pub(crate) mod to_client;
+pub(crate) mod tree_elements;

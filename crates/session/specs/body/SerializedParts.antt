@@ -1,39 +1,27 @@
 -- Lists and dictionaries in either serialization, part by part.
 use Rattle.std.specs.Prelude.{ℕ, List, [], ◌∷◌, ◌++◌, Bool, true, cond}
-use Rattle.message_tree.specs.Data.{Data, text, Items, no_items, item, Entries, no_entries, entry}
-use Rattle.msgpack_codec.specs.Short.{list_head, dict_head, has_short, items_have_short, entries_have_short}
+use Rattle.message_tree.specs.Data.{Data, text, Entries, no_entries, entry}
+use Rattle.msgpack_codec.specs.Short.{list_head, dict_head, has_short, entries_have_short}
 use Rattle.rawsocket.specs.declared.handshake.Serializer.{Serializer}
 use Rattle.rawsocket.specs.declared.handshake.Serializer.TheVariants.{Json, MsgPack}
 use Rattle.session.specs.Serializer.{serialized}
+-- what stands between two members of a list, further members, and whether they have a spelling
+pub use Rattle.arguments.specs.Endings.{separator, further, items_have_spelling}
 
 -- the serialization has a spelling for it: MessagePack counts octets and members in four octets at most
 abbrev pub has_spelling : Serializer → Data → Bool
 has_spelling Json d = true
 has_spelling MsgPack d = has_short d
 
-abbrev pub items_have_spelling : Serializer → Items → Bool
-items_have_spelling Json ds = true
-items_have_spelling MsgPack ds = items_have_short ds
-
 -- what stands before the first of so many members of a list
 abbrev pub list_opening : Serializer → ℕ → List ℕ
 list_opening Json n = 91 ∷ []
 list_opening MsgPack n = list_head n
 
--- what stands between two members
-abbrev pub separator : Serializer → List ℕ
-separator Json = 44 ∷ []
-separator MsgPack = []
-
 -- what stands behind the last member of a list
 abbrev pub list_closing : Serializer → List ℕ
 list_closing Json = 93 ∷ []
 list_closing MsgPack = []
-
--- further members of a list, each behind a separator
-abbrev pub further : Serializer → Items → List ℕ
-further s no_items = []
-further s (item d ds) = separator s ++ (serialized s d ++ further s ds)
 
 -- what stands before the first of so many entries of a dictionary
 abbrev pub dict_opening : Serializer → ℕ → List ℕ

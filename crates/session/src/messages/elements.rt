@@ -1,132 +1,97 @@
 //! The elements of a client's message, one after another.
-ghost use Rattle.std.specs.Prelude.{◌≡◌, ◌≤◌, ℕ, ℤ, IfOk, OnErr, IfErr, OnOk, IfSome, MatchOption, None, Some};
-ghost use Rattle.message_tree.specs.Data.{item, no_items, text, dict, whole, depth, items_depth};
-ghost use Rattle.message_tree.specs.View.{view, items_view};
+//!
+//! Whether octets are a message is known once its last element is read: until then, what is wrong with an element may be that it
+//! isn't there. So each call says that what is left is whole where what was left before it was, and answers for a wrong shape only
+//! of what is whole.
+ghost use Rattle.std.specs.Prelude.{◌≡◌, ℕ, Bool, List, IfOk, IfErr, OnOk, OnErr, None, Some, true, false, codes};
+ghost use Rattle.message_tree.specs.Data.{Items, Entries, no_items, find_entry};
 ghost use Rattle.eligibility.specs.Options.{number_of, text_of};
-ghost use Rattle.session.specs.FromClient.{first, dict_of, id_of, id_among, IsMore};
+ghost use Rattle.session.specs.FromClient.{IsMore, IsReadFault, arguments_of, dict_of, first, id_of, text_or_none};
 
 use crate::fault::Fault;
-use message_tree::{Options, Text, Tree};
-use std::collections::VecDeque;
-use std::marker::Model;
+use arguments::Args;
+use message_tree::{Options, Text};
+use std::alloc::Global;
 use wamp_ids::Id;
 
 /// The elements of a message that aren't read yet.
-#[derive(Drop)]
-pub(crate) struct Elements {
-    rest: VecDeque<Tree>,
-}
+pub(crate) trait Elements: Drop {
+    /// Their data.
+    ghost items: { Self → Items };
 
-impl Model for Elements {
-    ghost use Rattle.std.specs.Prelude.{◌≤◌};
-    ghost use Rattle.message_tree.specs.Data.{Items, items_depth};
-    ghost use Rattle.message_tree.specs.Code.{items_code};
-    ghost use Rattle.message_tree.specs.View.{items_view};
-
-    ghost Value = { Items };
-
-    ghost coded = { items_code };
-
-    ghost view = { λ e. items_view e.rest.items };
-
-    ghost invariant = { λ e. items_depth (items_view e.rest.items) ≤ 99 };
-}
-
-impl Elements {
-    /// All of them.
-    pub fn of(trees: Vec<Tree>) -> Elements
-        requires { items_depth (items_view trees.items) ≤ 99 }
-        ensures { result ≡ items_view trees.items }
-    {
-        Elements {
-            rest: VecDeque::from_vec(trees),
-        }
-    }
-
-    /// The next element.
-    pub fn next(&mut self) -> Option<Tree>
-        ensures first { MatchOption result (self.old ≡ no_items)
-            (λ t. self.old ≡ item (view t) self.new) }
-        ensures bounded { IfSome result (λ t. depth (view t) ≤ 99) }
-    {
-        self.rest.pop_front()
-    }
-
-    /// The next element, a text.
-    pub fn text(&mut self) -> Result<Text, Fault>
-        ensures ok { IfOk result (λ t. first text_of self.old ≡ Some (t, self.new)) }
-        ensures err { OnErr result (first text_of self.old ≡ None) }
-        ensures fault { IfErr result (λ fault. fault ≡ Fault.Shape) }
-    {
-        match self.next() {
-            Some(Tree::Text(text)) => Ok(Text::from_string(text)),
-            _ => Err(Fault::Shape),
-        }
-    }
-
-    /// The next element, a dictionary.
-    pub fn dict(&mut self) -> Result<Options, Fault>
-        ensures ok { IfOk result (λ o. first dict_of self.old ≡ Some (o, self.new)) }
-        ensures err { OnErr result (first dict_of self.old ≡ None) }
-        ensures fault { IfErr result (λ fault. fault ≡ Fault.Shape) }
-    {
-        match self.next() {
-            Some(Tree::Dict(dict)) => Ok(Options::of(dict)),
-            _ => Err(Fault::Shape),
-        }
-    }
+    /// Whether they are all there, with nothing behind them.
+    ghost is_whole: { Self → Bool };
 
     /// The next element, a whole number that a serialization carries.
-    pub fn number(&mut self) -> Result<i128, Fault>
-        ensures ok { IfOk result (λ z. first number_of self.old ≡ Some (z, self.new)) }
-        ensures err { OnErr result (first number_of self.old ≡ None) }
-        ensures fault { IfErr result (λ fault. fault ≡ Fault.Shape) }
-    {
-        let Some(tree) = self.next() else {
-            return Err(Fault::Shape);
-        };
-        let is_carried = tree.is_carried();
-        match tree {
-            Tree::Whole(number) if is_carried => Ok(number),
-            _ => Err(Fault::Shape),
-        }
-    }
+    fn number(&mut self) -> Result<i128, Fault>
+        ensures ok { IfOk result (λ z. first number_of (items self.old) ≡ Some (z, items self.new)) }
+        ensures whole { OnOk result (is_whole self.new ≡ is_whole self.old) }
+        ensures bad { OnErr result (is_whole self.old ≡ true → first number_of (items self.old) ≡ None) }
+        ensures fault { IfErr result (λ fault. fault ≡ Fault.Shape) };
 
     /// The next element, an id.
-    pub fn id(&mut self) -> Result<Id, Fault>
-        ensures ok { IfOk result (λ id. first id_of self.old ≡ Some (id, self.new)) }
-        ensures err { OnErr result (first id_of self.old ≡ None) }
-        ensures fault { IfErr result (λ fault. fault ≡ Fault.Shape) }
-    {
-        match self.next() {
-            Some(Tree::Whole(number)) => id_among(number),
-            _ => Err(Fault::Shape),
-        }
-    }
+    fn id(&mut self) -> Result<Id, Fault>
+        ensures ok { IfOk result (λ id. first id_of (items self.old) ≡ Some (id, items self.new)) }
+        ensures whole { OnOk result (is_whole self.new ≡ is_whole self.old) }
+        ensures bad { OnErr result (is_whole self.old ≡ true → first id_of (items self.old) ≡ None) }
+        ensures fault { IfErr result (λ fault. fault ≡ Fault.Shape) };
+
+    /// The next element, a text.
+    fn text(&mut self, alloc: Global) -> Result<Text, Fault>
+        ensures ok { IfOk result (λ t. first text_of (items self.old) ≡ Some (t, items self.new)) }
+        ensures whole { OnOk result (is_whole self.new ≡ is_whole self.old) }
+        ensures bad { result ≡ Err Fault.Shape → is_whole self.old ≡ true → first text_of (items self.old) ≡ None }
+        ensures faults { IfErr result IsReadFault };
+
+    /// The next element, a text that nobody asks for.
+    fn pass_text(&mut self) -> Result<(), Fault>
+        ensures ok { OnOk result ((t : List ℕ) × (first text_of (items self.old) ≡ Some (t, items self.new))) }
+        ensures whole { OnOk result (is_whole self.new ≡ is_whole self.old) }
+        ensures bad { OnErr result (is_whole self.old ≡ true → first text_of (items self.old) ≡ None) }
+        ensures fault { IfErr result (λ fault. fault ≡ Fault.Shape) };
+
+    /// The next element, a dictionary.
+    fn options(&mut self, alloc: Global) -> Result<Options, Fault>
+        ensures ok { IfOk result (λ o. first dict_of (items self.old) ≡ Some (o, items self.new)) }
+        ensures whole { OnOk result (is_whole self.new ≡ is_whole self.old) }
+        ensures bad { result ≡ Err Fault.Shape → is_whole self.old ≡ true → first dict_of (items self.old) ≡ None }
+        ensures faults { IfErr result IsReadFault };
+
+    /// The next element, a dictionary that nobody asks for.
+    fn pass_dict(&mut self) -> Result<(), Fault>
+        ensures ok { OnOk result ((es : Entries) × (first dict_of (items self.old) ≡ Some (es, items self.new))) }
+        ensures whole { OnOk result (is_whole self.new ≡ is_whole self.old) }
+        ensures bad { OnErr result (is_whole self.old ≡ true → first dict_of (items self.old) ≡ None) }
+        ensures fault { IfErr result (λ fault. fault ≡ Fault.Shape) };
+
+    /// What the next element, a dictionary, has at `authid`: a text, null, or nothing.
+    fn authid(&mut self, alloc: Global) -> Result<Option<Text>, Fault>
+        ensures ok { IfOk result (λ t. (es : Entries)
+            × (first dict_of (items self.old) ≡ Some (es, items self.new))
+            × (text_or_none (find_entry (codes "authid") es) ≡ Some t)) }
+        ensures whole { OnOk result (is_whole self.new ≡ is_whole self.old) }
+        ensures bad { result ≡ Err Fault.Shape → is_whole self.old ≡ true → (es : Entries) (rest : Items)
+            → first dict_of (items self.old) ≡ Some (es, rest)
+            → text_or_none (find_entry (codes "authid") es) ≡ None }
+        ensures faults { IfErr result IsReadFault };
 
     /// That nothing is left.
-    pub fn end(&mut self) -> Result<(), Fault>
-        ensures ok { OnOk result (self.old ≡ no_items) }
-        ensures err { OnErr result (IsMore self.old) }
-        ensures fault { IfErr result (λ fault. fault ≡ Fault.Shape) }
-    {
-        match self.next() {
-            None => Ok(()),
-            Some(_) => Err(Fault::Shape),
-        }
-    }
-}
+    fn end(&mut self) -> Result<(), Fault>
+        ensures ok { OnOk result (items self.old ≡ no_items) }
+        ensures whole { OnOk result (is_whole self.old ≡ true) }
+        ensures bad { OnErr result (is_whole self.old ≡ true → IsMore (items self.old)) }
+        ensures fault { IfErr result (λ fault. fault ≡ Fault.Shape) };
 
-fn id_among(number: i128) -> Result<Id, Fault>
-    ensures ok { IfOk result (λ id. id_among number ≡ Some id) }
-    ensures err { OnErr result (id_among number ≡ None) }
-    ensures fault { IfErr result (λ fault. fault ≡ Fault.Shape) }
-{
-    if number < 0 || number > u64::MAX as i128 {
-        return Err(Fault::Shape);
-    }
-    match Id::new(number as u64) {
-        Ok(id) => Ok(id),
-        Err(_) => Err(Fault::Shape),
-    }
+    /// That what is left is whole. It is passed over.
+    fn pass_rest(self) -> Result<(), Fault>
+        ensures whole { OnOk result (is_whole self ≡ true) }
+        ensures bad { OnErr result (is_whole self ≡ false) }
+        ensures fault { IfErr result (λ fault. fault ≡ Fault.Shape) };
+
+    /// Arguments and ArgumentsKw, as far as they are there; nothing may stand behind them.
+    fn arguments(self, alloc: Global) -> Result<Args, Fault>
+        ensures ok { IfOk result (λ a. arguments_of (items self) ≡ Some a) }
+        ensures whole { OnOk result (is_whole self ≡ true) }
+        ensures bad { result ≡ Err Fault.Shape → is_whole self ≡ true → arguments_of (items self) ≡ None }
+        ensures faults { IfErr result IsReadFault };
 }

@@ -1,18 +1,22 @@
 //! From a message to what its client says.
-ghost use Rattle.std.specs.Prelude.{◌≡◌, ◌≤◌, IfOk, IfErr, OnErr, None, Some, option_map, true};
-ghost use Rattle.message_tree.specs.Data.{find_entry, depth as depth_of};
-ghost use Rattle.message_tree.specs.View.{view};
+ghost use Rattle.std.specs.Prelude.{◌≡◌, ◌≢◌, IfOk, IfErr, OnOk, None, Some, true};
 ghost use Rattle.message_tree.specs.Meaning.{meaning};
 ghost use Rattle.eligibility.specs.Lists.{is_number};
-ghost use Rattle.session.specs.Arguments.{is_args, is_kwargs};
-ghost use Rattle.session.specs.FromClient.{IsReadFault, said_of, said_in, said_by, hello, ending, publish, subscribe, unsubscribe, arguments_of, text_or_none, args_of, kwargs_of};
+ghost use Rattle.session.specs.FromClient.{IsReadFault, said_of, said_in, said_by, hello, ending, publish, subscribe, unsubscribe};
+ghost use Rattle.session.specs.Says.{Says, SaysNothing};
+ghost use Rattle.session.specs.body.Octets.{IsFaultOf};
 ghost use Rattle.session.specs.declared.messages.said.Said.{Said};
 
 use crate::fault::Fault;
-use crate::messages::args::Args;
 use crate::messages::elements::Elements;
+use crate::messages::octet_elements::OctetElements;
 use crate::messages::said::Said;
-use message_tree::{Content, Dict, Message, Options, Text, Tree};
+use crate::messages::tree_elements::TreeElements;
+use crate::wire::serializer::decode;
+use message_tree::{Message, Tree};
+use msgpack_codec::Refusal;
+use msgpack_cursor::{Unread, message as message_in};
+use rawsocket::Serializer;
 use std::alloc::Global;
 
 /// What a client's message says (WAMP, "Messages"). The message is spent.
@@ -27,8 +31,51 @@ pub fn read_said(alloc: Global, message: Message) -> Result<Said, Fault>
     ensures faults { IfErr result IsReadFault }
 {
     match message.into_tree() {
-        Tree::List(trees) => read_elements(alloc, Elements::of(trees)),
+        Tree::List(trees) => read_elements(alloc, TreeElements::of(trees)),
         _ => Err(Fault::Shape),
+    }
+}
+
+/// What a payload says: [`read_said`] of what it decodes to. In MessagePack no tree is made of it but
+/// of options, and of arguments that are uncarried.
+///
+/// # Errors
+/// As of [`decode`] and [`read_said`].
+pub fn read_payload(alloc: Global, serializer: Serializer, payload: &[u8]) -> Result<Said, Fault>
+    ensures ok { IfOk result (λ said. Says serializer payload.now said) }
+    ensures bad { IfErr result (λ f. f ≢ Fault.NoMemory → SaysNothing serializer payload.now f) }
+{
+    match serializer {
+        Serializer::Json => read_said(alloc, decode(alloc, serializer, payload)?),
+        Serializer::MsgPack => read_octets(alloc, payload),
+    }
+}
+
+/// What the octets of a message say. They are passed over once, unless there is something wrong.
+#[tactic(auto, unfolding(crate::specs::FromClient::said_of))]
+fn read_octets(alloc: Global, payload: &[u8]) -> Result<Said, Fault>
+    ensures ok { IfOk result (λ said. Says Serializer.MsgPack payload.now said) }
+    ensures bad { IfErr result (λ f. f ≢ Fault.NoMemory
+        → SaysNothing Serializer.MsgPack payload.now f) }
+{
+    let Some(unread) = Unread::of(payload) else {
+        return Err(fault_of(payload));
+    };
+    match read_elements(alloc, OctetElements::of(unread)) {
+        Ok(said) => Ok(said),
+        Err(Fault::Shape) => Err(fault_of(payload)),
+        Err(fault) => Err(fault),
+    }
+}
+
+/// What is wrong with octets that say nothing: they are no message, or it has a wrong shape.
+fn fault_of(payload: &[u8]) -> Fault
+    ensures { IsFaultOf payload.now result }
+{
+    match message_in(payload) {
+        Ok(_) => Fault::Shape,
+        Err(Refusal::TooDeep) => Fault::TooDeep,
+        Err(Refusal::Malformed) => Fault::Malformed,
     }
 }
 
@@ -38,18 +85,20 @@ fn is_number(number: u64, kind: i128) -> bool
     kind >= 0 && kind as u128 == number as u128
 }
 
-fn read_elements(alloc: Global, mut elements: Elements) -> Result<Said, Fault>
-    ensures ok { IfOk result (λ said. said_in elements ≡ Some said) }
-    ensures bad { result ≡ Err Fault.Shape → said_in elements ≡ None }
+fn read_elements<E: Elements>(alloc: Global, mut elements: E) -> Result<Said, Fault>
+    ensures ok { IfOk result (λ said. said_in (E.items elements) ≡ Some said) }
+    ensures whole { OnOk result (E.is_whole elements ≡ true) }
+    ensures bad { result ≡ Err Fault.Shape → E.is_whole elements ≡ true → said_in (E.items elements) ≡ None }
     ensures faults { IfErr result IsReadFault }
 {
     let kind = elements.number()?;
     read_kind(alloc, kind, elements)
 }
 
-fn read_kind(alloc: Global, kind: i128, elements: Elements) -> Result<Said, Fault>
-    ensures ok { IfOk result (λ said. said_by kind elements ≡ Some said) }
-    ensures bad { result ≡ Err Fault.Shape → said_by kind elements ≡ None }
+fn read_kind<E: Elements>(alloc: Global, kind: i128, elements: E) -> Result<Said, Fault>
+    ensures ok { IfOk result (λ said. said_by kind (E.items elements) ≡ Some said) }
+    ensures whole { OnOk result (E.is_whole elements ≡ true) }
+    ensures bad { result ≡ Err Fault.Shape → E.is_whole elements ≡ true → said_by kind (E.items elements) ≡ None }
     ensures faults { IfErr result IsReadFault }
 {
     if is_number(1, kind) {
@@ -61,7 +110,7 @@ fn read_kind(alloc: Global, kind: i128, elements: Elements) -> Result<Said, Faul
     } else if is_number(16, kind) {
         publish(alloc, elements)
     } else if is_number(32, kind) {
-        subscribe(elements)
+        subscribe(alloc, elements)
     } else if is_number(34, kind) {
         unsubscribe(elements)
     } else {
@@ -70,52 +119,42 @@ fn read_kind(alloc: Global, kind: i128, elements: Elements) -> Result<Said, Faul
 }
 
 #[tactic(auto, unfolding(crate::specs::FromClient::hello))]
-fn hello(alloc: Global, mut elements: Elements) -> Result<Said, Fault>
-    ensures ok { IfOk result (λ said. hello elements ≡ Some said) }
-    ensures bad { result ≡ Err Fault.Shape → hello elements ≡ None }
+fn hello<E: Elements>(alloc: Global, mut elements: E) -> Result<Said, Fault>
+    ensures ok { IfOk result (λ said. hello (E.items elements) ≡ Some said) }
+    ensures whole { OnOk result (E.is_whole elements ≡ true) }
+    ensures bad { result ≡ Err Fault.Shape → E.is_whole elements ≡ true → hello (E.items elements) ≡ None }
     ensures faults { IfErr result IsReadFault }
 {
-    let realm = elements.text()?;
-    let details = elements.dict()?;
+    let realm = elements.text(alloc)?;
+    let authid = elements.authid(alloc)?;
     elements.end()?;
-    let authid = text_at(alloc, &details, "authid")?;
     Ok(Said::Hello { realm, authid })
 }
 
-fn text_at(alloc: Global, details: &Options, key: &str) -> Result<Option<Text>, Fault>
-    ensures ok { IfOk result (λ t. text_or_none (find_entry key.now details.now) ≡ Some t) }
-    ensures bad { result ≡ Err Fault.Shape → text_or_none (find_entry key.now details.now) ≡ None }
-    ensures faults { IfErr result IsReadFault }
-{
-    match details.get(key) {
-        None => Ok(None),
-        Some(Tree::Null) => Ok(None),
-        Some(Tree::Text(text)) => Ok(Some(Text::of(alloc, text.as_str())?)),
-        Some(_) => Err(Fault::Shape),
-    }
-}
-
 #[tactic(auto, unfolding(crate::specs::FromClient::ending))]
-fn ending(said: Said, mut elements: Elements) -> Result<Said, Fault>
-    ensures ok { IfOk result (λ s. ending said elements ≡ Some s) }
-    ensures bad { result ≡ Err Fault.Shape → ending said elements ≡ None }
+fn ending<E: Elements>(said: Said, mut elements: E) -> Result<Said, Fault>
+    ensures ok { IfOk result (λ s. ending said (E.items elements) ≡ Some s) }
+    ensures whole { OnOk result (E.is_whole elements ≡ true) }
+    ensures bad { result ≡ Err Fault.Shape → E.is_whole elements ≡ true → ending said (E.items elements) ≡ None }
     ensures faults { IfErr result IsReadFault }
 {
-    let _details = elements.dict()?;
-    let _reason = elements.text()?;
+    elements.pass_dict()?;
+    elements.pass_text()?;
+    elements.pass_rest()?;
     Ok(said)
 }
 
 #[tactic(auto, unfolding(crate::specs::FromClient::publish))]
-fn publish(alloc: Global, mut elements: Elements) -> Result<Said, Fault>
-    ensures ok { IfOk result (λ said. publish elements ≡ Some said) }
-    ensures bad { result ≡ Err Fault.Shape → publish elements ≡ None }
+fn publish<E: Elements>(alloc: Global, mut elements: E) -> Result<Said, Fault>
+    ensures ok { IfOk result (λ said. publish (E.items elements) ≡ Some said) }
+    ensures whole { OnOk result (E.is_whole elements ≡ true) }
+    ensures bad { result ≡ Err Fault.Shape → E.is_whole elements ≡ true → publish (E.items elements) ≡ None }
     ensures faults { IfErr result IsReadFault }
 {
     let request = elements.id()?;
-    let options = elements.dict()?;
-    let topic = elements.text()?;
-    let args = arguments(alloc, elements)?;
+    let options = elements.options(alloc)?;
+    let topic = elements.text(alloc)?;
+    let args = elements.arguments(alloc)?;
     Ok(Said::Publish {
         request,
         options,
@@ -124,65 +163,16 @@ fn publish(alloc: Global, mut elements: Elements) -> Result<Said, Fault>
     })
 }
 
-fn arguments(alloc: Global, mut elements: Elements) -> Result<Args, Fault>
-    ensures ok { IfOk result (λ a. arguments_of elements ≡ Some a) }
-    ensures bad { result ≡ Err Fault.Shape → arguments_of elements ≡ None }
-    ensures faults { IfErr result IsReadFault }
-{
-    let Some(first) = elements.next() else {
-        return Ok(Args::none());
-    };
-    let Some(second) = elements.next() else {
-        let args = args_of(alloc, first)?;
-        return Ok(Args::positional(alloc, args)?);
-    };
-    elements.end()?;
-    let args = args_of(alloc, first)?;
-    let kwargs = kwargs_of(alloc, second)?;
-    Ok(Args::both(alloc, args, kwargs)?)
-}
-
-fn args_of(alloc: Global, tree: Tree) -> Result<Content, Fault>
-    requires { depth_of (view tree) ≤ 99 }
-    ensures ok { IfOk result (λ c. args_of (view tree) ≡ Some c) }
-    ensures bounded { IfOk result (λ c. depth_of c ≤ 99) }
-    ensures kind { IfOk result (λ c. is_args c ≡ true) }
-    ensures bad { OnErr result (args_of (view tree) ≡ None) }
-    ensures fault { IfErr result (λ fault. fault ≡ Fault.Shape) }
-{
-    match tree {
-        Tree::Null => Ok(Content::of(Tree::List(Vec::new(alloc)))),
-        Tree::List(items) => Ok(Content::of(Tree::List(items))),
-        Tree::Uncarried => Ok(Content::of(Tree::Uncarried)),
-        _ => Err(Fault::Shape),
-    }
-}
-
-fn kwargs_of(alloc: Global, tree: Tree) -> Result<Content, Fault>
-    requires { depth_of (view tree) ≤ 99 }
-    ensures ok { IfOk result (λ c. kwargs_of (view tree) ≡ Some c) }
-    ensures bounded { IfOk result (λ c. depth_of c ≤ 99) }
-    ensures kind { IfOk result (λ c. is_kwargs c ≡ true) }
-    ensures bad { OnErr result (kwargs_of (view tree) ≡ None) }
-    ensures fault { IfErr result (λ fault. fault ≡ Fault.Shape) }
-{
-    match tree {
-        Tree::Null => Ok(Content::of(Tree::Dict(Dict::new(alloc)))),
-        Tree::Dict(dict) => Ok(Content::of(Tree::Dict(dict))),
-        Tree::Uncarried => Ok(Content::of(Tree::Uncarried)),
-        _ => Err(Fault::Shape),
-    }
-}
-
 #[tactic(auto, unfolding(crate::specs::FromClient::subscribe))]
-fn subscribe(mut elements: Elements) -> Result<Said, Fault>
-    ensures ok { IfOk result (λ said. subscribe elements ≡ Some said) }
-    ensures bad { result ≡ Err Fault.Shape → subscribe elements ≡ None }
+fn subscribe<E: Elements>(alloc: Global, mut elements: E) -> Result<Said, Fault>
+    ensures ok { IfOk result (λ said. subscribe (E.items elements) ≡ Some said) }
+    ensures whole { OnOk result (E.is_whole elements ≡ true) }
+    ensures bad { result ≡ Err Fault.Shape → E.is_whole elements ≡ true → subscribe (E.items elements) ≡ None }
     ensures faults { IfErr result IsReadFault }
 {
     let request = elements.id()?;
-    let options = elements.dict()?;
-    let topic = elements.text()?;
+    let options = elements.options(alloc)?;
+    let topic = elements.text(alloc)?;
     elements.end()?;
     Ok(Said::Subscribe {
         request,
@@ -192,9 +182,10 @@ fn subscribe(mut elements: Elements) -> Result<Said, Fault>
 }
 
 #[tactic(auto, unfolding(crate::specs::FromClient::unsubscribe))]
-fn unsubscribe(mut elements: Elements) -> Result<Said, Fault>
-    ensures ok { IfOk result (λ said. unsubscribe elements ≡ Some said) }
-    ensures bad { result ≡ Err Fault.Shape → unsubscribe elements ≡ None }
+fn unsubscribe<E: Elements>(mut elements: E) -> Result<Said, Fault>
+    ensures ok { IfOk result (λ said. unsubscribe (E.items elements) ≡ Some said) }
+    ensures whole { OnOk result (E.is_whole elements ≡ true) }
+    ensures bad { result ≡ Err Fault.Shape → E.is_whole elements ≡ true → unsubscribe (E.items elements) ≡ None }
     ensures faults { IfErr result IsReadFault }
 {
     let request = elements.id()?;

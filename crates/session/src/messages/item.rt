@@ -1,5 +1,5 @@
 //! What the broker tells a session.
-use crate::messages::args::CarriedArgs;
+use arguments::CarriedArgs;
 use eligibility::{Lists, Who};
 use message_tree::{Octets, Shared};
 use wamp_ids::{Id, Topic};

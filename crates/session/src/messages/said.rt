@@ -1,5 +1,5 @@
 //! What a client says.
-use crate::messages::args::Args;
+use arguments::Args;
 use message_tree::{Options, Text};
 use wamp_ids::Id;
 

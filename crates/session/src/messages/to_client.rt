@@ -8,7 +8,7 @@ ghost use Rattle.session.specs.ToClient.{number, uri_of, type_of, triple, unsubs
 use crate::messages::details::{dictionary, event_details, number, text, welcome_details};
 use crate::messages::item::{Item, Publication, Reason, Request};
 use eligibility::Who;
-use message_tree::{Content, Dict, Message, Tree};
+use message_tree::{Dict, Message, Tree};
 use std::alloc::{AllocError, Global};
 use wamp_ids::Id;
 
@@ -166,18 +166,20 @@ fn event(
     ensures carried { IfOk result (λ m. is_carried (meaning m) ≡ true) }
 {
     let details = event_details(alloc, made, with_topic, retained)?;
-    let payload = made.args.args();
-    match (payload.args(), payload.kwargs()) {
+    let payload = made.args.args().decoded(alloc)?;
+    match (payload.args, payload.kwargs) {
         (None, _) => event_without_arguments(alloc, subscription, made.id, details),
         (Some(args), None) => {
-            let args = copy(alloc, args)?;
-            event_with_arguments(alloc, subscription, made.id, details, args)
+            event_with_arguments(alloc, subscription, made.id, details, args.into_tree())
         }
-        (Some(args), Some(kwargs)) => {
-            let args = copy(alloc, args)?;
-            let kwargs = copy(alloc, kwargs)?;
-            event_with_both(alloc, subscription, made.id, details, args, kwargs)
-        }
+        (Some(args), Some(kwargs)) => event_with_both(
+            alloc,
+            subscription,
+            made.id,
+            details,
+            args.into_tree(),
+            kwargs.into_tree(),
+        ),
     }
 }
 
@@ -259,10 +261,4 @@ fn event_with_both(
         kwargs,
     ]?;
     Ok(message(elements))
-}
-
-fn copy(alloc: Global, content: &Content) -> Result<Tree, AllocError>
-    ensures ok { IfOk result (λ t. view t ≡ content.now) }
-{
-    content.tree().try_copy(alloc)
 }

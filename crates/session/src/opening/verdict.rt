@@ -5,7 +5,7 @@ ghost use Rattle.session.specs.Opened.{Asks, IsRefused, Leads, abort_frame, pong
 ghost use Rattle.session.specs.FrameWalk.{Adds, AddsFor, verdict_of};
 
 use crate::fault::Fault;
-use crate::messages::from_client::read_said;
+use crate::messages::from_client::read_payload;
 use crate::messages::item::Reason;
 use crate::messages::to_client::farewell;
 use crate::opening::first_message::{abort_reason, first};
@@ -48,11 +48,7 @@ fn ask(
     ensures refused { IfErr result (λ f. f ≢ Fault.NoMemory
         → IsRefused serializer realms.now payload.now f) }
 {
-    let message = match decode(alloc, serializer, payload) {
-        Ok(message) => message,
-        Err(fault) => return Err(fault),
-    };
-    let said = match read_said(alloc, message) {
+    let said = match read_payload(alloc, serializer, payload) {
         Ok(said) => said,
         Err(fault) => return Err(fault),
     };

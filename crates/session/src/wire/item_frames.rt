@@ -6,35 +6,24 @@ ghost use Rattle.rawsocket.specs.Frames.{spelled};
 ghost use Rattle.rawsocket.specs.declared.frame.Kind.TheVariants.{Message};
 ghost use Rattle.rawsocket.specs.declared.handshake.Serializer.{Serializer};
 ghost use Rattle.session.specs.ItemFrames.{frame_of, octets_of, Fits, IsSpelled, IsUnspelled, IsTooLong};
-ghost use Rattle.session.specs.body.EncodedArguments.{IsTail};
+ghost use Rattle.arguments.specs.Endings.{IsEnding};
 ghost use Rattle.session.specs.body.SerializedParts.{has_spelling, items_have_spelling, list_opening, list_closing, further};
 ghost use Rattle.session.specs.Serializer.{serialized};
 ghost use Rattle.session.specs.Arguments.{is_all_carried, last_items};
 ghost use Rattle.session.specs.ToClient.{number, event, triple, unsubscribed, message_of};
 
 use crate::fault::Fault;
-use crate::messages::args::{Args, CarriedArgs};
 use crate::messages::item::{Item, Publication};
 use crate::messages::to_client::item_message;
 use crate::wire::event_details::put_details;
 use crate::wire::event_head::EventHead;
 use crate::wire::serialized_parts::{close_list, open_list, put_number, put_tree, separate};
+use arguments::CarriedArgs;
 use message_tree::Appender;
 use rawsocket::{Kind, Serializer, fill_header};
 use std::alloc::{AllocError, Global};
 use std::mem;
 use wamp_ids::Id;
-
-/// How many elements the arguments are in a message.
-fn count_of(args: &Args) -> u8
-    ensures { result ≡ item_count (last_items args.now.args args.now.kwargs) }
-{
-    match (args.args(), args.kwargs()) {
-        (None, _) => 0,
-        (Some(_), None) => 1,
-        (Some(_), Some(_)) => 2,
-    }
-}
 
 /// Three numbers as the first elements of a list of so many.
 fn put_numbers(
@@ -58,38 +47,6 @@ fn put_numbers(
 }
 
 /// Arguments, each behind a separator.
-pub(crate) fn put_args(
-    out: &mut Appender,
-    alloc: Global,
-    serializer: Serializer,
-    args: &Args,
-) -> Result<(), Fault>
-    requires { is_all_carried args.now ≡ true }
-    ensures ok { OnOk result (out.new.since ≡ out.old.since
-        ++ further serializer (last_items args.now.args args.now.kwargs)) }
-    ensures spelled { OnOk result
-        (items_have_spelling serializer (last_items args.now.args args.now.kwargs) ≡ true) }
-    ensures unspelled { result ≡ Err Fault.TooLongForClient
-        → items_have_spelling serializer (last_items args.now.args args.now.kwargs) ≡ false }
-    ensures before { out.new.before ≡ out.old.before }
-    ensures fault { IfErr result (λ f. (f ≡ Fault.NoMemory) ⊎ (f ≡ Fault.TooLongForClient)) }
-{
-    match (args.args(), args.kwargs()) {
-        (None, _) => Ok(()),
-        (Some(args), None) => {
-            separate(out, serializer)?;
-            put_tree(out, alloc, serializer, args.tree())
-        }
-        (Some(args), Some(kwargs)) => {
-            separate(out, serializer)?;
-            put_tree(out, alloc, serializer, args.tree())?;
-            separate(out, serializer)?;
-            put_tree(out, alloc, serializer, kwargs.tree())
-        }
-    }
-}
-
-/// Arguments, each behind a separator: what is encoded of them is copied.
 fn put_tail(
     out: &mut Appender,
     alloc: Global,
@@ -105,11 +62,7 @@ fn put_tail(
     ensures before { out.new.before ≡ out.old.before }
     ensures fault { IfErr result (λ f. (f ≡ Fault.NoMemory) ⊎ (f ≡ Fault.TooLongForClient)) }
 {
-    let args = carried.args();
-    match args.tail(serializer) {
-        Some(tail) => Ok(out.put_all(tail)?),
-        None => put_args(out, alloc, serializer, args),
-    }
+    Ok(carried.args().put(alloc, serializer, out)?)
 }
 
 /// An EVENT.
@@ -131,7 +84,7 @@ fn put_event(
     ensures before { out.new.before ≡ out.old.before }
     ensures fault { IfErr result (λ f. (f ≡ Fault.NoMemory) ⊎ (f ≡ Fault.TooLongForClient)) }
 {
-    let count = 4 + count_of(made.args.args());
+    let count = 4 + made.args.args().count();
     let numbers = (36, subscription.value(), made.id.value());
     put_numbers(out, serializer, count, numbers)?;
     separate(out, serializer)?;
@@ -269,13 +222,13 @@ fn kind_of(item: &Item) -> Kind
 
 /// What the encoded arguments of a publication are at the end of its EVENT, where that names no publisher.
 fn plain_tail(made: &Publication, serializer: Serializer) -> Option<&[u8]>
-    ensures tail { IfSome result (λ octets. IsTail serializer made.now.args octets.now) }
+    ensures tail { IfSome result (λ octets. IsEnding serializer made.now.args octets.now) }
     ensures plain { IfSome result (λ _. made.now.disclosed ≡ false) }
 {
     if made.disclosed {
         return None;
     }
-    made.args.args().tail(serializer)
+    made.args.args().ending(serializer)
 }
 
 /// How many octets close a list.
@@ -320,7 +273,7 @@ fn write_event(
     out: &mut Vec<u8>,
 ) -> Result<(), Fault>
     requires limit { limit ≤ 16777215 }
-    requires tail { IsTail serializer made.now.args tail.now }
+    requires tail { IsEnding serializer made.now.args tail.now }
     requires plain { made.now.disclosed ≡ false }
     ensures ok { OnOk result (out.new.items ≡ out.old.items ++ spelled (record {
       kind = Message;
@@ -334,7 +287,7 @@ fn write_event(
         → limit < length (serialized serializer (event subscription made.now false false)) }
     ensures fault { IfErr result (λ f. (f ≡ Fault.NoMemory) ⊎ (f ≡ Fault.TooLongForClient)) }
 {
-    let count = 4 + count_of(made.args.args());
+    let count = 4 + made.args.args().count();
     let mut head = EventHead::new();
     head.put_event(serializer, count, (subscription.value(), made.id.value()));
     let len = head.len() + tail.len() + closing_len(serializer);

@@ -27,12 +27,12 @@ returns-clause-ok c =
     let old = c.args.out.now.since in
     let n = c.value.result in
     let m = c.value-2.result in
-    let k = 4 + c.count_of-count.result in
+    let k = 4 + c.count-count.result in
     let ds = item (number n) (item (number m) (item det rest)) in
     let written : c.close_list.new.out.since ≡ ((((old ++ (list_opening s k ++ (serialized s (number 36) ++ further s (item (number n) (item (number m) no_items))))) ++ separator s) ++ serialized s det) ++ further s rest) ++ list_closing s =
     c.in_ok-close_list.ensures.ok
     ∙ ap (λ o. o ++ list_closing s) (c.in_ok-put_tail.ensures.ok ∙ ap (λ o. o ++ further s rest) (c.in_ok-put_details.ensures.ok ∙ ap (λ o. o ++ serialized s det) (c.in_ok-separate.ensures.ok ∙ ap (λ o. o ++ separator s) c.in_ok-put_numbers.ensures.ok))) in
-    let counts : c.count_of-count.result ≡ item_count rest = c.count_of-count.ensures ∙ ap (λ a. item_count (last_items a.args a.kwargs)) c.args-2.ensures.same in
+    let counts : c.count-count.result ≡ item_count rest = c.count-count.ensures ∙ ap (λ a. item_count (last_items a.args a.kwargs)) c.args-2.ensures.same in
     let count : k ≡ suc (item_count ds) = ap (λ i. 4 + i) counts ∙ sym (counted a.args a.kwargs) in
     let parts = joined old (list_opening s k) (serialized s (number 36)) (separator s) (serialized s (number n)) (serialized s (number m)) (serialized s det) (further s rest) (list_closing s) in
     let whole : list_opening s k ++ (serialized s (number 36) ++ (further s ds ++ list_closing s)) ≡ serialized s (list (item (number 36) ds)) =

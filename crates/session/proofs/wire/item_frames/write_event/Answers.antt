@@ -6,7 +6,7 @@ use Rattle.rawsocket.specs.declared.handshake.Serializer.{Serializer}
 use Rattle.session.specs.Arguments.{Arguments, last_items}
 use Rattle.session.specs.ToClient.{event}
 use Rattle.session.specs.Serializer.{serialized}
-use Rattle.session.specs.body.EncodedArguments.{IsTail}
+use Rattle.arguments.specs.Endings.{IsEnding}
 use Rattle.session.specs.body.EventHead.{event_front}
 use Rattle.session.specs.body.SerializedParts.{list_closing}
 use Rattle.session.specs.declared.messages.item.Publication.{Publication}
@@ -15,7 +15,7 @@ use Rattle.session.proofs.wire.item_frames.write_event.Goals as goal
 
 -- the octets that were put before the arguments make an EVENT with them
 payload_is : (s : Serializer) (made : Publication) (tail front : List ℕ) (carried : Arguments) (count subscription n m : ℕ)
-    → IsTail s made.args tail → made.disclosed ≡ false
+    → IsEnding s made.args tail → made.disclosed ≡ false
     → count ≡ item_count (last_items carried.args carried.kwargs) → carried ≡ made.args → n ≡ subscription → m ≡ made.id
     → front ≡ event_front s (4 + count) n m
     → front ++ (tail ++ list_closing s) ≡ serialized s (event subscription made false false)
@@ -35,8 +35,8 @@ returns-then-len-limit-clause-spelled c = event_is_spelled c.args.serializer c.a
 pub returns-then-len-limit-clause-long : goal.returns-then-len-limit-clause-long
 returns-then-len-limit-clause-long c = λ _.
     let s = c.args.serializer in
-    let payload = payload_is s c.args.made.now c.args.tail.now c.put_event.new.self c.args-2.result.now c.count_of-count.result c.args.subscription c.value.result c.value-2.result
-    c.requires.tail c.requires.plain c.count_of-count.ensures c.args-2.ensures.same c.value.ensures.number c.value-2.ensures.number c.put_event.ensures.put in
+    let payload = payload_is s c.args.made.now c.args.tail.now c.put_event.new.self c.args-2.result.now c.count-count.result c.args.subscription c.value.result c.value-2.result
+    c.requires.tail c.requires.plain c.count-count.ensures c.args-2.ensures.same c.value.ensures.number c.value-2.ensures.number c.put_event.ensures.put in
     let whole = length_is c.put_event.new.self c.args.tail.now (list_closing s) (serialized s (event c.args.subscription c.args.made.now false false)) c.len.result c.closing_len.result payload c.len.ensures c.closing_len.ensures in
     omega (arith, whole, c.if-len-limit.true)
 
@@ -51,8 +51,8 @@ returns-clause-ok c =
     let closing = list_closing s in
     let front = c.put_event.new.self in
     let message = serialized s (event c.args.subscription c.args.made.now false false) in
-    let payload = payload_is s c.args.made.now tail front c.args-2.result.now c.count_of-count.result c.args.subscription c.value.result c.value-2.result
-    c.requires.tail c.requires.plain c.count_of-count.ensures c.args-2.ensures.same c.value.ensures.number c.value-2.ensures.number c.put_event.ensures.put in
+    let payload = payload_is s c.args.made.now tail front c.args-2.result.now c.count-count.result c.args.subscription c.value.result c.value-2.result
+    c.requires.tail c.requires.plain c.count-count.ensures c.args-2.ensures.same c.value.ensures.number c.value-2.ensures.number c.put_event.ensures.put in
     let whole = length_is front tail closing message c.len.result c.closing_len.result payload c.len.ensures c.closing_len.ensures in
     c.in_default.ensures.ok
     ∙ ap (λ h. old ++ (h ++ (tail ++ closing))) (c.as_slice.ensures ∙ c.put_header.ensures)
@@ -62,8 +62,8 @@ returns-clause-ok c =
 pub returns-clause-fits : goal.returns-clause-fits
 returns-clause-fits c =
     let s = c.args.serializer in
-    let payload = payload_is s c.args.made.now c.args.tail.now c.put_event.new.self c.args-2.result.now c.count_of-count.result c.args.subscription c.value.result c.value-2.result
-    c.requires.tail c.requires.plain c.count_of-count.ensures c.args-2.ensures.same c.value.ensures.number c.value-2.ensures.number c.put_event.ensures.put in
+    let payload = payload_is s c.args.made.now c.args.tail.now c.put_event.new.self c.args-2.result.now c.count-count.result c.args.subscription c.value.result c.value-2.result
+    c.requires.tail c.requires.plain c.count-count.ensures c.args-2.ensures.same c.value.ensures.number c.value-2.ensures.number c.put_event.ensures.put in
     let whole = length_is c.put_event.new.self c.args.tail.now (list_closing s) (serialized s (event c.args.subscription c.args.made.now false false)) c.len.result c.closing_len.result payload c.len.ensures c.closing_len.ensures in
     omega (arith, whole, c.if-len-limit.false)
 

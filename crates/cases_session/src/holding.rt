@@ -1,0 +1,107 @@
+//! What arguments tell of themselves: as they were read, by a copy, and once JSON was asked for.
+use crate::publishing::args_of;
+use crate::saying::args_in_words;
+use arguments::{Args, CarriedArgs, Fault};
+use case_text::{line_of, spell};
+use message_tree::Appender;
+use msgpack_cursor::Unread;
+use rawsocket::Serializer;
+use std::alloc::Global;
+use std::io;
+
+/// The elements of a list in MessagePack as arguments.
+pub fn args(alloc: Global, octets: &[u8]) -> io::Result<String> {
+    match args_in(alloc, octets) {
+        Ok(args) => told(alloc, args),
+        Err(fault) => Ok(format!(in alloc; "{fault}\n")?),
+    }
+}
+
+/// The arguments of a PUBLISH in JSON, which are trees first.
+pub fn trees(alloc: Global, json: &str) -> io::Result<String> {
+    match args_of(alloc, json) {
+        Some(args) => told(alloc, args),
+        None => line_of(alloc, "no PUBLISH, or E1 no memory"),
+    }
+}
+
+fn args_in(alloc: Global, octets: &[u8]) -> Result<Args, Fault> {
+    let Some(mut elements) = Unread::of(octets) else {
+        return Err(Fault::Shape);
+    };
+    let Some(args) = elements.value() else {
+        return Ok(Args::none());
+    };
+    let Some(kwargs) = elements.value() else {
+        return Args::read_args(alloc, &args);
+    };
+    Args::read_both(alloc, &args, &kwargs)
+}
+
+fn told(alloc: Global, args: Args) -> io::Result<String> {
+    let mut out = String::new(alloc);
+    let count = args.count();
+    let carried = if args.is_carried() {
+        "carried"
+    } else {
+        "uncarried"
+    };
+    let words = args_in_words(alloc, &args)?;
+    write!(&mut out, "{count} {carried}{words}\nread")?;
+    tell_endings(&mut out, &args)?;
+    out.push_str("\ncopied")?;
+    tell_held(alloc, &mut out, args.try_copy(alloc)?)?;
+    out.push_str("\nasked")?;
+    let args = args.encoded(alloc, Serializer::MsgPack);
+    let args = args.encoded(alloc, Serializer::Json);
+    if lacks_json(&args) {
+        return line_of(alloc, "nothing is kept in JSON, or E1 no memory");
+    }
+    tell_held(alloc, &mut out, args)?;
+    out.push('\n')?;
+    Ok(out)
+}
+
+/// Whether nothing is kept in JSON of what could be.
+fn lacks_json(args: &Args) -> bool {
+    args.count() > 0 && args.is_carried() && args.ending(Serializer::Json).is_none()
+}
+
+/// Adds the endings that are kept, in MessagePack and in JSON.
+fn tell_endings(out: &mut String, args: &Args) -> io::Result<()> {
+    for serializer in [Serializer::MsgPack, Serializer::Json] {
+        out.push(' ')?;
+        match args.ending(serializer) {
+            Some(octets) => spell(out, octets)?,
+            None => out.push('-')?,
+        }
+    }
+    Ok(())
+}
+
+/// Adds the endings that are kept, and what is put behind the octets `ab`.
+fn tell_held(alloc: Global, out: &mut String, args: Args) -> io::Result<()> {
+    tell_endings(out, &args)?;
+    let Ok(carried) = CarriedArgs::of(args) else {
+        out.push_str(" uncarried")?;
+        return Ok(());
+    };
+    for serializer in [Serializer::MsgPack, Serializer::Json] {
+        out.push(' ')?;
+        match put_behind(alloc, &carried, serializer) {
+            Ok(octets) => spell(out, &octets)?,
+            Err(fault) => write!(out, "{fault}")?,
+        }
+    }
+    Ok(())
+}
+
+fn put_behind(
+    alloc: Global,
+    carried: &CarriedArgs,
+    serializer: Serializer,
+) -> Result<Vec<u8>, Fault> {
+    let mut out = Appender::new(Vec::from_slice(alloc, b"ab")?);
+    carried.args().put(alloc, serializer, &mut out)?;
+    Ok(out.into_vec())
+}
