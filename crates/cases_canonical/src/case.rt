@@ -3,6 +3,7 @@ use crate::canonical::{canonical, same, shape};
 use crate::json::json;
 use crate::looking::{get, look};
 use crate::reading::{take, unread};
+use crate::walking::entries;
 use case_text::{Table, line_of, octets_of, part};
 use std::alloc::Global;
 use std::io;
@@ -22,6 +23,7 @@ impl Table for Case {
             "shape" => shape(alloc, text),
             "look" => look(alloc, &octets_of(alloc, text)?),
             "get" => get(alloc, text),
+            "entries" => entries(alloc, &octets_of(alloc, text)?),
             "unread" => unread(alloc, &octets_of(alloc, text)?),
             "take" => take(alloc, text),
             _ => line_of(alloc, "no case has this word"),

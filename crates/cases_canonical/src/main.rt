@@ -13,6 +13,8 @@
 //! - `get KEY OCTETS`: what the dictionary that the octets are has at a key (`-` is the empty one): the value in words, how many levels
 //!   it may nest, whether its octets are the shortest that spell it (or `other`), and the octets; or `none`, `no dictionary`, or the
 //!   refusal.
+//! - `entries OCTETS`: the entries of the dictionary that the octets are, in the order in which they stand, each with its value in words;
+//!   or `no dictionary`, or the refusal.
 //! - `unread OCTETS`: the elements of a message, read one by one as far as they come; before them whether they are whole, behind them
 //!   whether that is the end (or there is more), and whether what is left is whole; or `no list`.
 //! - `take KINDS OCTETS`: the next element by each letter: `w` a whole number, `t` a text, `v` any value; behind them the same of what
@@ -24,6 +26,7 @@ mod case;
 mod json;
 mod looking;
 mod reading;
+mod walking;
 
 use case::Case;
 use case_text::tell_all;

@@ -202,7 +202,7 @@ keep-some (tree.dict ms) v es is none = absurd cc
 keep-some tree.uncarried v es is none = absurd cc
 
 -- in a dictionary each key is a text
-text-key : (p : List ℕ → Found tree.Data) (n : ℕ) (found : tree.Entries) (b : Bool) (octets : List ℕ) (es : tree.Entries) (rest : List ℕ) → dict_at p n found b octets ≡ Ok (tree.dict es, rest)
+pub text-key : (p : List ℕ → Found tree.Data) (n : ℕ) (found : tree.Entries) (b : Bool) (octets : List ℕ) (es : tree.Entries) (rest : List ℕ) → dict_at p n found b octets ≡ Ok (tree.dict es, rest)
     → b ≡ true
 text-key p n found true octets es rest e = refl
 text-key p n found false octets es rest e = let nay = uncarried-read p n found octets (tree.dict es) rest e in absurd cc

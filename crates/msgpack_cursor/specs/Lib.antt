@@ -1,4 +1,5 @@
 pub mod Standing
+pub mod Entries
 pub mod Seen
 pub mod Unread
 pub mod body

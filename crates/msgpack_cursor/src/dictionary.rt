@@ -1,11 +1,11 @@
 //! The entries of a dictionary.
-ghost use Rattle.std.specs.Prelude.{◌≡◌, ◌≤◌, ◌↔◌, ℕ, List, IfSome, IfNone, Ok, true};
-ghost use Rattle.message_tree.specs.Data.{Data, Entries, dict, find_entry, no_entries, put};
-ghost use Rattle.msgpack_codec.specs.body.Decoder.{value_at};
+ghost use Rattle.std.specs.Prelude.{◌≡◌, ◌≤◌, ◌↔◌, ℕ, List, Ok, true};
+ghost use Rattle.message_tree.specs.Data.{Data, Entries, find_entry, no_entries, put};
+ghost use Rattle.msgpack_cursor.specs.Entries.{put_all};
 ghost use Rattle.msgpack_cursor.specs.Standing.{dict_in};
-ghost use Rattle.msgpack_cursor.specs.body.Fronts.{IsEntry, IsMap, IsNoEntry};
+ghost use Rattle.msgpack_cursor.specs.body.Fronts.{IsMap};
 
-use crate::front::{first_value, text_at};
+use crate::entries::{DictionaryEntries, entry_at};
 use crate::value::Value;
 use std::marker::Model;
 
@@ -44,31 +44,25 @@ impl<'a> Dictionary<'a> {
     pub fn get(&self, key: &str) -> Option<Value<'a>>
         ensures { result ≡ find_entry key.now self.now }
     {
-        find(self.octets, self.count, self.room, key)
+        let mut found = None;
+        let mut entries = self.entries();
+        while let Some(entry) = entries.next() {
+            found = latest(found, entry, key);
+        }
+        found
     }
-}
 
-/// A key and its value, and the octets after them.
-#[derive(Drop)]
-struct Entry<'a> {
-    key: &'a str,
-    value: Value<'a>,
-    rest: &'a [u8],
-}
-
-/// The key at the front and the value behind it; `None` where the key is no text, or one is missing.
-fn entry_at(octets: &[u8], room: u8) -> Option<Entry<'_>>
-    requires { room ≤ 100 }
-    ensures some { IfSome result (λ e. IsEntry (value_at room) octets.now e.key.now e.value e.rest.now) }
-    ensures none { IfNone result (IsNoEntry (value_at room) octets.now) }
-{
-    let Some((key, rest)) = text_at(octets) else {
-        return None;
-    };
-    let Some((value, rest)) = first_value(rest, room) else {
-        return None;
-    };
-    Some(Entry { key, value, rest })
+    /// The entries, in the order in which they stand: put into none one after another, they make
+    /// the dictionary.
+    pub fn entries(&self) -> DictionaryEntries<'a>
+        ensures { put_all result no_entries ≡ self.now }
+    {
+        DictionaryEntries {
+            octets: self.octets,
+            left: self.count,
+            room: self.room,
+        }
+    }
 }
 
 /// Whether each of so many keys is a text.
@@ -88,31 +82,10 @@ pub(crate) fn are_keys_texts(octets: &[u8], count: u64, room: u8) -> bool
 }
 
 /// The value at a key, with one more entry behind those among which it was found.
-fn latest<'a>(found: Option<Value<'a>>, entry: Entry<'a>, key: &str) -> Option<Value<'a>>
+fn latest<'a>(found: Option<Value<'a>>, entry: (&'a str, Value<'a>), key: &str) -> Option<Value<'a>>
     ensures { (es : Entries) → found.entry ≡ find_entry key.now es
-        → result ≡ find_entry key.now (put entry.entry.key.now entry.entry.value es) }
+        → result ≡ find_entry key.now (put entry.entry.0.now entry.entry.1 es) }
 {
-    if entry.key == key {
-        Some(entry.value)
-    } else {
-        found
-    }
-}
-
-/// The value at a key among so many entries.
-fn find<'a>(octets: &'a [u8], count: u64, room: u8, key: &str) -> Option<Value<'a>>
-    requires { room ≤ 100 }
-    ensures { (es : Entries) (rest : List ℕ) → dict_in room count octets.entry.now ≡ Ok (dict es, rest)
-        → result ≡ find_entry key.now es }
-{
-    let mut found = None;
-    let mut rest = octets;
-    for _ in 0..count {
-        let Some(entry) = entry_at(rest, room) else {
-            return found;
-        };
-        rest = entry.rest;
-        found = latest(found, entry, key);
-    }
-    found
+    let (other, value) = entry;
+    if other == key { Some(value) } else { found }
 }

@@ -7,6 +7,7 @@
 //! `msgpack_codec::decode` makes of the octets.
 mod dictionary;
 mod elements;
+mod entries;
 mod front;
 mod seen;
 mod unread;
@@ -14,6 +15,7 @@ mod value;
 
 pub use dictionary::Dictionary;
 pub use elements::Elements;
+pub use entries::DictionaryEntries;
 pub use front::first_value;
 pub use seen::Seen;
 pub use unread::Unread;
