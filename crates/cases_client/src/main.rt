@@ -22,6 +22,7 @@
 mod case;
 mod hearing;
 mod json;
+mod messages;
 mod saying;
 mod talking;
 mod wishing;

@@ -1,9 +1,9 @@
 //! What a client says, as messages.
 use crate::json::message_json;
+use crate::messages::client_message;
 use case_text::line_of;
-use client::{Fault, said_message};
+use client::{ClientMessage, Fault, said_message};
 use message_tree::{Dict, Message, Options, Text, Tree};
-use session::{Said, read_said};
 use std::alloc::{AllocError, Global};
 use std::io;
 use wamp_ids::Id;
@@ -17,13 +17,13 @@ pub fn said(alloc: Global, json: &str) -> io::Result<String> {
 }
 
 fn said_by(alloc: Global, message: Message) -> io::Result<String> {
-    match read_said(alloc, message) {
+    match client_message(alloc, message) {
         Ok(said) => told(alloc, said),
         Err(fault) => Ok(format!(in alloc; "read: {fault}\n")?),
     }
 }
 
-fn told(alloc: Global, said: Said) -> io::Result<String> {
+fn told(alloc: Global, said: ClientMessage) -> io::Result<String> {
     match said_message(alloc, said) {
         Ok(message) => {
             let json = message_json(alloc, &message)?;
@@ -49,7 +49,7 @@ pub fn deep(alloc: Global, levels: u64) -> io::Result<String> {
     };
     let mut dict = Dict::new(alloc);
     dict.set(alloc, String::from_str(alloc, "x")?, nested(alloc, levels)?)?;
-    let said = Said::Subscribe {
+    let said = ClientMessage::Subscribe {
         request,
         options: Options::of(dict),
         topic: Text::of(alloc, "a")?,

@@ -1,11 +1,11 @@
 //! A link to a broker whose octets are prepared.
 use crate::hearing::in_words;
+use crate::messages::client_message;
 use case_text::{is_refused, octets_of, spelled};
-use client_session::{Fault, Link, Serializer};
+use client_session::{ClientMessage, Fault, Link, Serializer};
 use rawsocket::devices::testing::{FailsAt, OneByOne};
 use rawsocket::devices::{MemorySource, Sink, Source, WriteSink};
 use rawsocket::{Kind, write_frame};
-use session::{Said, read_said};
 use std::alloc::Global;
 use std::io;
 
@@ -177,9 +177,9 @@ fn say_all<O: Sink>(
 }
 
 // What a client's message in JSON says; or a line that tells why it says nothing.
-fn said_of(alloc: Global, json: &str) -> Result<Said, &'static str> {
+fn said_of(alloc: Global, json: &str) -> Result<ClientMessage, &'static str> {
     match json_codec::decode(alloc, json.as_bytes()) {
-        Ok(message) => match read_said(alloc, message) {
+        Ok(message) => match client_message(alloc, message) {
             Ok(said) => Ok(said),
             Err(session::Fault::NoMemory) => Err(NO_MEMORY),
             Err(_) => Err(NO_SAYING),

@@ -1,7 +1,8 @@
 //! Who is eligible.
-use case_text::{crossing, line_of, may_be_shared, number_of};
-use eligibility::{Lists, Who};
+use case_text::{crossing, line_of, may_be_shared, number_of, octets_of};
+use eligibility::{ListOptions, Lists, Who};
 use message_tree::{Dict, Shared, Text, Tree};
+use msgpack_cursor::{Dictionary, Seen, message};
 use std::alloc::{AllocError, Global};
 use std::io;
 use wamp_ids::{Conn, Id};
@@ -72,6 +73,45 @@ pub fn taken(
             _ => line_of(alloc, "no options"),
         },
         Err(fault) => Ok(format!(in alloc; "{fault}\n")?),
+    }
+}
+
+/// Whether the lists of options that stand in these octets admit the receiver.
+pub fn standing(
+    alloc: Global,
+    text: &str,
+    receiver: &Option<Who>,
+    publisher: &Option<Who>,
+) -> io::Result<String> {
+    let octets = octets_of(alloc, text)?;
+    match message(&octets) {
+        Ok(value) => match value.seen() {
+            Seen::Dict(options) => found(alloc, &options, receiver, publisher),
+            _ => line_of(alloc, "no options"),
+        },
+        Err(refusal) => Ok(format!(in alloc; "{refusal}\n")?),
+    }
+}
+
+/// The same of options where they stand, by a twin of the lists.
+fn found(
+    alloc: Global,
+    options: &Dictionary<'_>,
+    receiver: &Option<Who>,
+    publisher: &Option<Who>,
+) -> io::Result<String> {
+    let options = ListOptions {
+        exclude_me: options.get("exclude_me"),
+        exclude: options.get("exclude"),
+        exclude_authid: options.get("exclude_authid"),
+        exclude_authrole: options.get("exclude_authrole"),
+        eligible: options.get("eligible"),
+        eligible_authid: options.get("eligible_authid"),
+        eligible_authrole: options.get("eligible_authrole"),
+    };
+    match Lists::of_values(alloc, &options)? {
+        Some(lists) => admitted(alloc, &lists.twin()?, receiver, publisher),
+        None => line_of(alloc, "wrong type"),
     }
 }
 

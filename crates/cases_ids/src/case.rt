@@ -1,5 +1,6 @@
 //! A case: who publishes and who receives.
-use crate::admitting::{beyond, everyone, lists, taken, threads, who_in_words, who_of};
+use crate::admitting::{beyond, everyone, lists, standing, taken, threads, who_in_words, who_of};
+use crate::asking::options;
 use crate::matching::{dot, matches, pattern, same};
 use crate::naming::{conn, faults, id, moved, topic, word};
 use case_text::{Table, line_of};
@@ -40,7 +41,9 @@ impl Table for Case {
             }
             Some(("admits", json)) => lists(alloc, json, &self.receiver, &self.publisher),
             Some(("takes", json)) => taken(alloc, json, &self.receiver, &self.publisher),
+            Some(("stands", octets)) => standing(alloc, octets, &self.receiver, &self.publisher),
             Some(("beyond", key)) => beyond(alloc, key, &self.receiver, &self.publisher),
+            Some(("options", text)) => options(alloc, text, &self.receiver, &self.publisher),
             Some((word, text)) => told(alloc, word, text),
             None => self.told_alone(alloc, line),
         }

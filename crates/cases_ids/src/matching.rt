@@ -13,7 +13,8 @@ fn policy_of(name: &str) -> Policy {
     }
 }
 
-fn name_of(policy: Policy) -> &'static str {
+/// How a policy is named.
+pub fn name_of(policy: Policy) -> &'static str {
     match policy {
         Policy::Exact => "exact",
         Policy::Prefix => "prefix",

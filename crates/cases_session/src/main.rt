@@ -1,7 +1,7 @@
 //! Cases of `session` and of `arguments`, as lines of standard input; what each is answered by is printed.
 //!
 //! - `# TEXT` begins a case, and is printed as it stands.
-//! - `say JSON`: what a client's message says; `payload OCTETS`: the same of one in MessagePack, from its octets, or `differs` where the
+//! - `say JSON`: what a client's message says, of options what they ask for, as `asking.rt` puts it; `payload OCTETS`: the same of one in MessagePack, from its octets, or `differs` where the
 //!   tree that they decode to says something else.
 //! - `event MARKS JSON`: the EVENT that a PUBLISH in JSON gives subscription 1; the
 //!   marks are letters of `dtr`: disclosed, with its topic, retained.
@@ -26,6 +26,7 @@
 //!   says how many octets were written and what came of it: a line for those that come to the same.
 #![tactic(auto)]
 
+mod asking;
 mod case;
 mod holding;
 mod opening;

@@ -1,5 +1,6 @@
 //! What a client's message says, in words.
-use message_tree::{Message, Options, Text, Tree};
+use crate::asking::{publish_options, subscribe_options};
+use message_tree::{Message, Text, Tree};
 use rawsocket::Serializer;
 use session::{Args, Fault, Said, decode, read_payload, read_said};
 use std::alloc::Global;
@@ -46,12 +47,25 @@ fn in_words(alloc: Global, said: Said) -> io::Result<String> {
             options,
             topic,
             args,
-        } => publish(alloc, request, options, topic, args),
+        } => {
+            let options = publish_options(alloc, &options)?;
+            let args = args_in_words(alloc, &args)?;
+            asked(
+                alloc,
+                ("publish", options.as_str()),
+                request,
+                topic,
+                args.as_str(),
+            )
+        }
         Said::Subscribe {
             request,
             options,
             topic,
-        } => asked(alloc, "subscribe", request, options, topic, ""),
+        } => {
+            let options = subscribe_options(alloc, options)?;
+            asked(alloc, ("subscribe", options.as_str()), request, topic, "")
+        }
         Said::Unsubscribe {
             request,
             subscription,
@@ -70,32 +84,15 @@ fn hello(alloc: Global, realm: Text, authid: Option<Text>) -> io::Result<String>
     }
 }
 
-fn publish(
-    alloc: Global,
-    request: Id,
-    options: Options,
-    topic: Text,
-    args: Args,
-) -> io::Result<String> {
-    let args = words_of(alloc, args)?;
-    asked(alloc, "publish", request, options, topic, args.as_str())
-}
-
-fn words_of(alloc: Global, args: Args) -> io::Result<String> {
-    args_in_words(alloc, &args)
-}
-
-/// A request at a topic, and what is behind it.
+/// A request, by its name and what its options ask for, at a topic, and what is behind it.
 fn asked(
     alloc: Global,
-    name: &str,
+    (name, options): (&str, &str),
     request: Id,
-    options: Options,
     topic: Text,
     behind: &str,
 ) -> io::Result<String> {
     let number = request.value();
-    let options = json_of(alloc, Tree::Dict(options.into_dict()))?;
     let topic = topic.as_str();
     Ok(format!(in alloc; "{name} {number} {options} {topic}{behind}\n")?)
 }

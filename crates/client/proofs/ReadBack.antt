@@ -6,6 +6,7 @@ use Rattle.wamp_ids.specs.Numbers.{IsId}
 use Rattle.message_tree.specs.Data.{Data, null, flag, whole, text, bytes, list, dict, uncarried, Entries}
 use Rattle.message_tree.specs.Meaning.{meaning}
 use Rattle.message_tree.specs.declared.message.Message.{Message}
+use Rattle.request_options.specs.Options.{publish_options_of, subscribe_options_of}
 use Rattle.session.specs.Arguments.{Arguments, is_args, is_kwargs, is_args_if_any, is_kwargs_if_any, last_items}
 use Rattle.session.specs.FromClient.{said_of, id_of, args_of, kwargs_of, arguments_of, with_args, with_both}
 use Rattle.session.specs.FromClient as reading
@@ -48,13 +49,13 @@ arguments_of-last_items (Some a) (Some k) ha hk alone = rw (args_of-args a ha, k
 
 pub said_of-publish : (request : ℕ) (options : Entries) (topic : List ℕ) (a : Arguments) → IsId request
     → is_args_if_any a.args ≡ true → is_kwargs_if_any a.kwargs ≡ true → (a.args ≡ None → a.kwargs ≡ None)
-    → said_of (publish request options topic a) ≡ Some (Publish request options topic a)
+    → said_of (publish request options topic a) ≡ Some (Publish request (publish_options_of options) topic a)
 unfolding said_of publish reading.publish
 said_of-publish request options topic a id ha hk alone =
-    rw (id_of-number request id) (ap (option_map (Publish request options topic)) (arguments_of-last_items a.args a.kwargs ha hk alone))
+    rw (id_of-number request id) (ap (option_map (Publish request (publish_options_of options) topic)) (arguments_of-last_items a.args a.kwargs ha hk alone))
 
 pub said_of-subscribe : (request : ℕ) (options : Entries) (topic : List ℕ) → IsId request
-    → said_of (subscribe request options topic) ≡ Some (Subscribe request options topic)
+    → said_of (subscribe request options topic) ≡ Some (Subscribe request (subscribe_options_of options) topic)
 unfolding said_of subscribe reading.subscribe
 said_of-subscribe request options topic id = rw (id_of-number request id) refl
 

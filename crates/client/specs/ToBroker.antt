@@ -2,10 +2,13 @@
 use Rattle.std.specs.Prelude.{ℕ, List, codes, None, Some}
 use Rattle.std.specs.declared.option.Option.{Option}
 use Rattle.message_tree.specs.Data.{Data, text, list, dict, no_items, item, Entries, no_entries, put, entries_depth}
+use Rattle.request_options.specs.Options.{publish_options_of, subscribe_options_of}
 use Rattle.session.specs.Arguments.{Arguments, last_items}
 use Rattle.session.specs.ToClient.{number, triple}
-use Rattle.session.specs.declared.messages.said.Said as sayings
-use Rattle.session.specs.declared.messages.said.Said.TheVariants.{Hello, Abort, Goodbye, Publish, Subscribe, Unsubscribe}
+use Rattle.session.specs.declared.messages.said.Said as brokers
+use Rattle.session.specs.declared.messages.said.Said.TheVariants as read
+use Rattle.client.specs.declared.client_message.ClientMessage.{ClientMessage}
+use Rattle.client.specs.declared.client_message.ClientMessage.TheVariants.{Hello, Abort, Goodbye, Publish, Subscribe, Unsubscribe}
 
 abbrev pub roles : Entries
 roles = put (codes "publisher") (dict no_entries) (put (codes "subscriber") (dict no_entries) no_entries)
@@ -39,7 +42,7 @@ subscribe request options topic =
     list (item (number 32) (item (number request) (item (dict options) (item (text topic) no_items))))
 
 -- the message of what is said; who gives a session up does so because the broker broke the protocol
-abbrev pub message_for : sayings.Said → Data
+abbrev pub message_for : ClientMessage → Data
 message_for (Hello realm authid) = hello realm authid
 message_for Abort = ending 3 (codes "wamp.error.protocol_violation")
 message_for Goodbye = ending 6 (codes "wamp.close.close_realm")
@@ -48,7 +51,16 @@ message_for (Subscribe request options topic) = subscribe request options topic
 message_for (Unsubscribe request subscription) = triple 34 request subscription
 
 -- how deep the options nest that come with it
-abbrev pub options_depth : sayings.Said → ℕ
+abbrev pub options_depth : ClientMessage → ℕ
 options_depth (Publish request options topic args) = entries_depth options
 options_depth (Subscribe request options topic) = entries_depth options
 options_depth _ = 0
+
+-- what a broker reads it as: of options it keeps what they ask for
+abbrev pub read_as : ClientMessage → brokers.Said
+read_as (Hello realm authid) = read.Hello realm authid
+read_as Abort = read.Abort
+read_as Goodbye = read.Goodbye
+read_as (Publish request options topic args) = read.Publish request (publish_options_of options) topic args
+read_as (Subscribe request options topic) = read.Subscribe request (subscribe_options_of options) topic
+read_as (Unsubscribe request subscription) = read.Unsubscribe request subscription

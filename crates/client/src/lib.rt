@@ -6,6 +6,7 @@
 //! streams and the order of messages are for the crates above.
 #![tactic(auto)]
 
+mod client_message;
 mod dictionaries;
 mod elements;
 mod fault;
@@ -15,9 +16,10 @@ pub mod laws;
 mod saying;
 mod wishes;
 
+pub use client_message::ClientMessage;
 pub use fault::Fault;
 pub use heard::{EventDetails, Heard};
 pub use hearing::read_heard;
 pub use saying::said_message;
-pub use session::{Args, Request, Said};
+pub use session::{Args, Request};
 pub use wishes::{PublishWishes, SubscribeWishes};

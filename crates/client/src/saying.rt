@@ -8,12 +8,13 @@ ghost use Rattle.session.specs.Arguments.{is_args_if_any, is_kwargs_if_any};
 ghost use Rattle.session.specs.FromClient.{said_of};
 ghost use Rattle.session.specs.ToClient.{triple};
 ghost use Rattle.client.specs.Faults.{IsSayingFault};
-ghost use Rattle.client.specs.ToBroker.{authmethods, roles, hello_details, hello, ending, publish, subscribe, message_for, options_depth};
+ghost use Rattle.client.specs.ToBroker.{authmethods, roles, hello_details, hello, ending, publish, subscribe, message_for, options_depth, read_as};
 
+use crate::client_message::ClientMessage;
 use crate::dictionaries::{dictionary, number, put, spent_options, spent_text, text};
 use crate::fault::Fault;
 use message_tree::{Content, Dict, Message, Options, Text, Tree};
-use session::{Args, Said};
+use session::Args;
 use std::alloc::{AllocError, Global};
 use wamp_ids::Id;
 
@@ -26,28 +27,28 @@ use wamp_ids::Id;
 /// # Errors
 /// [`Fault::TooDeep`] where options nest more than 98 levels, [`Fault::NoMemory`] where a growth was
 /// refused. What was to be said is dropped then.
-pub fn said_message(alloc: Global, said: Said) -> Result<Message, Fault>
+pub fn said_message(alloc: Global, said: ClientMessage) -> Result<Message, Fault>
     ensures message { IfOk result (λ m. meaning m ≡ message_for said) }
-    ensures reads { IfOk result (λ m. said_of (meaning m) ≡ Some said) }
+    ensures reads { IfOk result (λ m. said_of (meaning m) ≡ Some (read_as said)) }
     ensures deep { result ≡ Err Fault.TooDeep → 98 < options_depth said }
     ensures faults { IfErr result IsSayingFault }
 {
     match said {
-        Said::Hello { realm, authid } => hello(alloc, realm, authid),
-        Said::Abort => ending(alloc, 3, "wamp.error.protocol_violation"),
-        Said::Goodbye => ending(alloc, 6, "wamp.close.close_realm"),
-        Said::Publish {
+        ClientMessage::Hello { realm, authid } => hello(alloc, realm, authid),
+        ClientMessage::Abort => ending(alloc, 3, "wamp.error.protocol_violation"),
+        ClientMessage::Goodbye => ending(alloc, 6, "wamp.close.close_realm"),
+        ClientMessage::Publish {
             request,
             options,
             topic,
             args,
         } => publish(alloc, request, options, topic, &args),
-        Said::Subscribe {
+        ClientMessage::Subscribe {
             request,
             options,
             topic,
         } => subscribe(alloc, request, options, topic),
-        Said::Unsubscribe {
+        ClientMessage::Unsubscribe {
             request,
             subscription,
         } => unsubscribe(alloc, request, subscription),

@@ -2,7 +2,7 @@
 use Rattle.std.proofs.Common.{◌≡◌, refl, sym, subst, ℕ, List, Result, Ok, Err}
 use Rattle.std.specs.Prelude.{IfErr}
 use Rattle.rawsocket.specs.Steps.{Fine, Meter, Told, WholeSteps, told_by}
-use Rattle.session.specs.declared.messages.said.Said.{Said}
+use Rattle.client.specs.declared.client_message.ClientMessage.{ClientMessage}
 use Rattle.client.specs.declared.heard.Heard.{Heard}
 use Rattle.client.specs.declared.heard.Heard.TheVariants as heard
 use Rattle.client_session.specs.Faults.{read_told, write_told}
@@ -67,7 +67,7 @@ pub retold : {before after : ℕ → Meter} {told other : Told} → other ≡ to
 retold {before} {after} {told} {other} is s = subst (λ t. WholeSteps before after t) (sym is) s
 
 -- what is said tells nothing of what is read
-pub cut_short-unread : (t : Terms) (said : Said) (before now : List ℕ) (f : link_faults.Fault) → IsCutShort t said before now f → read_told f ≡ Fine
+pub cut_short-unread : (t : Terms) (said : ClientMessage) (before now : List ℕ) (f : link_faults.Fault) → IsCutShort t said before now f → read_told f ≡ Fine
 cut_short-unread t said before now ReadFault w = absurd w.1
 cut_short-unread t said before now TooManyReads w = absurd w.1
 cut_short-unread t said before now _ w = refl

@@ -6,8 +6,8 @@ use Rattle.rawsocket.specs.Devices.{GrowsByBeginning}
 use Rattle.rawsocket.specs.declared.handshake.Serializer.{Serializer}
 use Rattle.session.specs.Opened.{Exchange}
 use Rattle.session.specs.Arguments.{Arguments}
-use Rattle.session.specs.declared.messages.said.Said.{Said}
-use Rattle.session.specs.declared.messages.said.Said.TheVariants.{Hello, Goodbye as GoodbyeSaid, Subscribe, Publish}
+use Rattle.client.specs.declared.client_message.ClientMessage.{ClientMessage}
+use Rattle.client.specs.declared.client_message.ClientMessage.TheVariants.{Hello, Goodbye as GoodbyeSaid, Subscribe, Publish}
 use Rattle.client.specs.Wishes.{subscribe_options, publish_options}
 use Rattle.client.specs.declared.wishes.SubscribeWishes.{SubscribeWishes}
 use Rattle.client.specs.declared.wishes.PublishWishes.{PublishWishes}
@@ -153,7 +153,7 @@ abbrev pub Acknowledges : Bool → Terms → ℕ → Ear → Ear → Type 0
 Acknowledges false t request said now = now ≡ said
 Acknowledges true t request said now = (publication : ℕ) × HearsNext t said now (Ok (Published request publication))
 
-abbrev pub publication : PublishWishes → List ℕ → ℕ → Arguments → Said
+abbrev pub publication : PublishWishes → List ℕ → ℕ → Arguments → ClientMessage
 publication wishes topic request args = Publish request (publish_options wishes) topic args
 
 abbrev pub IsPublished : PublishWishes → List ℕ → Terms → ℕ → Arguments → Ear → Ear → Type 0

@@ -8,7 +8,7 @@ ghost use Rattle.client_commands.specs.Acts.{standing, terms_of};
 ghost use Rattle.client_commands.specs.Faults.{IsOfBroker, IsOfHere, IsOfLink, of_message, sink_told, source_told};
 
 use crate::fault::Fault;
-use client_session::{ClientSession, Heard, Link, Said};
+use client_session::{ClientMessage, ClientSession, Heard, Link};
 use rawsocket::devices::{Sink, Source};
 use std::alloc::Global;
 
@@ -17,7 +17,7 @@ pub(crate) fn say<O: Sink>(
     alloc: Global,
     link: &Link,
     sink: &mut O,
-    said: Said,
+    said: ClientMessage,
 ) -> Result<(), Fault>
     ensures said { OnOk result (O.taken sink.new
         ≡ O.taken sink.old ++ saying link.now.serializer said) }

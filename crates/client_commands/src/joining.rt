@@ -2,25 +2,25 @@
 ghost use Rattle.std.specs.Prelude.{◌≡◌, IfErr, IfOk};
 ghost use Rattle.rawsocket.specs.Steps.{told_by};
 ghost use Rattle.session.specs.Opened.{exchange};
-ghost use Rattle.session.specs.declared.messages.said.Said.TheVariants.{Hello as HelloSaid};
+ghost use Rattle.client.specs.declared.client_message.ClientMessage.TheVariants.{Hello as HelloSaid};
 ghost use Rattle.client_commands.specs.Acts.{Joins};
 ghost use Rattle.client_commands.specs.Faults.{AreFailuresTold, IsOfBroker, sink_told, source_told};
 
 use crate::command::Contact;
 use crate::fault::Fault;
 use crate::hearing::say;
-use client_session::{ClientSession, Link, Said};
+use client_session::{ClientMessage, ClientSession, Link};
 use message_tree::Text;
 use rawsocket::devices::{Sink, Source};
 use std::alloc::{AllocError, Global};
 
 /// The HELLO of a contact.
-fn hello(alloc: Global, contact: &Contact) -> Result<Said, AllocError>
+fn hello(alloc: Global, contact: &Contact) -> Result<ClientMessage, AllocError>
     ensures { IfOk result (λ said. said ≡ HelloSaid contact.now.realm contact.now.authid) }
 {
     let realm = contact.realm.try_copy(alloc)?;
     let authid = copy_if_any(alloc, &contact.authid)?;
-    Ok(Said::Hello { realm, authid })
+    Ok(ClientMessage::Hello { realm, authid })
 }
 
 fn copy_if_any(alloc: Global, text: &Option<Text>) -> Result<Option<Text>, AllocError>

@@ -8,7 +8,7 @@ ghost use Rattle.client_commands.specs.Faults.{AreFailuresTold, IsOfBroker, sink
 
 use crate::fault::Fault;
 use crate::hearing::{fault_of, hear, say};
-use client_session::{ClientSession, Heard, Said};
+use client_session::{ClientMessage, ClientSession, Heard};
 use message_tree::Text;
 use rawsocket::devices::{Sink, Source};
 use std::alloc::Global;
@@ -41,7 +41,7 @@ pub(crate) fn leave<I: Source, O: Sink>(
     ensures writes { AreFailuresTold (O.failures sink.old) (O.failures sink.new)
         (told_by sink_told result) }
 {
-    if let Err(fault) = say(alloc, session.link(), sink, Said::Goodbye) {
+    if let Err(fault) = say(alloc, session.link(), sink, ClientMessage::Goodbye) {
         return Err(fault);
     }
     'messages: for _ in 0..u64::MAX {
@@ -69,15 +69,15 @@ pub(crate) fn answer_goodbye<O: Sink>(
     reason: Text,
 ) -> Fault
     ensures answered { result ≡ Fault.Closed reason
-        → O.taken sink.new ≡ O.taken sink.old ++ saying session.now.line.serializer Said.Goodbye }
+        → O.taken sink.new ≡ O.taken sink.old ++ saying session.now.line.serializer ClientMessage.Goodbye }
     ensures begun { GrowsByBeginning (O.taken sink.old) (O.taken sink.new)
-        (saying session.now.line.serializer Said.Goodbye) }
+        (saying session.now.line.serializer ClientMessage.Goodbye) }
     ensures unread { source_told result ≡ Fine }
     ensures aside { IsOfBroker result }
     ensures writes { AreFailuresTold (O.failures sink.old) (O.failures sink.new)
         (sink_told result) }
 {
-    match say(alloc, session.link(), sink, Said::Goodbye) {
+    match say(alloc, session.link(), sink, ClientMessage::Goodbye) {
         Ok(()) => Fault::Closed(reason),
         Err(fault) => fault,
     }

@@ -15,7 +15,7 @@ use crate::joining::join;
 use crate::leaving::{answer_goodbye, leave};
 use crate::line_input::{LONGEST, Progress, line_feed_in};
 use crate::message_args::{args_of, args_of_line};
-use client_session::{Args, ClientSession, Heard, Said};
+use client_session::{Args, ClientMessage, ClientSession, Heard};
 use message_tree::Content;
 use rawsocket::devices::{NoOctets, PIECE, Sink, Source, Turns, read_piece};
 use std::alloc::{AllocError, Global};
@@ -65,13 +65,13 @@ fn publication(
     command: &PublishCommand,
     request: Id,
     args: Args,
-) -> Result<Said, AllocError>
+) -> Result<ClientMessage, AllocError>
     ensures { IfOk result (λ said. said
         ≡ publication command.now.wishes command.now.topic request args) }
 {
     let options = command.wishes.options(alloc)?;
     let topic = command.topic.try_copy(alloc)?;
-    Ok(Said::Publish {
+    Ok(ClientMessage::Publish {
         request,
         options,
         topic,

@@ -3,7 +3,7 @@ ghost use Rattle.std.specs.Prelude.{◌≡◌, ◌++◌, ◌⊎◌, IfOk, IfErr,
 ghost use Rattle.rawsocket.specs.Devices.{GrowsByBeginning};
 ghost use Rattle.rawsocket.specs.Steps.{Fine, Steps, WholeSteps, meter, told_by};
 ghost use Rattle.session.specs.Opened.{exchange};
-ghost use Rattle.session.specs.declared.messages.said.Said.TheVariants.{Subscribe as SubscribeSaid};
+ghost use Rattle.client.specs.declared.client_message.ClientMessage.TheVariants.{Subscribe as SubscribeSaid};
 ghost use Rattle.client.specs.Wishes.{subscribe_options};
 ghost use Rattle.client_commands.specs.Acts.{Follows, Prints, PrintsAfterAsking, Subscribes, asked, granted_with, is_event, line_for, standing, terms_of};
 ghost use Rattle.client_commands.specs.Faults.{AreFailuresTold, IsOfHere, output_told, sink_told, source_told};
@@ -16,7 +16,7 @@ use crate::hearing::{fault_of, hear, say};
 use crate::joining::join;
 use crate::leaving::{answer_goodbye, leave};
 use client::SubscribeWishes;
-use client_session::{ClientSession, Heard, Link, Said};
+use client_session::{ClientMessage, ClientSession, Heard, Link};
 use message_tree::Text;
 use rawsocket::devices::{Sink, Source, Turns, send};
 use std::alloc::{AllocError, Global};
@@ -28,12 +28,12 @@ fn request_for(
     wishes: SubscribeWishes,
     request: Id,
     topic: &Text,
-) -> Result<Said, AllocError>
+) -> Result<ClientMessage, AllocError>
     ensures { IfOk result (λ said. said ≡ SubscribeSaid request (subscribe_options wishes) topic.now) }
 {
     let options = wishes.options(alloc)?;
     let topic = topic.try_copy(alloc)?;
-    Ok(Said::Subscribe {
+    Ok(ClientMessage::Subscribe {
         request,
         options,
         topic,

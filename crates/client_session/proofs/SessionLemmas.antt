@@ -1,7 +1,7 @@
 -- What a session is told, and what it isn't.
 use Rattle.std.proofs.Common.{◌≡◌, List, ℕ, Result, Ok, Err, inr, refl, sym, subst}
 use Rattle.rawsocket.specs.Steps.{Fine}
-use Rattle.session.specs.declared.messages.said.Said.{Said}
+use Rattle.client.specs.declared.client_message.ClientMessage.{ClientMessage}
 use Rattle.client.specs.declared.heard.Heard.{Heard}
 use Rattle.client_session.specs.Faults.{write_told}
 use Rattle.client_session.specs.Hearing.{Ear, HearsNext, Line, Terms, heard_at}
@@ -16,7 +16,7 @@ use Rattle.client_session.specs.declared.welcomed.Unheard.{Unheard}
 use Rattle.client_session.specs.declared.welcomed.Unheard.TheVariants.{ForeignEvent, Failed}
 
 -- what can't be said tells nothing of the stream
-pub unsaid_told : (t : Terms) (said : Said) (fault : Fault) → IsUnsaid t said fault → write_told fault ≡ Fine
+pub unsaid_told : (t : Terms) (said : ClientMessage) (fault : Fault) → IsUnsaid t said fault → write_told fault ≡ Fine
 unsaid_told t said NoMemory w = refl
 unsaid_told t said Unsayable w = refl
 unsaid_told t said TooLongForBroker w = refl

@@ -7,7 +7,7 @@ ghost use Rattle.client_session.specs.Saying.{payload_of, saying, IsUnsaid, IsUn
 
 use crate::fault::Fault;
 use crate::inbox::Broker;
-use client::{Said, said_message};
+use client::{ClientMessage, said_message};
 use message_tree::Message;
 use rawsocket::{Kind, Serializer, write_frame};
 use std::alloc::Global;
@@ -34,7 +34,7 @@ fn encode(alloc: Global, serializer: Serializer, message: &Message) -> Result<Ve
 }
 
 /// The payload that says this.
-fn payload_of(alloc: Global, serializer: Serializer, said: Said) -> Result<Vec<u8>, Fault>
+fn payload_of(alloc: Global, serializer: Serializer, said: ClientMessage) -> Result<Vec<u8>, Fault>
     ensures ok { IfOk result (λ v. v.items ≡ payload_of serializer said) }
     ensures unsaid { IfErr result (λ f. (limit : ℕ) → IsUnsaid (terms serializer limit) said f) }
 {
@@ -48,7 +48,7 @@ fn payload_of(alloc: Global, serializer: Serializer, said: Said) -> Result<Vec<u
 }
 
 /// The frame that says this to a broker.
-pub(crate) fn frame_of(alloc: Global, broker: Broker, said: Said) -> Result<Vec<u8>, Fault>
+pub(crate) fn frame_of(alloc: Global, broker: Broker, said: ClientMessage) -> Result<Vec<u8>, Fault>
     requires { broker.limit ≤ 16777215 }
     ensures ok { IfOk result (λ v. v.items ≡ saying broker.serializer said) }
     ensures fits { OnOk result (length (payload_of broker.serializer said) ≤ broker.limit) }

@@ -16,7 +16,7 @@ mod link;
 mod sending;
 mod welcomed;
 
-pub use client::{Args, EventDetails, Heard, Request, Said};
+pub use client::{Args, ClientMessage, EventDetails, Heard, Request};
 pub use fault::Fault;
 pub use link::Link;
 pub use rawsocket::Serializer;

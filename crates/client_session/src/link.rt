@@ -12,7 +12,7 @@ use crate::fault::Fault;
 use crate::handshake::shake_hands;
 use crate::inbox::{Broker, Inbox, hear_next};
 use crate::sending::send;
-use client::{Heard, Said};
+use client::{ClientMessage, Heard};
 use rawsocket::devices::{PIECE, Sink, Source, Turns};
 use rawsocket::{Deframer, Serializer};
 use std::alloc::Global;
@@ -95,7 +95,12 @@ impl Link {
     /// the broker takes ([`Fault::TooLongForBroker`]), and for want of memory ([`Fault::NoMemory`]). After
     /// [`Fault::WriteFault`] or [`Fault::TooManyWrites`] a beginning of the frame may be written, and the
     /// stream is to be closed.
-    pub fn say<O: Sink>(&self, alloc: Global, sink: &mut O, said: Said) -> Result<(), Fault>
+    pub fn say<O: Sink>(
+        &self,
+        alloc: Global,
+        sink: &mut O,
+        said: ClientMessage,
+    ) -> Result<(), Fault>
         ensures said { OnOk result (O.taken sink.new
             ≡ O.taken sink.old ++ saying self.now.serializer said) }
         ensures fits { OnOk result

@@ -3,7 +3,6 @@ ghost use Rattle.std.specs.Prelude.{◌≡◌, ◌++◌, ◌∷◌, [], MatchRes
 ghost use Rattle.realm_inbox.specs.Joins.{is_join};
 
 use crate::in_use::InUse;
-use message_tree::{Options, Tree};
 use rawsocket::Serializer;
 use realm_inbox::{Act, Posting, Shut};
 use session::{Args, Said};
@@ -64,7 +63,7 @@ fn encoded_said(alloc: Global, said: Said) -> Said
             topic,
             args,
         } => {
-            let args = if is_retained(&options) {
+            let args = if options.retain == Some(true) {
                 args
             } else {
                 args.encoded(alloc, Serializer::Json)
@@ -78,9 +77,4 @@ fn encoded_said(alloc: Global, said: Said) -> Said
         }
         other => other,
     }
-}
-
-// Whether a PUBLISH with these options, where it is accepted, is retained.
-fn is_retained(options: &Options) -> bool {
-    matches!(options.get("retain"), Some(Tree::Flag(true)))
 }

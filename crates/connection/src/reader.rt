@@ -11,7 +11,7 @@ use message_tree::Octets;
 use rawsocket::devices::{NoOctets, PIECE, Source, Turns, read_piece};
 use rawsocket::{Deframer, Frame, Kind, Serializer};
 use realm_inbox::{Act, Posting, Shut};
-use session::{Fault, Opened, Said, read_payload};
+use session::{Fault, Opened, Said, SaidKind, read_payload};
 use std::alloc::Global;
 use std::collections::VecDeque;
 use std::sync::Wait;
@@ -54,7 +54,7 @@ impl From<NoOctets> for ReadEnd {
 fn is_last(said: &Said) -> bool
     ensures { result ≡ is_farewell said.now }
 {
-    matches!(said, Said::Abort | Said::Goodbye)
+    said.kind() == SaidKind::Farewell
 }
 
 // Lets go of an act that came back.

@@ -5,6 +5,7 @@ use Rattle.std.specs.List.{list_any}
 use Rattle.std.specs.Str.{bytes_eq}
 use Rattle.message_tree.specs.Data.{Entries, find_entry}
 use Rattle.eligibility.specs.Options.{flag_or, list_or_none, number_of, text_of}
+use Rattle.eligibility.specs.declared.values.ListOptions.{ListOptions}
 use Rattle.eligibility.specs.declared.who.Who.{Who}
 
 -- the six lists of a PUBLISH, each where it is given, and whether its publisher is left out
@@ -76,15 +77,24 @@ audience_by (Some exclude_me) (Some exclude) (Some exclude_authid) (Some exclude
     })
 audience_by _ _ _ _ _ _ _ = None
 
-abbrev pub numbers_at : List ℕ → Entries → Option (Option (List ℤ))
-numbers_at key options = list_or_none number_of (find_entry key options)
+-- what the seven options say, each where it is given; none where one has a wrong type
+abbrev pub audience_of_values : ListOptions → Option Audience
+audience_of_values o =
+    audience_by (flag_or true o.exclude_me) (list_or_none number_of o.exclude) (list_or_none text_of o.exclude_authid) (list_or_none text_of o.exclude_authrole)
+    (list_or_none number_of o.eligible) (list_or_none text_of o.eligible_authid) (list_or_none text_of o.eligible_authrole)
 
-abbrev pub texts_at : List ℕ → Entries → Option (Option (List (List ℕ)))
-texts_at key options = list_or_none text_of (find_entry key options)
+-- the seven options among those of a PUBLISH
+abbrev pub found_in : Entries → ListOptions
+found_in options = record {
+  exclude_me = find_entry (codes "exclude_me") options;
+  exclude = find_entry (codes "exclude") options;
+  exclude_authid = find_entry (codes "exclude_authid") options;
+  exclude_authrole = find_entry (codes "exclude_authrole") options;
+  eligible = find_entry (codes "eligible") options;
+  eligible_authid = find_entry (codes "eligible_authid") options;
+  eligible_authrole = find_entry (codes "eligible_authrole") options;
+}
 
 -- what the options of a PUBLISH say of its receivers; none where one of the seven has a wrong type
 unfoldable pub audience_of : Entries → Option Audience
-audience_of options =
-    audience_by (flag_or true (find_entry (codes "exclude_me") options)) (numbers_at (codes "exclude") options) (texts_at (codes "exclude_authid") options)
-    (texts_at (codes "exclude_authrole") options) (numbers_at (codes "eligible") options) (texts_at (codes "eligible_authid") options)
-    (texts_at (codes "eligible_authrole") options)
+audience_of options = audience_of_values (found_in options)

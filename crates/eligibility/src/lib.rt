@@ -1,16 +1,22 @@
 //! Who is to receive a publication: subscriber black- and whitelisting, and publisher exclusion.
 //!
-//! It stands on `wamp_ids` and `message_tree`. Contracts say whom the options of a PUBLISH admit, by a definition that
+//! It stands on `wamp_ids`, `message_tree` and `msgpack_cursor`. Contracts say whom the options of a PUBLISH admit, by a definition that
 //! names sessions, authids and authroles, and which options are refused.
 #![tactic(auto)]
 
 mod fault;
+mod ids;
 pub mod laws;
 mod lists;
-mod lookup;
+mod numbers;
 mod options;
+mod places;
+mod texts;
+mod trees;
+mod values;
 mod who;
 
 pub use fault::Fault;
 pub use lists::Lists;
+pub use values::ListOptions;
 pub use who::Who;

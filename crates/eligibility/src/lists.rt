@@ -3,14 +3,17 @@ ghost use Rattle.std.specs.Prelude.{◌≡◌, ◌==◌, ◌&&◌, true, not, is
 ghost use Rattle.std.specs.Option.{option_and_then};
 ghost use Rattle.message_tree.specs.Data.{no_entries};
 ghost use Rattle.message_tree.specs.View.{dict_view};
-ghost use Rattle.eligibility.specs.Lists.{audience_of, everyone, admits, has_no_lists, has_number, has_text, is_free_of, allows};
+ghost use Rattle.eligibility.specs.Lists.{audience_of, audience_of_values, everyone, admits, has_no_lists, has_number, has_text, is_free_of, allows};
 ghost use Rattle.eligibility.specs.declared.who.Who.{Who};
 
 use crate::fault::Fault;
-use crate::lookup::{Numbers, Texts};
-use crate::options::{flag_at, numbers_at, text_lists, texts_of};
+use crate::numbers::Numbers;
+use crate::options::{flag_of, numbers_of, texts_of};
+use crate::texts::Texts;
+use crate::trees::{flag_at, numbers_at, texts_at};
+use crate::values::ListOptions;
 use crate::who::Who;
-use message_tree::{Dict, Text};
+use message_tree::{Dict, Shared, Text};
 use std::alloc::{AllocError, Global};
 use std::marker::Model;
 use wamp_ids::{Conn, Id};
@@ -28,11 +31,11 @@ struct Named {
 
 /// Who is to receive a publication: the options of a PUBLISH that speak of it (WAMP, "Subscriber
 /// Black- and Whitelisting", "Publisher Exclusion"). Most publications give none of the lists, and
-/// each carries one of these: so the lists stand apart.
+/// each carries one of these: so the lists stand apart, and copies of a publication share them.
 #[derive(Drop)]
 pub struct Lists {
     exclude_me: bool,
-    named: Option<Box<Named>>,
+    named: Option<Shared<Named>>,
 }
 
 impl Model for Lists {
@@ -43,35 +46,35 @@ impl Model for Lists {
 
     ghost view = { λ l. record {
       exclude_me = l.exclude_me;
-      exclude = option_and_then (λ n. n.value.exclude) l.named;
-      exclude_authid = option_and_then (λ n. n.value.exclude_authid) l.named;
-      exclude_authrole = option_and_then (λ n. n.value.exclude_authrole) l.named;
-      eligible = option_and_then (λ n. n.value.eligible) l.named;
-      eligible_authid = option_and_then (λ n. n.value.eligible_authid) l.named;
-      eligible_authrole = option_and_then (λ n. n.value.eligible_authrole) l.named;
+      exclude = option_and_then (λ n. n.exclude) l.named;
+      exclude_authid = option_and_then (λ n. n.exclude_authid) l.named;
+      exclude_authrole = option_and_then (λ n. n.exclude_authrole) l.named;
+      eligible = option_and_then (λ n. n.eligible) l.named;
+      eligible_authid = option_and_then (λ n. n.eligible_authid) l.named;
+      eligible_authrole = option_and_then (λ n. n.eligible_authrole) l.named;
     } };
 }
 
 impl Named {
     /// These lists in a place of their own, or nothing where none of them is given.
-    fn apart(self, alloc: Global) -> Result<Option<Box<Named>>, AllocError>
+    fn apart(self, alloc: Global) -> Result<Option<Shared<Named>>, AllocError>
         ensures exclude { IfOk result (λ apart.
-            option_and_then (λ n. n.value.exclude) apart ≡ self.exclude) }
+            option_and_then (λ n. n.exclude) apart ≡ self.exclude) }
         ensures exclude_authid { IfOk result (λ apart.
-            option_and_then (λ n. n.value.exclude_authid) apart ≡ self.exclude_authid) }
+            option_and_then (λ n. n.exclude_authid) apart ≡ self.exclude_authid) }
         ensures exclude_authrole { IfOk result (λ apart.
-            option_and_then (λ n. n.value.exclude_authrole) apart ≡ self.exclude_authrole) }
+            option_and_then (λ n. n.exclude_authrole) apart ≡ self.exclude_authrole) }
         ensures eligible { IfOk result (λ apart.
-            option_and_then (λ n. n.value.eligible) apart ≡ self.eligible) }
+            option_and_then (λ n. n.eligible) apart ≡ self.eligible) }
         ensures eligible_authid { IfOk result (λ apart.
-            option_and_then (λ n. n.value.eligible_authid) apart ≡ self.eligible_authid) }
+            option_and_then (λ n. n.eligible_authid) apart ≡ self.eligible_authid) }
         ensures eligible_authrole { IfOk result (λ apart.
-            option_and_then (λ n. n.value.eligible_authrole) apart ≡ self.eligible_authrole) }
+            option_and_then (λ n. n.eligible_authrole) apart ≡ self.eligible_authrole) }
     {
         if self.is_empty() {
             return Ok(None);
         }
-        Ok(Some(Box::new(alloc, self)?))
+        Ok(Some(Shared::new(alloc, self)?))
     }
 
     fn is_empty(&self) -> bool
@@ -107,44 +110,89 @@ impl Lists {
     /// # Errors
     /// [`Fault::Shape`] where one of the seven has a wrong type, [`Fault::NoMemory`] where a growth
     /// was refused.
+    #[tactic(auto, unfolding(crate::specs::Lists::audience_of))]
     pub fn read(alloc: Global, options: &Dict) -> Result<Lists, Fault>
         ensures ok { IfOk result (λ l. audience_of (dict_view options.now) ≡ Some l) }
         ensures bad { result ≡ Err Fault.Shape → audience_of (dict_view options.now) ≡ None }
     {
-        Lists::take(alloc, options.try_copy(alloc)?)
-    }
-
-    /// What the options say, as [`Lists::read`]. They are spent, and their texts moved.
-    ///
-    /// # Errors
-    /// As [`Lists::read`].
-    #[tactic(auto, unfolding(crate::specs::Lists::audience_of))]
-    pub fn take(alloc: Global, options: Dict) -> Result<Lists, Fault>
-        ensures ok { IfOk result (λ l. audience_of (dict_view options) ≡ Some l) }
-        ensures bad { result ≡ Err Fault.Shape → audience_of (dict_view options) ≡ None }
-    {
         if options.is_empty() {
             return Ok(Lists::everyone());
         }
-        let exclude_me = flag_at(&options, "exclude_me", true)?;
-        let exclude = numbers_at(alloc, &options, "exclude")?;
-        let eligible = numbers_at(alloc, &options, "eligible")?;
-        let lists = text_lists(options);
-        let exclude_authid = texts_of(alloc, lists.exclude_authid)?;
-        let exclude_authrole = texts_of(alloc, lists.exclude_authrole)?;
-        let eligible_authid = texts_of(alloc, lists.eligible_authid)?;
-        let eligible_authrole = texts_of(alloc, lists.eligible_authrole)?;
+        let exclude_me = flag_at(options, "exclude_me", true)?;
         let named = Named {
-            exclude,
-            exclude_authid,
-            exclude_authrole,
-            eligible,
-            eligible_authid,
-            eligible_authrole,
+            exclude: numbers_at(alloc, options, "exclude")?,
+            exclude_authid: texts_at(alloc, options, "exclude_authid")?,
+            exclude_authrole: texts_at(alloc, options, "exclude_authrole")?,
+            eligible: numbers_at(alloc, options, "eligible")?,
+            eligible_authid: texts_at(alloc, options, "eligible_authid")?,
+            eligible_authrole: texts_at(alloc, options, "eligible_authrole")?,
         };
         Ok(Lists {
             exclude_me,
             named: named.apart(alloc)?,
+        })
+    }
+
+    /// What the options say, as [`Lists::read`]. They are spent.
+    ///
+    /// # Errors
+    /// As [`Lists::read`].
+    pub fn take(alloc: Global, options: Dict) -> Result<Lists, Fault>
+        ensures ok { IfOk result (λ l. audience_of (dict_view options) ≡ Some l) }
+        ensures bad { result ≡ Err Fault.Shape → audience_of (dict_view options) ≡ None }
+    {
+        Lists::read(alloc, &options)
+    }
+
+    /// What the seven options say where they stand in a message, as [`Lists::read`]; `None` where
+    /// one has a wrong type. No tree is made of them: it takes at most 5 octets for each octet of
+    /// the lists, and 3,000 more for each list of numbers.
+    ///
+    /// # Errors
+    /// `AllocError` where a growth was refused.
+    pub fn of_values(alloc: Global, options: &ListOptions<'_>) -> Result<Option<Lists>, AllocError>
+        ensures { IfOk result (λ lists. lists ≡ audience_of_values options.now) }
+    {
+        match Lists::of_options(alloc, options) {
+            Ok(lists) => Ok(Some(lists)),
+            Err(Fault::Shape) => Ok(None),
+            Err(Fault::NoMemory) => Err(AllocError),
+        }
+    }
+
+    fn of_options(alloc: Global, options: &ListOptions<'_>) -> Result<Lists, Fault>
+        ensures ok { IfOk result (λ l. audience_of_values options.now ≡ Some l) }
+        ensures bad { result ≡ Err Fault.Shape → audience_of_values options.now ≡ None }
+    {
+        let exclude_me = flag_of(&options.exclude_me, true)?;
+        let named = Named {
+            exclude: numbers_of(alloc, &options.exclude)?,
+            exclude_authid: texts_of(alloc, &options.exclude_authid)?,
+            exclude_authrole: texts_of(alloc, &options.exclude_authrole)?,
+            eligible: numbers_of(alloc, &options.eligible)?,
+            eligible_authid: texts_of(alloc, &options.eligible_authid)?,
+            eligible_authrole: texts_of(alloc, &options.eligible_authrole)?,
+        };
+        Ok(Lists {
+            exclude_me,
+            named: named.apart(alloc)?,
+        })
+    }
+
+    /// The same options, which share the lists.
+    ///
+    /// # Errors
+    /// `AllocError` where a count of holders can't grow.
+    pub fn twin(&self) -> Result<Lists, AllocError>
+        ensures { IfOk result (λ lists. lists ≡ self.now) }
+    {
+        let named = match &self.named {
+            None => None,
+            Some(named) => Some(named.twin()?),
+        };
+        Ok(Lists {
+            exclude_me: self.exclude_me,
+            named,
         })
     }
 
@@ -155,7 +203,7 @@ impl Lists {
     {
         match &self.named {
             None => true,
-            Some(named) => named.is_empty(),
+            Some(named) => named.value().is_empty(),
         }
     }
 
@@ -185,6 +233,7 @@ impl Lists {
         let Some(named) = &self.named else {
             return true;
         };
+        let named = named.value();
         is_free_of_number(&named.exclude, who.id)
             && is_free_of_text(&named.exclude_authid, who.authid.value())
             && is_free_of_text(&named.exclude_authrole, who.authrole.value())

@@ -16,10 +16,10 @@ use Rattle.session.specs.declared.messages.item.Reason.{Reason}
 use Rattle.session.specs.declared.messages.item.Reason.TheVariants.{InvalidArgument, InvalidUri, RetainedFull}
 use Rattle.realm.specs.declared.entry.Entry.{Entry}
 use Rattle.realm.specs.declared.entry.Entry.TheVariants.{Join, Said, Ping, Spoilt, Gone, Cut, Closed}
-use Rattle.realm.specs.declared.publish_options.PublishOptions.{PublishOptions}
+use Rattle.realm.specs.declared.accepted_options.AcceptedOptions.{AcceptedOptions}
 use Rattle.realm.specs.History.{History, ◌▷◌, grants_of}
 use Rattle.realm.specs.Sessions.{who, may_join, admission, id_in_use, name_for, role_for}
-use Rattle.realm.specs.Publications.{Made, made_by, published_by, by_publisher, publish_options_of}
+use Rattle.realm.specs.Publications.{Made, made_by, published_by, by_publisher, accepted_options_of}
 use Rattle.realm.specs.MetaEvents.{arrival, departure}
 use Rattle.realm.specs.Laws.{HasCome, HasGone, AnnouncementsAreTrue}
 use Rattle.realm.proofs.LiveSessions.{who-conn}
@@ -59,21 +59,21 @@ went h e d word p ending is = at (who h d) refl (who-conn h d) is
         }
 
 -- a PUBLISH at a reserved topic is refused
-unreserved : (room : Bool) (word : ℕ) (w : Who) (topic : List ℕ) (args : Arguments) (o : Option PublishOptions) (made : Made)
+unreserved : (room : Bool) (word : ℕ) (w : Who) (topic : List ℕ) (args : Arguments) (o : Option AcceptedOptions) (made : Made)
     → published_by room word w topic args o ≡ Ok made → is_reserved made.publication.topic ≡ false
 unreserved room word w topic args None made is = absurd (cc)
-unreserved room word w topic args (Some publish_options) made is =
-    at (not (is_topic topic)) (is_reserved topic) refl (not (is_all_carried args)) (publish_options.retained && not room) is
+unreserved room word w topic args (Some accepted_options) made is =
+    at (not (is_topic topic)) (is_reserved topic) refl (not (is_all_carried args)) (accepted_options.retained && not room) is
   where
     at : (bad reserved : Bool) → is_reserved topic ≡ reserved → (uncarried full : Bool)
-        → cond (bad || reserved) (Err InvalidUri) (cond uncarried (Err InvalidArgument) (cond full (Err RetainedFull) (Ok (made_by word w topic args publish_options)))) ≡ Ok made
+        → cond (bad || reserved) (Err InvalidUri) (cond uncarried (Err InvalidArgument) (cond full (Err RetainedFull) (Ok (made_by word w topic args accepted_options)))) ≡ Ok made
         → is_reserved made.publication.topic ≡ false
     at true reserved is_res uncarried full answer = absurd (cc)
     at false true is_res uncarried full answer = absurd (cc)
     at false false is_res true full answer = absurd (cc)
     at false false is_res false true answer = absurd (cc)
     at false false is_res false false answer =
-        let same : made_by word w topic args publish_options ≡ made = cc in ap (λ m. is_reserved m.publication.topic) (sym same) ∙ is_res
+        let same : made_by word w topic args accepted_options ≡ made = cc in ap (λ m. is_reserved m.publication.topic) (sym same) ∙ is_res
 
 by-someone : (o : Option Who) (f : Who → Result Made Reason) (p : Publication) → ((w : Who) (made : Made) → f w ≡ Ok made → is_reserved made.publication.topic ≡ false)
     → option_map (λ made. made.publication) (result_ok (by_publisher o f)) ≡ Some p → is_reserved p.topic ≡ false
@@ -93,7 +93,7 @@ truthful h (Said d word (Hello realm authid)) p is_history is reserved = inr (we
 truthful h (Said d word Abort) p is_history is reserved = inr (went h (Said d word Abort) d word p (abort h d word) is)
 truthful h (Said d word Goodbye) p is_history is reserved = inr (went h (Said d word Goodbye) d word p (goodbye h d word) is)
 truthful h (Said d word (Publish request options topic args)) p is_history is reserved =
-    both (is_reserved p.topic) reserved (by-someone (who h d) _ p (λ w made answer. unreserved _ word w topic args (publish_options_of options) made answer) is)
+    both (is_reserved p.topic) reserved (by-someone (who h d) _ p (λ w made answer. unreserved _ word w topic args (accepted_options_of options) made answer) is)
 truthful h (Said d word (Subscribe request options topic)) p is_history is reserved = absurd (cc)
 truthful h (Said d word (Unsubscribe request n)) p is_history is reserved = absurd (cc)
 truthful h (Ping d payload) p is_history is reserved = absurd (cc)

@@ -5,7 +5,8 @@ use Rattle.std.specs.declared.option.Option.{Option}
 use Rattle.std.specs.declared.result.Result.{Result}
 use Rattle.std.specs.List.{filter}
 use Rattle.std.proofs.lemmas.Bool.{eqb-true}
-use Rattle.message_tree.specs.Data.{Entries}
+use Rattle.request_options.specs.declared.publish_options.PublishOptions.{PublishOptions}
+use Rattle.request_options.specs.declared.subscribe_options.SubscribeOptions.{SubscribeOptions}
 use Rattle.wamp_ids.specs.Numbers.{id_of_word}
 use Rattle.wamp_ids.specs.Pattern.{PatternText, matches}
 use Rattle.subscription_index.specs.Index.{Held, IsIndex, holds_number as is_held, subscribed as answered}
@@ -26,10 +27,9 @@ use Rattle.realm.specs.declared.entry.Entry.{Entry}
 use Rattle.realm.specs.declared.entry.Entry.TheVariants.{Join, Said, Ping, Spoilt, Gone, Cut, Closed}
 use Rattle.realm.specs.declared.state.State.{State}
 use Rattle.realm.specs.History.{History, ◌▷◌, grants_of}
-use Rattle.realm.specs.Options.{acknowledge_of, get_retained_of}
 use Rattle.realm.specs.Sessions.{who, live, conn_of, may_come, admission, admission_by, name_for, role_for, id_in_use, may_join, joined}
 use Rattle.realm.specs.Subscriptions.{holds, opened, held, has_room as has_place, number, number_among, pattern_of, subscribed}
-use Rattle.realm.specs.Publications.{Made, published, published_by, publish_options_of, if_retained, kept, retained, admits}
+use Rattle.realm.specs.Publications.{Made, published, published_by, accepted_options_of, if_retained, kept, retained, admits}
 use Rattle.realm.specs.MetaEvents.{arrival, departure}
 use Rattle.realm.specs.Yield.{yield, reply, events, events_of, sent_events, asked_events, publish_reply, unsubscribe_reply, welcome}
 use Rattle.realm.specs.Given.{GivesEach, GivesExactly}
@@ -175,7 +175,7 @@ turns-ping s c payload given is h agrees come = record {
 }
 
 -- a PUBLISH
-kept-next : (h : History) (c word request : ℕ) (options : Entries) (topic : List ℕ) (args : Arguments)
+kept-next : (h : History) (c word request : ℕ) (options : PublishOptions) (topic : List ℕ) (args : Arguments)
     → kept (h ▷ Said c word (Publish request options topic args)) ≡ if_retained (published h c word options topic args) ++ kept h
 unfolding kept
 kept-next h c word request options topic args = refl
@@ -201,33 +201,33 @@ told-first s c request None made = refl
 told-first s c request (Some true) made = refl
 told-first s c request (Some false) made = refl
 
-gives-published : (h : History) (s : State) (c word request : ℕ) (options : Entries) (topic : List ℕ) (args : Arguments) (made : Made) → Agrees h s
+gives-published : (h : History) (s : State) (c word request : ℕ) (options : PublishOptions) (topic : List ℕ) (args : Arguments) (made : Made) → Agrees h s
     → published h c word options topic args ≡ Ok made
-    → GivesExactly h (Said c word (Publish request options topic args)) (told s c request (acknowledge_of options) made.publication)
+    → GivesExactly h (Said c word (Publish request options topic args)) (told s c request options.acknowledge made.publication)
 gives-published h s c word request options topic args made agrees accepted =
-    gives-told h s (Said c word (Publish request options topic args)) (acknowledged request (acknowledge_of options) made) made.publication
-    (told s c request (acknowledge_of options) made.publication) agrees
-    (ap (publish_reply request (acknowledge_of options)) accepted ∙ acknowledged-reply request (acknowledge_of options) made)
+    gives-told h s (Said c word (Publish request options topic args)) (acknowledged request options.acknowledge made) made.publication
+    (told s c request options.acknowledge made.publication) agrees
+    (ap (publish_reply request options.acknowledge) accepted ∙ acknowledged-reply request options.acknowledge made)
     (λ d. rw accepted refl)
-    (told-first s c request (acknowledge_of options) made)
+    (told-first s c request options.acknowledge made)
 
 -- what a PUBLISH makes, by what is kept
-abbrev made_of : State → ℕ → ℕ → Entries → List ℕ → Arguments → Who → Result Made Reason
-made_of s c word options topic args w = published_by (has_room s.store topic) word w topic args (publish_options_of options)
+abbrev made_of : State → ℕ → ℕ → PublishOptions → List ℕ → Arguments → Who → Result Made Reason
+made_of s c word options topic args w = published_by (has_room s.store topic) word w topic args (accepted_options_of options)
 
-published-same : (h : History) (s : State) (c word : ℕ) (options : Entries) (topic : List ℕ) (args : Arguments) (w : Who) → Agrees h s → who h c ≡ Some w
+published-same : (h : History) (s : State) (c word : ℕ) (options : PublishOptions) (topic : List ℕ) (args : Arguments) (w : Who) → Agrees h s → who h c ≡ Some w
     → published h c word options topic args ≡ made_of s c word options topic args w
 published-same h s c word options topic args w agrees is =
     let room_is : has_room s.store topic ≡ may_be_retained (kept h) topic = ap (λ x. has_room x topic) agrees.store ∙ has_room-retained (kept h) topic in
     rw (is, room_is) refl
 
-turned-published : (h : History) (s t : State) (c word request : ℕ) (options : Entries) (topic : List ℕ) (args : Arguments) (given : List (ℕ × Item)) (r : Result Made Reason)
-    → Agrees h s → live h c ≡ true → published h c word options topic args ≡ r → IsPublished (record { old = s; new = t; given = given }) (record { conn = c; request = request }) (acknowledge_of options) r
+turned-published : (h : History) (s t : State) (c word request : ℕ) (options : PublishOptions) (topic : List ℕ) (args : Arguments) (given : List (ℕ × Item)) (r : Result Made Reason)
+    → Agrees h s → live h c ≡ true → published h c word options topic args ≡ r → IsPublished (record { old = s; new = t; given = given }) (record { conn = c; request = request }) options.acknowledge r
     → Turned h (Said c word (Publish request options topic args)) s t given
 turned-published h s t c word request options topic args given (Err reason) agrees come answer is =
     let e = Said c word (Publish request options topic args) in
     record {
-      gives = gives-reply h e given (is.0 ∙ (refused-items c request (acknowledge_of options) reason ∙ ap (λ r. all_for c (publish_reply request (acknowledge_of options) r)) (sym answer))) (λ d. rw answer refl);
+      gives = gives-reply h e given (is.0 ∙ (refused-items c request options.acknowledge reason ∙ ap (λ r. all_for c (publish_reply request options.acknowledge r)) (sym answer))) (λ d. rw answer refl);
       agrees = rw is.1 (agrees-kept h e s s agrees come refl (publish h c word request options topic args) (publish-held h c word request options topic args) refl refl refl refl
           (agrees.store ∙ ap retained_of (sym (kept-next h c word request options topic args ∙ ap (λ r. if_retained r ++ kept h) answer))));
       grown = rw is.1 (no-more s.sessions);
@@ -247,8 +247,8 @@ turned-published h s t c word request options topic args given (Ok made) agrees 
     at true = retained-more made.publication (kept h) ∙ ap (set_topic made.publication) (sym agrees.store)
     at false = sym agrees.store
 
-pub turns-published : (s t : State) (c word request : ℕ) (options : Entries) (topic : List ℕ) (args : Arguments) (given : List (ℕ × Item))
-    → ((w : Who) → session_of s.sessions c ≡ Some w → IsPublished (record { old = s; new = t; given = given }) (record { conn = c; request = request }) (acknowledge_of options) (made_of s c word options topic args w))
+pub turns-published : (s t : State) (c word request : ℕ) (options : PublishOptions) (topic : List ℕ) (args : Arguments) (given : List (ℕ × Item))
+    → ((w : Who) → session_of s.sessions c ≡ Some w → IsPublished (record { old = s; new = t; given = given }) (record { conn = c; request = request }) options.acknowledge (made_of s c word options topic args w))
     → Turns s (Said c word (Publish request options topic args)) t given
 turns-published s t c word request options topic args given is h agrees come =
     let lives = session-lives h s c agrees come in
@@ -277,13 +277,13 @@ no-asked None reason num store o = refl
 no-asked (Some true) reason num store o = refl
 no-asked (Some false) reason num store o = refl
 
-turned-refused : (h : History) (s t : State) (c word request : ℕ) (options : Entries) (topic : List ℕ) (given : List (ℕ × Item)) (reason : Reason)
+turned-refused : (h : History) (s t : State) (c word request : ℕ) (options : SubscribeOptions) (topic : List ℕ) (given : List (ℕ × Item)) (reason : Reason)
     → Agrees h s → live h c ≡ true → subscribed h c options topic ≡ Err reason → given ≡ all_for c (Error kind.Subscribe request reason ∷ []) → t ≡ s
     → Turned h (Said c word (Subscribe request options topic)) s t given
 turned-refused h s t c word request options topic given reason agrees come answer is same =
     let e = Said c word (Subscribe request options topic) in
     record {
-      gives = gives-reply h e given (rw answer is) (λ d. rw answer (ap (λ xs. cond (eqb c d) xs []) (no-asked (get_retained_of options) reason (number (h ▷ e)) (retained h) (who h d)) ∙ cond-same (eqb c d) []));
+      gives = gives-reply h e given (rw answer is) (λ d. rw answer (ap (λ xs. cond (eqb c d) xs []) (no-asked options.get_retained reason (number (h ▷ e)) (retained h) (who h d)) ∙ cond-same (eqb c d) []));
       agrees = rw same (agrees-kept h e s s agrees come refl (subscribe h c word request options topic)
           (record { holds = refused-holds h c word request options topic reason answer; opened = refused-opened h c word request options topic reason answer }) refl refl refl refl
           (agrees.store ∙ ap retained_of (sym (subscribe-kept h c word request options topic))));
@@ -291,9 +291,9 @@ turned-refused h s t c word request options topic given reason agrees come answe
       shrunk = λ silent. absurd (cc);
     }
 
-turned-held : (h : History) (s t : State) (c word request : ℕ) (options : Entries) (topic : List ℕ) (given : List (ℕ × Item)) (w : Who) (p : PatternText) (a : Option (ℕ × Held))
+turned-held : (h : History) (s t : State) (c word request : ℕ) (options : SubscribeOptions) (topic : List ℕ) (given : List (ℕ × Item)) (w : Who) (p : PatternText) (a : Option (ℕ × Held))
     → Agrees h s → live h c ≡ true → who h c ≡ Some w → pattern_of options topic ≡ Ok p → answered s.index c p ≡ a
-    → held_by (record { old = s; new = t; given = given }) (record { conn = c; request = request }) p (wanted s.store (get_retained_of options) p w) a
+    → held_by (record { old = s; new = t; given = given }) (record { conn = c; request = request }) p (wanted s.store options.get_retained p w) a
     → Turned h (Said c word (Subscribe request options topic)) s t given
 turned-held h s t c word request options topic given w p None agrees come who_is asked answer is =
     let full : has_place (holds h) (opened h) (joined h) c p ≡ false = room h s.index (ties h s agrees) c p ∙ ap is_some answer in
@@ -303,13 +303,13 @@ turned-held h s t c word request options topic given w p (Some answered_as) agre
     let placed : has_place (holds h) (opened h) (joined h) c p ≡ true = room h s.index (ties h s agrees) c p ∙ ap is_some answer in
     let accepted : subscribed h c options topic ≡ Ok p = rw (asked, placed) refl in
     let f = follows h s.index (ties h s agrees) c word request options topic p accepted answered_as.0 answered_as.1 answer in
-    let own = asked_events (get_retained_of options) (Ok p) (number (h ▷ e)) (retained h) (who h c) in
-    let same : asked_events (get_retained_of options) (Ok p) (number (h ▷ e)) s.store (Some w) ≡ own =
-    ap (λ st. asked_events (get_retained_of options) (Ok p) (number (h ▷ e)) st (Some w)) agrees.store ∙ ap (asked_events (get_retained_of options) (Ok p) (number (h ▷ e)) (retained h)) (sym who_is) in
+    let own = asked_events options.get_retained (Ok p) (number (h ▷ e)) (retained h) (who h c) in
+    let same : asked_events options.get_retained (Ok p) (number (h ▷ e)) s.store (Some w) ≡ own =
+    ap (λ st. asked_events options.get_retained (Ok p) (number (h ▷ e)) st (Some w)) agrees.store ∙ ap (asked_events options.get_retained (Ok p) (number (h ▷ e)) (retained h)) (sym who_is) in
     record {
       gives = gives-own h e given own
-          (is.0 ∙ (ap (λ n. all_for c (Subscribed request n ∷ map (retained_event n p.policy) (wanted s.store (get_retained_of options) p w))) (sym f.number)
-          ∙ (ap (λ xs. all_for c (Subscribed request (number (h ▷ e) p) ∷ xs)) (wanted-events s.store (get_retained_of options) p w (number (h ▷ e)) ∙ same)
+          (is.0 ∙ (ap (λ n. all_for c (Subscribed request n ∷ map (retained_event n p.policy) (wanted s.store options.get_retained p w))) (sym f.number)
+          ∙ (ap (λ xs. all_for c (Subscribed request (number (h ▷ e) p) ∷ xs)) (wanted-events s.store options.get_retained p w (number (h ▷ e)) ∙ same)
           ∙ rw accepted refl)))
           (λ d. rw accepted (elsewhere d (eqb c d) refl));
       agrees = rw is.1 (record {
@@ -329,19 +329,19 @@ turned-held h s t c word request options topic given w p (Some answered_as) agre
     }
   where
     elsewhere : (d : ℕ) (b : Bool) → eqb c d ≡ b
-        → cond b (asked_events (get_retained_of options) (Ok p) (number (h ▷ Said c word (Subscribe request options topic))) (retained h) (who h d)) []
-        ≡ cond b (asked_events (get_retained_of options) (Ok p) (number (h ▷ Said c word (Subscribe request options topic))) (retained h) (who h c)) []
-    elsewhere d true own = ap (λ x. asked_events (get_retained_of options) (Ok p) (number (h ▷ Said c word (Subscribe request options topic))) (retained h) (who h x)) (sym (eqb-true c d own))
+        → cond b (asked_events options.get_retained (Ok p) (number (h ▷ Said c word (Subscribe request options topic))) (retained h) (who h d)) []
+        ≡ cond b (asked_events options.get_retained (Ok p) (number (h ▷ Said c word (Subscribe request options topic))) (retained h) (who h c)) []
+    elsewhere d true own = ap (λ x. asked_events options.get_retained (Ok p) (number (h ▷ Said c word (Subscribe request options topic))) (retained h) (who h x)) (sym (eqb-true c d own))
     elsewhere d false own = refl
 
-pub turns-subscribed : (s t : State) (c word request : ℕ) (options : Entries) (topic : List ℕ) (given : List (ℕ × Item))
-    → ((w : Who) → session_of s.sessions c ≡ Some w → IsSubscribed (record { old = s; new = t; given = given }) (record { conn = c; request = request }) (get_retained_of options) w (pattern_of options topic))
+pub turns-subscribed : (s t : State) (c word request : ℕ) (options : SubscribeOptions) (topic : List ℕ) (given : List (ℕ × Item))
+    → ((w : Who) → session_of s.sessions c ≡ Some w → IsSubscribed (record { old = s; new = t; given = given }) (record { conn = c; request = request }) options.get_retained w (pattern_of options topic))
     → Turns s (Said c word (Subscribe request options topic)) t given
 turns-subscribed s t c word request options topic given is h agrees come =
     let lives = session-lives h s c agrees come in
     at (pattern_of options topic) refl lives.0 lives.1 (is lives.0 (agrees.sessions c ∙ lives.1))
   where
-    at : (r : Result PatternText Reason) → pattern_of options topic ≡ r → (w : Who) → who h c ≡ Some w → IsSubscribed (record { old = s; new = t; given = given }) (record { conn = c; request = request }) (get_retained_of options) w r
+    at : (r : Result PatternText Reason) → pattern_of options topic ≡ r → (w : Who) → who h c ≡ Some w → IsSubscribed (record { old = s; new = t; given = given }) (record { conn = c; request = request }) options.get_retained w r
         → Turned h (Said c word (Subscribe request options topic)) s t given
     at (Err reason) asked w who_is answer = turned-refused h s t c word request options topic given reason agrees come (rw asked refl) answer.0 answer.1
     at (Ok p) asked w who_is answer = turned-held h s t c word request options topic given w p (answered s.index c p) agrees come who_is asked refl answer

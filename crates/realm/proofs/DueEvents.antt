@@ -6,7 +6,7 @@ use Rattle.std.specs.List.{filter}
 use Rattle.std.specs.Str.{bytes_eq}
 use Rattle.std.proofs.lemmas.Bool.{eqb-true, eq-eqb, and_parts, or_right}
 use Rattle.std.proofs.Math.Bool.{and-false}
-use Rattle.message_tree.specs.Data.{Entries}
+use Rattle.request_options.specs.declared.subscribe_options.SubscribeOptions.{SubscribeOptions}
 use Rattle.wamp_ids.proofs.Lemmas.{same_pattern-refl, bytes_eq-refl}
 use Rattle.wamp_ids.specs.Pattern.{PatternText, matches}
 use Rattle.wamp_ids.specs.declared.pattern.Policy.{Policy}
@@ -19,7 +19,6 @@ use Rattle.session.specs.declared.messages.item.Reason.{Reason}
 use Rattle.realm.specs.declared.entry.Entry.{Entry}
 use Rattle.realm.specs.declared.entry.Entry.TheVariants.{Said}
 use Rattle.realm.specs.History.{History, ◌▷◌}
-use Rattle.realm.specs.Options.{get_retained_of}
 use Rattle.realm.specs.Sessions.{who, conn_of}
 use Rattle.realm.specs.Subscriptions.{holds, held, number, subscribed, is_of}
 use Rattle.realm.specs.Publications.{kept, retained}
@@ -65,12 +64,12 @@ sent-due h e c x (Some p) publishes among = at (admits_who p (who h c)) refl amo
     at false admits there = absurd there
 
 -- a SUBSCRIBE leaves its session, which holds the pattern then
-who-kept : (h : History) (c word request : ℕ) (options : Entries) (topic : List ℕ)
+who-kept : (h : History) (c word request : ℕ) (options : SubscribeOptions) (topic : List ℕ)
     → who (h ▷ Said c word (Subscribe request options topic)) c ≡ who h c
 unfolding who
 who-kept h c word request options topic = ap (λ b. cond b None (who h c)) (and-false (eqb c c))
 
-holds-asked : (h : History) (c word request : ℕ) (options : Entries) (topic : List ℕ) (pattern : PatternText)
+holds-asked : (h : History) (c word request : ℕ) (options : SubscribeOptions) (topic : List ℕ) (pattern : PatternText)
     → subscribed h c options topic ≡ Ok pattern
     → holds (h ▷ Said c word (Subscribe request options topic)) c pattern ≡ true
 unfolding holds
@@ -81,16 +80,16 @@ holds-asked h c word request options topic pattern accepted =
     or_right (holds h c pattern) (eqb c c && is_of pattern (subscribed h c options topic)) own
 
 -- an EVENT of what is retained
-asked-due : (h : History) (c word request : ℕ) (options : Entries) (topic : List ℕ) (x : Item)
-    → IsAmong x (asked_events (get_retained_of options) (subscribed h c options topic)
+asked-due : (h : History) (c word request : ℕ) (options : SubscribeOptions) (topic : List ℕ) (x : Item)
+    → IsAmong x (asked_events options.get_retained (subscribed h c options topic)
     (number (h ▷ Said c word (Subscribe request options topic))) (retained h) (who h c))
     → IsAskedFor h (Said c word (Subscribe request options topic)) c x
-asked-due h c word request options topic x among = at (get_retained_of options) refl (subscribed h c options topic) refl among
+asked-due h c word request options topic x among = at options.get_retained refl (subscribed h c options topic) refl among
   where
     e : Entry
     e = Said c word (Subscribe request options topic)
 
-    at : (flag : Option Bool) → get_retained_of options ≡ flag → (r : Result PatternText Reason) → subscribed h c options topic ≡ r
+    at : (flag : Option Bool) → options.get_retained ≡ flag → (r : Result PatternText Reason) → subscribed h c options topic ≡ r
         → IsAmong x (asked_events flag r (number (h ▷ e)) (retained h) (who h c))
         → IsAskedFor h (Said c word (Subscribe request options topic)) c x
     at None asks (Ok pattern) accepted there = absurd there
@@ -126,7 +125,7 @@ events-due : (h : History) (e : Entry) (c : ℕ) (x : Item) → IsAmong x (event
 events-due h (Said d word (Subscribe request options topic)) c x among = inr (at (eqb d c) refl among)
   where
     asked : ℕ → List Item
-    asked k = asked_events (get_retained_of options) (subscribed h k options topic)
+    asked k = asked_events options.get_retained (subscribed h k options topic)
         (number (h ▷ Said k word (Subscribe request options topic))) (retained h) (who h c)
 
     at : (b : Bool) → eqb d c ≡ b → IsAmong x (cond b (asked d) []) → IsAskedFor h (Said d word (Subscribe request options topic)) c x
@@ -296,15 +295,15 @@ once-behind n p with_topic marked xs ys none s = record {
   not_after = s.not_after;
 }
 
-asked-once : (h : History) (c word request : ℕ) (options : Entries) (topic : List ℕ) (pattern : PatternText) (p : Publication)
-    → get_retained_of options ≡ Some true → subscribed h c options topic ≡ Ok pattern → IsAmong p (retained h)
+asked-once : (h : History) (c word request : ℕ) (options : SubscribeOptions) (topic : List ℕ) (pattern : PatternText) (p : Publication)
+    → options.get_retained ≡ Some true → subscribed h c options topic ≡ Ok pattern → IsAmong p (retained h)
     → (matches pattern p.topic && admits_who p (who h c)) ≡ true
     → StandsOnce (Event (number (h ▷ Said c word (Subscribe request options topic)) pattern) p (names_topic pattern.policy) true)
     (yield h (Said c word (Subscribe request options topic)) c)
 unfolding yield
 asked-once h c word request options topic pattern p asks accepted among passes =
     once-behind n p (names_topic pattern.policy) true (cond (eqb c c) (reply h e) []) (events h e c) (reply-silent h e c)
-    (subst (λ b. StandsOnce event (cond b (asked (get_retained_of options) (subscribed h c options topic)) [])) (sym (eq-eqb c c refl))
+    (subst (λ b. StandsOnce event (cond b (asked options.get_retained (subscribed h c options topic)) [])) (sym (eq-eqb c c refl))
     (subst (λ flag. StandsOnce event (asked flag (subscribed h c options topic))) (sym asks)
     (subst (λ r. StandsOnce event (asked (Some true) r)) (sym accepted)
     (once-asked n pattern.policy (λ q. matches pattern q.topic && admits_who q (who h c)) p (retained h)

@@ -14,7 +14,6 @@ use Rattle.session.specs.declared.messages.item.Reason.{Reason}
 use Rattle.realm.specs.declared.entry.Entry.{Entry}
 use Rattle.realm.specs.declared.entry.Entry.TheVariants.{Said}
 use Rattle.realm.specs.History.{History, ◌▷◌}
-use Rattle.realm.specs.Options.{get_retained_of}
 use Rattle.realm.specs.Sessions.{who, conn_of}
 use Rattle.realm.specs.Subscriptions.{holds, opened, held, number, number_among, numbered, subscribed}
 use Rattle.realm.specs.Publications.{retained}
@@ -67,8 +66,8 @@ events-once h (Said d word (Subscribe request options topic)) c = at (eqb d c)
     num : PatternText → ℕ
     num = number (h ▷ Said d word (Subscribe request options topic))
 
-    at : (b : Bool) → IsStrictlyAscending (sent_numbers (cond b (asked_events (get_retained_of options) (subscribed h d options topic) num (retained h) (who h c)) []))
-    at true = rw (asked-marked (get_retained_of options) (subscribed h d options topic) num (retained h) (who h c)) tt
+    at : (b : Bool) → IsStrictlyAscending (sent_numbers (cond b (asked_events options.get_retained (subscribed h d options topic) num (retained h) (who h c)) []))
+    at true = rw (asked-marked options.get_retained (subscribed h d options topic) num (retained h) (who h c)) tt
     at false = tt
 events-once h e c = sent-once h c (publication_of h e)
 

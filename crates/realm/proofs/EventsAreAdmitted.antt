@@ -16,7 +16,6 @@ use Rattle.session.specs.declared.messages.item.Reason.{Reason}
 use Rattle.realm.specs.declared.entry.Entry.{Entry}
 use Rattle.realm.specs.declared.entry.Entry.TheVariants.{Join, Said, Ping, Spoilt, Gone, Cut, Closed}
 use Rattle.realm.specs.History.{History, ◌▷◌}
-use Rattle.realm.specs.Options.{acknowledge_of, get_retained_of}
 use Rattle.realm.specs.Sessions.{who, admission, conn_of}
 use Rattle.realm.specs.Subscriptions.{held, number, subscribed, holds_number}
 use Rattle.realm.specs.Publications.{Made, published, retained}
@@ -57,7 +56,7 @@ module _ (P : Publication → Type 0) where
   reply-none h (Said c word (Hello realm authid)) = (tt, tt)
   reply-none h (Said c word say.Abort) = tt
   reply-none h (Said c word say.Goodbye) = (tt, tt)
-  reply-none h (Said c word (Publish request options topic args)) = publish-none request (acknowledge_of options) (published h c word options topic args)
+  reply-none h (Said c word (Publish request options topic args)) = publish-none request options.acknowledge (published h c word options topic args)
   reply-none h (Said c word (Subscribe request options topic)) =
       subscribe-none request (number (h ▷ Said c word (Subscribe request options topic))) (subscribed h c options topic)
   reply-none h (Said c word (Unsubscribe request n)) = unsubscribe-none request (holds_number h c n)
@@ -110,7 +109,7 @@ asked-admitted (Some true) (Ok p) num ps receiver = retained-admitted ps receive
 events-admitted : (h : History) (e : Entry) (c : ℕ) → EachEvent (λ p. admits_who p (who h c) ≡ true) (events h e c)
 events-admitted h (Said d word (Subscribe request options topic)) c =
     each-if (λ p. admits_who p (who h c) ≡ true) (eqb d c) _
-    (asked-admitted (get_retained_of options) (subscribed h d options topic) (number (h ▷ Said d word (Subscribe request options topic))) (retained h) (who h c))
+    (asked-admitted options.get_retained (subscribed h d options topic) (number (h ▷ Said d word (Subscribe request options topic))) (retained h) (who h c))
 events-admitted h e c = sent-admitted (publication_of h e) (who h c) (held h c)
 
 pub admitted : EventsAreAdmitted

@@ -18,7 +18,6 @@ use Rattle.session.specs.declared.messages.item.Item.{Item}
 use Rattle.session.specs.declared.messages.item.Item.TheVariants.{Welcome, Abort, Goodbye, Error, Published, Subscribed, Unsubscribed, Event, Pong}
 use Rattle.session.specs.declared.messages.item.Reason.{Reason}
 use Rattle.realm.specs.History.{History, begun, ◌▷◌}
-use Rattle.realm.specs.Options.{acknowledge_of, get_retained_of}
 use Rattle.realm.specs.Sessions.{who, live, ends, joined, conn_of, admission, IsHistory}
 use Rattle.realm.specs.Subscriptions.{holds, opened, held, number, number_among, numbered, if_new, is_of, subscribed, holds_number}
 use Rattle.realm.specs.Publications.{Made, published, retained}
@@ -95,7 +94,7 @@ held-announced (h ▷ Said d word (Subscribe request options topic)) c q is_hist
     rw kept (announced-more (owed h c) (yield h e c) (number h q) (held-announced h c q is_history.0 before)))
     (λ new.
     let both = and_parts (eqb d c) (is_of q r) new in
-    announced-new (owed h c) (yield h e c) (number (h ▷ e) q) (rw both.0 (replied request (number (h ▷ e)) r q (asked_events (get_retained_of options) r (number (h ▷ e)) (retained h) (who h c)) both.1)))
+    announced-new (owed h c) (yield h e c) (number (h ▷ e) q) (rw both.0 (replied request (number (h ▷ e)) r q (asked_events options.get_retained r (number (h ▷ e)) (retained h) (who h c)) both.1)))
     (or_cases (holds h c q) (eqb d c && is_of q r) held)
 held-announced (h ▷ Said d word (Unsubscribe request n)) c q is_history held =
     announced-more (owed h c) (yield h (Said d word (Unsubscribe request n)) c) (number h q)
@@ -181,7 +180,7 @@ module _ (Backs : ℕ → Type 0) where
   reply-plain seen h (Said c word say.Abort) = tt
   reply-plain seen h (Said c word say.Goodbye) = (tt, tt)
   reply-plain seen h (Said c word (Publish request options topic args)) =
-      publish-plain seen request (acknowledge_of options) (published h c word options topic args)
+      publish-plain seen request options.acknowledge (published h c word options topic args)
   reply-plain seen h (Said c word (Subscribe request options topic)) =
       subscribe-plain seen request (number (h ▷ Said c word (Subscribe request options topic))) (subscribed h c options topic)
   reply-plain seen h (Said c word (Unsubscribe request n)) = unsubscribe-plain seen request (holds_number h c n)
@@ -257,8 +256,8 @@ module _ (Backs : ℕ → Type 0) where
       num = number (h ▷ Said d word (Subscribe request options topic))
 
       at : (b : Bool) → AllowsEach (seen ++ cond b (subscribe_reply request num (subscribed h d options topic) ∷ []) [])
-          (cond b (asked_events (get_retained_of options) (subscribed h d options topic) num (retained h) (who h c)) [])
-      at true = asked-allowed seen request (get_retained_of options) (subscribed h d options topic) num (retained h) (who h c)
+          (cond b (asked_events options.get_retained (subscribed h d options topic) num (retained h) (who h c)) [])
+      at true = asked-allowed seen request options.get_retained (subscribed h d options topic) num (retained h) (who h c)
       at false = tt
   events-allowed seen h e c announced =
       AllowsEach-more seen (cond (eqb (conn_of e) c) (reply h e) []) (sent_events (publication_of h e) (who h c) (held h c)) (sent-allowed seen h c (publication_of h e) announced)
@@ -326,7 +325,7 @@ held-since (h ▷ Said d word (Subscribe request options topic)) c q is_history 
     record {
       before = h;
       entry = e;
-      given = rw both.0 (replied request (number (h ▷ e)) r q (asked_events (get_retained_of options) r (number (h ▷ e)) (retained h) (who h c)) both.1);
+      given = rw both.0 (replied request (number (h ▷ e)) r q (asked_events options.get_retained r (number (h ▷ e)) (retained h) (who h c)) both.1);
       since = at_once;
     })
     (or_cases (holds h c q) (eqb d c && is_of q r) held)

@@ -3,7 +3,7 @@ use Rattle.std.proofs.Common.{◌≡◌, ℕ, Bool, true, false, cond, eqb, List
 use Rattle.std.specs.declared.result.Result.{Result}
 use Rattle.std.specs.Result.{result_ok}
 use Rattle.std.specs.List.{filter}
-use Rattle.message_tree.specs.Data.{Entries}
+use Rattle.request_options.specs.declared.publish_options.PublishOptions.{PublishOptions}
 use Rattle.wamp_ids.specs.Pattern.{PatternText, matches}
 use Rattle.retained.specs.Store.{last_of_each, by_topic, put_by_topic, is_before}
 use Rattle.retained.proofs.Lemmas.{last_alone}
@@ -83,7 +83,7 @@ among-events p n pattern (s ∷ ss) among fits = at (matches s.1 p.topic) refl a
     at false is (inl here) later = absurd (let other : matches pattern p.topic ≡ false = ap (λ x. matches x.1 p.topic) here ∙ is in cc)
     at false is (inr there) later = later there
 
-published-sent : (h : History) (d word request : ℕ) (options : Entries) (topic : List ℕ) (args : Arguments) (made : Made) → published h d word options topic args ≡ Ok made
+published-sent : (h : History) (d word request : ℕ) (options : PublishOptions) (topic : List ℕ) (args : Arguments) (made : Made) → published h d word options topic args ≡ Ok made
     → (c n : ℕ) (pattern : PatternText) → IsAmong (n, pattern) (held h c) → matches pattern made.publication.topic ≡ true → admits_who made.publication (who h c) ≡ true
     → IsAmong (Event n made.publication (names_topic pattern.policy) false) (yield h (Said d word (Publish request options topic args)) c)
 unfolding yield

@@ -2,7 +2,8 @@
 use Rattle.std.proofs.Common.{◌≡◌, ℕ, cond, not, ◌&&◌, eqb, List, refl, None}
 use Rattle.std.specs.declared.option.Option.{Option}
 use Rattle.std.proofs.Math.Bool.{and-true, and-false}
-use Rattle.message_tree.specs.Data.{Entries}
+use Rattle.request_options.specs.declared.publish_options.PublishOptions.{PublishOptions}
+use Rattle.request_options.specs.declared.subscribe_options.SubscribeOptions.{SubscribeOptions}
 use Rattle.wamp_ids.specs.Pattern.{PatternText}
 use Rattle.session.specs.Arguments.{Arguments}
 use Rattle.session.specs.declared.messages.said.Said.TheVariants.{Hello, Abort, Goodbye, Publish, Subscribe, Unsubscribe}
@@ -89,22 +90,22 @@ pub ping-kept : (h : History) (c : ℕ) (payload : List ℕ) → kept (h ▷ Pin
 unfolding kept
 ping-kept h c payload = refl
 
-pub publish : (h : History) (c w request : ℕ) (options : Entries) (topic : List ℕ) (args : Arguments) → KeepsSessions h (Said c w (Publish request options topic args))
+pub publish : (h : History) (c w request : ℕ) (options : PublishOptions) (topic : List ℕ) (args : Arguments) → KeepsSessions h (Said c w (Publish request options topic args))
 unfolding who
 publish h c w request options topic args = record { who = λ d. rw (and-false (eqb c d)) refl; joined = refl }
 
-pub publish-held : (h : History) (c w request : ℕ) (options : Entries) (topic : List ℕ) (args : Arguments) → KeepsHeld h (Said c w (Publish request options topic args))
+pub publish-held : (h : History) (c w request : ℕ) (options : PublishOptions) (topic : List ℕ) (args : Arguments) → KeepsHeld h (Said c w (Publish request options topic args))
 unfolding holds opened
 publish-held h c w request options topic args = record {
   holds = λ d p. rw (and-false (eqb c d)) (and-true (holds h d p));
   opened = refl;
 }
 
-pub subscribe : (h : History) (c w request : ℕ) (options : Entries) (topic : List ℕ) → KeepsSessions h (Said c w (Subscribe request options topic))
+pub subscribe : (h : History) (c w request : ℕ) (options : SubscribeOptions) (topic : List ℕ) → KeepsSessions h (Said c w (Subscribe request options topic))
 unfolding who
 subscribe h c w request options topic = record { who = λ d. rw (and-false (eqb c d)) refl; joined = refl }
 
-pub subscribe-kept : (h : History) (c w request : ℕ) (options : Entries) (topic : List ℕ) → kept (h ▷ Said c w (Subscribe request options topic)) ≡ kept h
+pub subscribe-kept : (h : History) (c w request : ℕ) (options : SubscribeOptions) (topic : List ℕ) → kept (h ▷ Said c w (Subscribe request options topic)) ≡ kept h
 unfolding kept
 subscribe-kept h c w request options topic = refl
 

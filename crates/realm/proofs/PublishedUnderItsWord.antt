@@ -12,9 +12,9 @@ use Rattle.session.specs.declared.messages.item.Publication.{Publication}
 use Rattle.session.specs.declared.messages.item.Reason.{Reason}
 use Rattle.session.specs.declared.messages.item.Reason.TheVariants.{InvalidArgument, InvalidUri, RetainedFull}
 use Rattle.realm.specs.declared.entry.Entry.TheVariants.{Join, Said, Ping, Spoilt, Gone, Cut, Closed}
-use Rattle.realm.specs.declared.publish_options.PublishOptions.{PublishOptions}
+use Rattle.realm.specs.declared.accepted_options.AcceptedOptions.{AcceptedOptions}
 use Rattle.realm.specs.Sessions.{who, admission}
-use Rattle.realm.specs.Publications.{Made, made_by, published_by, by_publisher, published, publish_options_of}
+use Rattle.realm.specs.Publications.{Made, made_by, published_by, by_publisher, published, accepted_options_of}
 use Rattle.realm.specs.MetaEvents.{arrival, departure}
 use Rattle.realm.specs.Laws.{PublishedUnderItsWord}
 
@@ -38,12 +38,12 @@ of-cond : (word : ℕ) (b : Bool) (r s : Result Made Reason) → HasId word (mad
 of-cond word true r s first second = first
 of-cond word false r s first second = second
 
-of-publish : (room : Bool) (word : ℕ) (w : Who) (topic : List ℕ) (args : Arguments) (o : Option PublishOptions) → HasId word (made_publication (published_by room word w topic args o))
+of-publish : (room : Bool) (word : ℕ) (w : Who) (topic : List ℕ) (args : Arguments) (o : Option AcceptedOptions) → HasId word (made_publication (published_by room word w topic args o))
 of-publish room word w topic args None = tt
-of-publish room word w topic args (Some publish_options) =
+of-publish room word w topic args (Some accepted_options) =
     of-cond word (not (is_topic topic) || is_reserved topic) (Err InvalidUri) _ tt
     (of-cond word (not (is_all_carried args)) (Err InvalidArgument) _ tt
-    (of-cond word (publish_options.retained && not room) (Err RetainedFull) (Ok (made_by word w topic args publish_options)) tt refl))
+    (of-cond word (accepted_options.retained && not room) (Err RetainedFull) (Ok (made_by word w topic args accepted_options)) tt refl))
 
 by-someone : (word : ℕ) (o : Option Who) (f : Who → Result Made Reason) → ((w : Who) → HasId word (made_publication (f w))) → HasId word (made_publication (by_publisher o f))
 by-someone word None f each = tt
@@ -62,7 +62,7 @@ drawn h (Said c word (Hello realm authid)) p is = (refl, drew word _ p (departed
 drawn h (Said c word Abort) p is = (refl, drew word _ p (departed word (who h c)) is)
 drawn h (Said c word Goodbye) p is = (refl, drew word _ p (departed word (who h c)) is)
 drawn h (Said c word (Publish request options topic args)) p is =
-    (refl, drew word (made_publication (published h c word options topic args)) p (by-someone word (who h c) _ (λ w. of-publish _ word w topic args (publish_options_of options))) is)
+    (refl, drew word (made_publication (published h c word options topic args)) p (by-someone word (who h c) _ (λ w. of-publish _ word w topic args (accepted_options_of options))) is)
 drawn h (Said c word (Subscribe request options topic)) p is = absurd (cc)
 drawn h (Said c word (Unsubscribe request n)) p is = absurd (cc)
 drawn h (Ping c payload) p is = absurd (cc)

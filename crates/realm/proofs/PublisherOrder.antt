@@ -19,12 +19,11 @@ use Rattle.session.specs.declared.messages.item.Reason.{Reason}
 use Rattle.session.specs.declared.messages.item.Reason.TheVariants.{InvalidArgument, InvalidUri, RetainedFull}
 use Rattle.realm.specs.declared.entry.Entry.{Entry}
 use Rattle.realm.specs.declared.entry.Entry.TheVariants.{Join, Said, Ping, Spoilt, Gone, Cut, Closed}
-use Rattle.realm.specs.declared.publish_options.PublishOptions.{PublishOptions}
+use Rattle.realm.specs.declared.accepted_options.AcceptedOptions.{AcceptedOptions}
 use Rattle.realm.specs.History.{History, begun, ◌▷◌, grants_of}
-use Rattle.realm.specs.Options.{get_retained_of}
 use Rattle.realm.specs.Sessions.{who, conn_of, admission, id_in_use, name_for, role_for}
 use Rattle.realm.specs.Subscriptions.{held, number, subscribed}
-use Rattle.realm.specs.Publications.{Made, made_by, published, published_by, by_publisher, publish_options_of, retained}
+use Rattle.realm.specs.Publications.{Made, made_by, published, published_by, by_publisher, accepted_options_of, retained}
 use Rattle.realm.specs.MetaEvents.{arrival, departure}
 use Rattle.realm.specs.Yield.{owed, yield, reply, events, publication_of, sent_events, asked_events, names_topic, admits_who}
 use Rattle.realm.specs.Laws.{EachEvent}
@@ -54,13 +53,13 @@ of-cond : (c : ℕ) (b : Bool) (r s : Result Made Reason) → IsBy c (made_publi
 of-cond c true r s first second = first
 of-cond c false r s first second = second
 
-of-publish : (room : Bool) (word : ℕ) (w : Who) (topic : List ℕ) (args : Arguments) (o : Option PublishOptions)
+of-publish : (room : Bool) (word : ℕ) (w : Who) (topic : List ℕ) (args : Arguments) (o : Option AcceptedOptions)
     → IsBy w.conn (made_publication (published_by room word w topic args o))
 of-publish room word w topic args None = tt
-of-publish room word w topic args (Some publish_options) =
+of-publish room word w topic args (Some accepted_options) =
     of-cond w.conn (not (is_topic topic) || is_reserved topic) (Err InvalidUri) _ tt
     (of-cond w.conn (not (is_all_carried args)) (Err InvalidArgument) _ tt
-    (of-cond w.conn (publish_options.retained && not room) (Err RetainedFull) (Ok (made_by word w topic args publish_options)) tt refl))
+    (of-cond w.conn (accepted_options.retained && not room) (Err RetainedFull) (Ok (made_by word w topic args accepted_options)) tt refl))
 
 by-someone : (c : ℕ) (o : Option Who) (f : Who → Result Made Reason) → MatchOption o ⊤ (λ w. w.conn ≡ c)
     → ((w : Who) → IsBy w.conn (made_publication (f w))) → IsBy c (made_publication (by_publisher o f))
@@ -80,7 +79,7 @@ own-publisher h (Said c word Abort) p is = the-publisher c _ p (departed c word 
 own-publisher h (Said c word Goodbye) p is = the-publisher c _ p (departed c word (who h c) (who-conn h c)) is
 own-publisher h (Said c word (Publish request options topic args)) p is =
     the-publisher c (made_publication (published h c word options topic args)) p
-    (by-someone c (who h c) _ (who-conn h c) (λ w. of-publish _ word w topic args (publish_options_of options))) is
+    (by-someone c (who h c) _ (who-conn h c) (λ w. of-publish _ word w topic args (accepted_options_of options))) is
 own-publisher h (Said c word (Subscribe request options topic)) p is = absurd (cc)
 own-publisher h (Said c word (Unsubscribe request n)) p is = absurd (cc)
 own-publisher h (Ping c payload) p is = absurd (cc)
@@ -178,7 +177,7 @@ events-in-order : (h : History) (e : Entry) (c d : ℕ) → IsInOrderOf (events_
 events-in-order h (Said k word (Subscribe request options topic)) c d =
     subst (λ l. IsInOrderOf l (own_publish c h (Said k word (Subscribe request options topic))))
     (sym (if-marked c (eqb k d) _
-    (asked-marked c (get_retained_of options) (subscribed h k options topic)
+    (asked-marked c options.get_retained (subscribed h k options topic)
     (number (h ▷ Said k word (Subscribe request options topic))) (retained h) (who h d))))
     (order-none (own_publish c h (Said k word (Subscribe request options topic))))
 events-in-order h e c d = sent-in-order h e c d (publication_of h e) refl

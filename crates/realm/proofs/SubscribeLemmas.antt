@@ -3,7 +3,7 @@ use Rattle.std.proofs.Common.{◌≡◌, ℕ, suc, ◌+◌, ◌<◌, Bool, true,
 use Rattle.std.specs.declared.option.Option.{Option}
 use Rattle.std.specs.List.{list_any}
 use Rattle.std.proofs.lemmas.Bool.{eqb-true, eq-eqb, ltb-true, and_parts, false_from_ne_true}
-use Rattle.message_tree.specs.Data.{Entries}
+use Rattle.request_options.specs.declared.subscribe_options.SubscribeOptions.{SubscribeOptions}
 use Rattle.wamp_ids.proofs.Lemmas.{same_pattern-refl, same_pattern-true}
 use Rattle.wamp_ids.specs.Pattern.{PatternText, same_pattern}
 use Rattle.subscription_index.specs.Index.{Held, IsIndex, number_held, number_of, count_of, insert_row, subscribed_by, joined_or_opened, subscribed as answered}
@@ -95,24 +95,24 @@ module _ (h : History) (v : Held) (t : Ties h v) (c : ℕ) (p : PatternText) whe
       at None is = rw (not-held is, ← count-held) (counted (ltb (count_of v.rows c) 256))
 
 -- after a SUBSCRIBE the index and the number are those of the history
-pub record Follows (h : History) (d w request : ℕ) (options : Entries) (topic : List ℕ) (p : PatternText) (n : ℕ) (v : Held) : Type 0 where
+pub record Follows (h : History) (d w request : ℕ) (options : SubscribeOptions) (topic : List ℕ) (p : PatternText) (n : ℕ) (v : Held) : Type 0 where
   pub index : IsIndex v
   pub rows : (c m : ℕ) (q : PatternText) → has_row v.rows ((c, m), q) ≡ (holds (h ▷ Said d w (Subscribe request options topic)) c q && eqb (number_among (opened (h ▷ Said d w (Subscribe request options topic))) q) m)
   pub openings : v.opened ≡ length (opened (h ▷ Said d w (Subscribe request options topic)))
   pub number : number (h ▷ Said d w (Subscribe request options topic)) p ≡ n
 
-holds-next : (h : History) (d w request : ℕ) (options : Entries) (topic : List ℕ) (c : ℕ) (q : PatternText)
+holds-next : (h : History) (d w request : ℕ) (options : SubscribeOptions) (topic : List ℕ) (c : ℕ) (q : PatternText)
     → holds (h ▷ Said d w (Subscribe request options topic)) c q ≡ (holds h c q || (eqb d c && is_of q (subscribed h d options topic)))
 unfolding holds
 holds-next h d w request options topic c q = refl
 
-opened-next : (h : History) (d w request : ℕ) (options : Entries) (topic : List ℕ)
+opened-next : (h : History) (d w request : ℕ) (options : SubscribeOptions) (topic : List ℕ)
     → opened (h ▷ Said d w (Subscribe request options topic)) ≡ if_new (somebody h) (subscribed h d options topic) ++ opened h
 unfolding opened
 opened-next h d w request options topic = refl
 
 -- refused: nothing changes
-pub refused-holds : (h : History) (d w request : ℕ) (options : Entries) (topic : List ℕ) (reason : Reason) → subscribed h d options topic ≡ Err reason
+pub refused-holds : (h : History) (d w request : ℕ) (options : SubscribeOptions) (topic : List ℕ) (reason : Reason) → subscribed h d options topic ≡ Err reason
     → (c : ℕ) (q : PatternText) → holds (h ▷ Said d w (Subscribe request options topic)) c q ≡ holds h c q
 refused-holds h d w request options topic reason is c q = holds-next h d w request options topic c q ∙ rw is (at (eqb d c) (holds h c q))
   where
@@ -122,11 +122,11 @@ refused-holds h d w request options topic reason is c q = holds-next h d w reque
     at false true = refl
     at false false = refl
 
-pub refused-opened : (h : History) (d w request : ℕ) (options : Entries) (topic : List ℕ) (reason : Reason) → subscribed h d options topic ≡ Err reason
+pub refused-opened : (h : History) (d w request : ℕ) (options : SubscribeOptions) (topic : List ℕ) (reason : Reason) → subscribed h d options topic ≡ Err reason
     → opened (h ▷ Said d w (Subscribe request options topic)) ≡ opened h
 refused-opened h d w request options topic reason is = opened-next h d w request options topic ∙ rw is refl
 
-module _ (h : History) (v : Held) (t : Ties h v) (d w request : ℕ) (options : Entries) (topic : List ℕ) (p : PatternText) (accepted : subscribed h d options topic ≡ Ok p) where
+module _ (h : History) (v : Held) (t : Ties h v) (d w request : ℕ) (options : SubscribeOptions) (topic : List ℕ) (p : PatternText) (accepted : subscribed h d options topic ≡ Ok p) where
   holds-after : (c : ℕ) (q : PatternText) → holds (h ▷ Said d w (Subscribe request options topic)) c q ≡ (holds h c q || (eqb d c && same_pattern p q))
   holds-after c q = holds-next h d w request options topic c q ∙ rw accepted refl
 

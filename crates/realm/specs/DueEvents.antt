@@ -1,6 +1,6 @@
 -- The EVENTs that an entry owes each session: all that are due are given, once, and no other.
 use Rattle.std.specs.Prelude.{ℕ, Bool, true, false, ◌≡◌, ◌⊎◌, List, ◌∷◌, ◌++◌, Some, Ok}
-use Rattle.message_tree.specs.Data.{Entries}
+use Rattle.request_options.specs.declared.subscribe_options.SubscribeOptions.{SubscribeOptions}
 use Rattle.wamp_ids.specs.Pattern.{PatternText, matches}
 use Rattle.session.specs.declared.messages.said.Said.TheVariants.{Subscribe}
 use Rattle.session.specs.declared.messages.item.Publication.{Publication}
@@ -9,7 +9,6 @@ use Rattle.session.specs.declared.messages.item.Item.TheVariants.{Event}
 use Rattle.realm.specs.declared.entry.Entry.{Entry}
 use Rattle.realm.specs.declared.entry.Entry.TheVariants.{Said}
 use Rattle.realm.specs.History.{History, ◌▷◌}
-use Rattle.realm.specs.Options.{get_retained_of}
 use Rattle.realm.specs.Sessions.{who}
 use Rattle.realm.specs.Subscriptions.{held, number, subscribed}
 use Rattle.realm.specs.Publications.{retained}
@@ -36,12 +35,12 @@ pub record IsSent (h : History) (e : Entry) (c : ℕ) (x : Item) : Type 0 where
 pub record IsAskedFor (h : History) (e : Entry) (c : ℕ) (x : Item) : Type 0 where
   pub word : ℕ
   pub request : ℕ
-  pub options : Entries
+  pub options : SubscribeOptions
   pub topic : List ℕ
   pub pattern : PatternText
   pub publication : Publication
   pub entry : e ≡ Said c word (Subscribe request options topic)
-  pub asks : get_retained_of options ≡ Some true
+  pub asks : options.get_retained ≡ Some true
   pub accepted : subscribed h c options topic ≡ Ok pattern
   pub is_retained : IsAmong publication (retained h)
   pub due : IsDue (h ▷ e) c (number (h ▷ e) pattern) pattern publication

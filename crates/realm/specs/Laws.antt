@@ -1,7 +1,7 @@
 -- What holds of every history.
 use Rattle.std.specs.Prelude.{ℕ, ℤ, Bool, true, false, ◌==◌, ◌&&◌, ◌≡◌, ◌≢◌, ◌≤◌, ◌<◌, ⊤, ◌⊎◌, take, List, [], ◌∷◌, ◌++◌, None, Some, Ok, option_map}
 use Rattle.std.specs.List.{list_any}
-use Rattle.message_tree.specs.Data.{Entries}
+use Rattle.request_options.specs.declared.publish_options.PublishOptions.{PublishOptions}
 use Rattle.wamp_ids.specs.Numbers.{id_of_word}
 use Rattle.wamp_ids.specs.Pattern.{PatternText, matches}
 use Rattle.wamp_ids.specs.Uri.{is_reserved}
@@ -127,7 +127,7 @@ pub record WasSent (h : History) (p : Publication) : Type 0 where
   pub conn : ℕ
   pub word : ℕ
   pub request : ℕ
-  pub options : Entries
+  pub options : PublishOptions
   pub topic : List ℕ
   pub args : Arguments
   pub begins : Begins (before ▷ Said conn word (say.Publish request options topic args)) h

@@ -3,7 +3,7 @@
 use Rattle.std.specs.Prelude.{ℕ, Bool, cond, not, ◌&&◌, ◌||◌, List, [], ◌∷◌, ◌++◌, None, Some, Ok, Err}
 use Rattle.std.specs.declared.option.Option.{Option}
 use Rattle.std.specs.declared.result.Result.{Result}
-use Rattle.message_tree.specs.Data.{Entries}
+use Rattle.request_options.specs.declared.publish_options.PublishOptions.{PublishOptions}
 use Rattle.wamp_ids.specs.Numbers.{id_of_word}
 use Rattle.wamp_ids.specs.Uri.{is_topic, is_reserved}
 use Rattle.eligibility.specs.declared.who.Who.{Who}
@@ -14,42 +14,41 @@ use Rattle.session.specs.declared.messages.item.Publication.{Publication}
 use Rattle.session.specs.declared.messages.item.Reason.{Reason}
 use Rattle.session.specs.declared.messages.item.Reason.TheVariants.{InvalidArgument, InvalidUri, RetainedFull}
 use Rattle.retained.specs.Store.{retained_of, is_full, may_be_retained}
-use Rattle.realm.specs.declared.publish_options.PublishOptions.{PublishOptions}
+use Rattle.realm.specs.declared.accepted_options.AcceptedOptions.{AcceptedOptions}
 use Rattle.realm.specs.declared.entry.Entry.TheVariants.{Said}
 use Rattle.realm.specs.History.{History, begun, ◌▷◌}
-use Rattle.realm.specs.Options.{acknowledge_of, disclose_me_of, retain_of}
 use Rattle.realm.specs.Sessions.{who}
 
 -- what a PUBLISH with well-formed options asks for
-abbrev pub wishes_by : Option Bool → Option Bool → Option Bool → Option Audience → Option PublishOptions
+abbrev pub wishes_by : Option Bool → Option Bool → Option Bool → Option Audience → Option AcceptedOptions
 wishes_by (Some acknowledge) (Some disclose) (Some retain) (Some audience) =
     Some (record { lists = audience; disclosed = disclose; retained = retain })
 wishes_by _ _ _ _ = None
 
 -- none where an option has a wrong type
-abbrev pub publish_options_of : Entries → Option PublishOptions
-publish_options_of options = wishes_by (acknowledge_of options) (disclose_me_of options) (retain_of options) (audience_of options)
+abbrev pub accepted_options_of : PublishOptions → Option AcceptedOptions
+accepted_options_of options = wishes_by options.acknowledge options.disclose_me options.retain options.lists
 
 -- an accepted PUBLISH: its publication, and whether this is to be its topic's retained one
 pub record Made : Type 0 where
   pub publication : Publication
   pub retained : Bool
 
-abbrev pub made_by : ℕ → Who → List ℕ → Arguments → PublishOptions → Made
-made_by word publisher topic args publish_options = record {
-  publication = record { id = id_of_word word; topic = topic; lists = publish_options.lists; publisher = publisher; disclosed = publish_options.disclosed; args = args };
-  retained = publish_options.retained;
+abbrev pub made_by : ℕ → Who → List ℕ → Arguments → AcceptedOptions → Made
+made_by word publisher topic args accepted_options = record {
+  publication = record { id = id_of_word word; topic = topic; lists = accepted_options.lists; publisher = publisher; disclosed = accepted_options.disclosed; args = args };
+  retained = accepted_options.retained;
 }
 
 -- What a PUBLISH makes, or the first of the refusals: an option of wrong type, a bad or reserved topic, arguments that can't be carried, no room for what is to be retained.
 -- `room` tells whether the topic may be retained.
-abbrev pub published_by : Bool → ℕ → Who → List ℕ → Arguments → Option PublishOptions → Result Made Reason
+abbrev pub published_by : Bool → ℕ → Who → List ℕ → Arguments → Option AcceptedOptions → Result Made Reason
 published_by room word publisher topic args None = Err InvalidArgument
-published_by room word publisher topic args (Some publish_options) =
+published_by room word publisher topic args (Some accepted_options) =
     cond (not (is_topic topic) || is_reserved topic) (Err InvalidUri)
     (cond (not (is_all_carried args)) (Err InvalidArgument)
-    (cond (publish_options.retained && not room) (Err RetainedFull)
-    (Ok (made_by word publisher topic args publish_options))))
+    (cond (accepted_options.retained && not room) (Err RetainedFull)
+    (Ok (made_by word publisher topic args accepted_options))))
 
 -- of a session; who has none says nothing, so the first case never comes up in a history
 abbrev pub by_publisher : Option Who → (Who → Result Made Reason) → Result Made Reason
@@ -57,9 +56,9 @@ by_publisher None f = Err InvalidArgument
 by_publisher (Some w) f = f w
 
 -- what a PUBLISH of this session makes, or why it is refused, where these publications were kept before
-abbrev pub published_after : List Publication → Option Who → ℕ → Entries → List ℕ → Arguments → Result Made Reason
+abbrev pub published_after : List Publication → Option Who → ℕ → PublishOptions → List ℕ → Arguments → Result Made Reason
 published_after kept publisher word options topic args =
-    by_publisher publisher (λ w. published_by (may_be_retained kept topic) word w topic args (publish_options_of options))
+    by_publisher publisher (λ w. published_by (may_be_retained kept topic) word w topic args (accepted_options_of options))
 
 abbrev pub if_retained : Result Made Reason → List Publication
 if_retained (Err reason) = []
@@ -81,7 +80,7 @@ abbrev pub is_retained_full : History → Bool
 is_retained_full h = is_full (retained h)
 
 -- the answer to a PUBLISH of c that comes after h
-abbrev pub published : History → ℕ → ℕ → Entries → List ℕ → Arguments → Result Made Reason
+abbrev pub published : History → ℕ → ℕ → PublishOptions → List ℕ → Arguments → Result Made Reason
 published h c word options topic args = published_after (kept h) (who h c) word options topic args
 
 -- the publication admits this receiver

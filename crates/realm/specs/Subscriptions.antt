@@ -3,7 +3,7 @@ use Rattle.std.specs.Prelude.{ℕ, Bool, false, cond, not, ◌==◌, ◌&&◌, �
 use Rattle.std.specs.declared.option.Option.{Option}
 use Rattle.std.specs.declared.result.Result.{Result}
 use Rattle.std.specs.List.{list_any, filter}
-use Rattle.message_tree.specs.Data.{Entries}
+use Rattle.request_options.specs.declared.subscribe_options.SubscribeOptions.{SubscribeOptions}
 use Rattle.wamp_ids.specs.Pattern.{PatternText, is_pattern, same_pattern}
 use Rattle.wamp_ids.specs.declared.pattern.Policy.{Policy}
 use Rattle.realm.specs.declared.entry.Entry.TheVariants.{Said}
@@ -11,7 +11,6 @@ use Rattle.session.specs.declared.messages.said.Said.TheVariants.{Subscribe, Uns
 use Rattle.session.specs.declared.messages.item.Reason.{Reason}
 use Rattle.session.specs.declared.messages.item.Reason.TheVariants.{InvalidArgument, InvalidUri, TooManySubscriptions}
 use Rattle.realm.specs.History.{History, begun, ◌▷◌}
-use Rattle.realm.specs.Options.{match_of, get_retained_of}
 use Rattle.realm.specs.Sessions.{joined, ends}
 
 -- the pattern that a SUBSCRIBE asks for, where its options and its text are well formed
@@ -20,8 +19,8 @@ pattern_by None flag text = Err InvalidArgument
 pattern_by (Some policy) None text = Err InvalidArgument
 pattern_by (Some policy) (Some flag) text = cond (is_pattern policy text) (Ok (record { policy = policy; text = text })) (Err InvalidUri)
 
-abbrev pub pattern_of : Entries → List ℕ → Result PatternText Reason
-pattern_of options text = pattern_by (match_of options) (get_retained_of options) text
+abbrev pub pattern_of : SubscribeOptions → List ℕ → Result PatternText Reason
+pattern_of options text = pattern_by options.policy options.get_retained text
 
 -- Of the patterns that were opened, the newest first: the number of p is how many were opened up to and with the last opening of p.
 abbrev pub number_among : List PatternText → PatternText → ℕ
@@ -83,7 +82,7 @@ abbrev pub held : History → ℕ → List (ℕ × PatternText)
 held h c = held_among (holds h c) (opened h)
 
 -- the answer to a SUBSCRIBE of c that comes after h
-abbrev pub subscribed : History → ℕ → Entries → List ℕ → Result PatternText Reason
+abbrev pub subscribed : History → ℕ → SubscribeOptions → List ℕ → Result PatternText Reason
 subscribed h c options topic = accepted_by (has_room (holds h) (opened h) (joined h) c) (pattern_of options topic)
 
 -- an UNSUBSCRIBE of n by c that comes after h is accepted: c holds a pattern of this number

@@ -18,7 +18,6 @@ use Rattle.session.specs.declared.messages.item.Request.TheVariants as kind
 use Rattle.session.specs.declared.messages.item.Reason.{Reason}
 use Rattle.session.specs.declared.messages.item.Reason.TheVariants.{ProtocolViolation, GoodbyeAndOut, NoSuchSubscription, SystemShutdown}
 use Rattle.realm.specs.History.{History, begun, ◌▷◌}
-use Rattle.realm.specs.Options.{acknowledge_of, get_retained_of}
 use Rattle.realm.specs.Sessions.{who, conn_of, admission}
 use Rattle.realm.specs.Subscriptions.{held, number, subscribed, holds_number}
 use Rattle.realm.specs.Publications.{Made, published, retained, admits}
@@ -51,7 +50,7 @@ reply h (Said c word (Hello realm authid)) = Abort ProtocolViolation ∷ []
 reply h (Said c word say.Abort) = []
 reply h (Said c word say.Goodbye) = Goodbye GoodbyeAndOut ∷ []
 reply h (Said c word (Publish request options topic args)) =
-    publish_reply request (acknowledge_of options) (published h c word options topic args)
+    publish_reply request options.acknowledge (published h c word options topic args)
 reply h (Said c word (Subscribe request options topic)) =
     subscribe_reply request (number (h ▷ Said c word (Subscribe request options topic))) (subscribed h c options topic) ∷ []
 reply h (Said c word (Unsubscribe request n)) = unsubscribe_reply request (holds_number h c n) ∷ []
@@ -103,7 +102,7 @@ asked_events _ _ number retained receiver = []
 abbrev pub events : History → Entry → ℕ → List Item
 events h (Said d word (Subscribe request options topic)) c =
     cond (d == c)
-    (asked_events (get_retained_of options) (subscribed h d options topic) (number (h ▷ Said d word (Subscribe request options topic))) (retained h) (who h c))
+    (asked_events options.get_retained (subscribed h d options topic) (number (h ▷ Said d word (Subscribe request options topic))) (retained h) (who h c))
     []
 events h e c = sent_events (publication_of h e) (who h c) (held h c)
 

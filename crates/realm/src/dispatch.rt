@@ -138,7 +138,7 @@ fn answer_said(
             let asked = SubscribeRequest {
                 conn,
                 request,
-                options: &options,
+                options,
                 topic: &topic,
             };
             subscribe(alloc, state, &asked)

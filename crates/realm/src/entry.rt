@@ -4,7 +4,7 @@ ghost use Rattle.realm.specs.Sessions.{conn_of};
 ghost use Rattle.realm.specs.Words.{draws_word, is_silent, says_with_word};
 
 use message_tree::{Octets, Text};
-use session::Said;
+use session::{Said, SaidKind};
 use wamp_ids::Conn;
 
 /// What happens to a realm: one entry of its history.
@@ -73,14 +73,7 @@ pub enum Entry {
 pub fn says_with_word(said: &Said) -> bool
     ensures { result ≡ says_with_word said.now }
 {
-    match said {
-        Said::Hello { .. } => true,
-        Said::Abort => true,
-        Said::Goodbye => true,
-        Said::Publish { .. } => true,
-        Said::Subscribe { .. } => false,
-        Said::Unsubscribe { .. } => false,
-    }
+    said.kind() != SaidKind::Request
 }
 
 impl Entry {

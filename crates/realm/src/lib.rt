@@ -7,6 +7,7 @@
 //! which order, `specs/PostedOrder` speaks: the crates above show it of their own schedules.
 #![tactic(auto)]
 
+mod accepted_options;
 mod dispatch;
 mod entry;
 mod events;
@@ -16,7 +17,6 @@ mod joins;
 pub mod laws;
 mod meta_events;
 mod publications;
-mod publish_options;
 mod realm;
 mod seats;
 mod sessions;
@@ -27,4 +27,7 @@ mod subscriptions;
 pub use entry::{Entry, says_with_word};
 pub use fault::Fault;
 pub use realm::{Realm, RealmConfig};
-pub use session::{Args, CarriedArgs, Item, Lists, Publication, Reason, Request, Said, Who};
+pub use session::{
+    Args, CarriedArgs, Item, Lists, Publication, PublishOptions, Reason, Request, Said,
+    SubscribeOptions, Who,
+};

@@ -4,29 +4,28 @@ ghost use Rattle.wamp_ids.specs.Uri.{is_topic, is_reserved};
 ghost use Rattle.session.specs.Arguments.{is_all_carried};
 ghost use Rattle.retained.specs.Store.{has_room, set_topic};
 ghost use Rattle.eligibility.specs.declared.who.Who.{Who};
-ghost use Rattle.realm.specs.Options.{acknowledge_of};
 ghost use Rattle.realm.specs.body.LiveSessions.{session_of, AreHeld};
-ghost use Rattle.realm.specs.Publications.{published_by, publish_options_of, made_by};
+ghost use Rattle.realm.specs.Publications.{published_by, accepted_options_of, made_by};
 ghost use Rattle.realm.specs.body.Outputs.{all_events};
 ghost use Rattle.realm.specs.body.Transitions.{IsPublished, made_with, is_some_true, refused, told};
 
+use crate::accepted_options::{AcceptedOptions, accepted_options};
 use crate::events::{Given, events_to, events_without_lists, one, put_before, receivers};
 use crate::fault::Fault;
-use crate::publish_options::{PublishOptions, flag, read_publish_options};
 use crate::state::State;
-use message_tree::{Options, Shared, Text};
+use message_tree::{Shared, Text};
 use retained::Store;
-use session::{Args, CarriedArgs, Item, Publication, Reason, Request, Who};
+use session::{Args, CarriedArgs, Item, Publication, PublishOptions, Reason, Request, Who};
 use std::alloc::Global;
 use wamp_ids::{Conn, Id, Topic};
 
-/// A PUBLISH. Answering spends it: its options' texts, topic and arguments are moved.
+/// A PUBLISH. Answering spends it: its lists, topic and arguments are moved.
 #[derive(Drop)]
 pub struct PublishRequest {
     pub conn: Conn,
     pub word: u64,
     pub request: Id,
-    pub options: Options,
+    pub options: PublishOptions,
     pub topic: Text,
     pub args: Args,
 }
@@ -43,7 +42,7 @@ struct Requester {
 #[derive(Drop)]
 pub struct AcceptedPublication {
     pub topic: Topic,
-    pub publish_options: PublishOptions,
+    pub options: AcceptedOptions,
     pub args: CarriedArgs,
 }
 
@@ -69,19 +68,19 @@ fn open_topic(text: Text) -> Option<Topic>
     }
 }
 
-/// What a PUBLISH with these publish_options asks for where it is accepted, or why it is refused.
+/// What a PUBLISH with these options asks for where it is accepted, or why it is refused.
 fn accepted_with(
     store: &Store,
-    publish_options: PublishOptions,
+    options: AcceptedOptions,
     topic: Text,
     args: Args,
 ) -> Result<AcceptedPublication, Reason>
     ensures answer { (word : ℕ) (w : Who)
-        → published_by (has_room store.now topic) word w topic args (Some publish_options)
+        → published_by (has_room store.now topic) word w topic args (Some options)
         ≡ made_with word w result }
-    ensures room { IfOk result (λ a. a.publish_options.retained ≡ true
+    ensures room { IfOk result (λ a. a.options.retained ≡ true
         → has_room store.now a.topic ≡ true) }
-    ensures options { IfOk result (λ a. a.publish_options ≡ publish_options) }
+    ensures options { IfOk result (λ a. a.options ≡ options) }
 {
     let Some(topic) = open_topic(topic) else {
         return Err(Reason::InvalidUri);
@@ -89,36 +88,33 @@ fn accepted_with(
     let Some(args) = carried(args) else {
         return Err(Reason::InvalidArgument);
     };
-    if publish_options.retained && !store.has_room(topic.text()) {
+    if options.retained && !store.has_room(topic.text()) {
         return Err(Reason::RetainedFull);
     }
     Ok(AcceptedPublication {
         topic,
-        publish_options,
+        options,
         args,
     })
 }
 
 /// What a PUBLISH asks for where it is accepted, or why it is refused.
 fn accepted(
-    alloc: Global,
     store: &Store,
-    options: Options,
+    options: PublishOptions,
     topic: Text,
     args: Args,
-) -> Result<Result<AcceptedPublication, Reason>, Fault>
-    ensures answer { IfOk result (λ accepted. (word : ℕ) (w : Who)
-        → published_by (has_room store.now topic) word w topic args (publish_options_of options)
-        ≡ made_with word w accepted) }
-    ensures room { IfOk result (λ accepted.
-        IfOk accepted (λ a. a.publish_options.retained ≡ true
-        → has_room store.now a.topic ≡ true)) }
-    ensures options { IfOk result (λ accepted.
-        IfOk accepted (λ a. publish_options_of options ≡ Some a.publish_options)) }
+) -> Result<AcceptedPublication, Reason>
+    ensures answer { (word : ℕ) (w : Who)
+        → published_by (has_room store.now topic) word w topic args (accepted_options_of options)
+        ≡ made_with word w result }
+    ensures room { IfOk result (λ a. a.options.retained ≡ true
+        → has_room store.now a.topic ≡ true) }
+    ensures options { IfOk result (λ a. accepted_options_of options ≡ Some a.options) }
 {
-    match read_publish_options(alloc, options)? {
-        Some(publish_options) => Ok(accepted_with(store, publish_options, topic, args)),
-        None => Ok(Err(Reason::InvalidArgument)),
+    match accepted_options(options) {
+        Some(options) => accepted_with(store, options, topic, args),
+        None => Err(Reason::InvalidArgument),
     }
 }
 
@@ -131,21 +127,21 @@ fn publication(
 ) -> Result<Publication, Fault>
     ensures { IfOk result (λ p. p
         ≡ (made_by word publisher.now accepted.topic accepted.args
-        accepted.publish_options).publication) }
+        accepted.options).publication) }
 {
     let publisher = publisher.twin()?;
     let AcceptedPublication {
         topic,
-        publish_options,
+        options,
         args,
     } = accepted;
     Ok(Publication {
         id: Id::of_word(word),
         topic,
         args,
-        lists: publish_options.lists,
+        lists: options.lists,
         publisher,
-        disclosed: publish_options.disclosed,
+        disclosed: options.disclosed,
     })
 }
 
@@ -240,9 +236,9 @@ pub fn publish(alloc: Global, state: &mut State, asked: PublishRequest) -> Resul
     requires held { AreHeld state.old.sessions state.old.index.rows }
     ensures ok { IfOk result (λ given. (w : Who) → session_of state.old.sessions asked.conn ≡ Some w
         → IsPublished (record { old = state.old; new = state.new; given = given.items })
-        (record { conn = asked.conn; request = asked.request }) (acknowledge_of asked.options)
+        (record { conn = asked.conn; request = asked.request }) asked.options.acknowledge
         (published_by (has_room state.old.store asked.topic) asked.word w asked.topic asked.args
-        (publish_options_of asked.options))) }
+        (accepted_options_of asked.options))) }
     ensures unchanged { OnErr result (state.new ≡ state.old) }
 {
     let PublishRequest {
@@ -256,16 +252,16 @@ pub fn publish(alloc: Global, state: &mut State, asked: PublishRequest) -> Resul
     let requester = Requester {
         conn,
         request,
-        acknowledge: flag(&options, "acknowledge"),
+        acknowledge: options.acknowledge,
     };
-    let accepted = match accepted(alloc, &state.store, options, topic, args)? {
+    let accepted = match accepted(&state.store, options, topic, args) {
         Ok(accepted) => accepted,
         Err(reason) => return refused(alloc, &requester, reason),
     };
     let Some(publisher) = state.sessions.find(conn) else {
         unreachable!()
     };
-    let retained = accepted.publish_options.retained;
+    let retained = accepted.options.retained;
     let made = publication(alloc, publisher, word, accepted)?;
     let made = Shared::new(alloc, made)?;
     let spare = state.spare.take(alloc);

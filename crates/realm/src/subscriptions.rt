@@ -3,7 +3,6 @@ ghost use Rattle.std.specs.Prelude.{◌≡◌, ◌+◌, ◌≤◌, ◌++◌, ◌
 ghost use Rattle.std.specs.Vec.{vec_capacity};
 ghost use Rattle.std.specs.List.{filter};
 ghost use Rattle.eligibility.specs.declared.who.Who.{Who};
-ghost use Rattle.realm.specs.Options.{match_of, policy_named, get_retained_of};
 ghost use Rattle.realm.specs.Subscriptions.{pattern_of};
 ghost use Rattle.realm.specs.Publications.{admits};
 ghost use Rattle.realm.specs.body.LiveSessions.{session_of};
@@ -12,11 +11,10 @@ ghost use Rattle.realm.specs.body.Transitions.{IsHeld, IsSubscribed, IsUnsubscri
 
 use crate::events::{Given, admits, names_topic, one};
 use crate::fault::Fault;
-use crate::publish_options::flag;
 use crate::state::State;
-use message_tree::{Options, Shared, Text, Tree};
+use message_tree::{Shared, Text};
 use retained::Store;
-use session::{Item, Publication, Reason, Request, Who};
+use session::{Item, Publication, Reason, Request, SubscribeOptions, Who};
 use std::alloc::Global;
 use wamp_ids::{Conn, Id, Pattern, Policy};
 
@@ -25,51 +23,21 @@ use wamp_ids::{Conn, Id, Pattern, Policy};
 pub struct SubscribeRequest<'a> {
     pub conn: Conn,
     pub request: Id,
-    pub options: &'a Options,
+    pub options: SubscribeOptions,
     pub topic: &'a Text,
-}
-
-/// The policy of this name.
-fn policy_named(name: &str) -> Option<Policy>
-    ensures { result ≡ policy_named name.now }
-{
-    if name == "exact" {
-        Some(Policy::Exact)
-    } else if name == "prefix" {
-        Some(Policy::Prefix)
-    } else if name == "wildcard" {
-        Some(Policy::Wildcard)
-    } else {
-        None
-    }
-}
-
-/// How the pattern is to be compared; `None` where the options say nothing that is known.
-fn policy_of(options: &Options) -> Option<Policy>
-    ensures { result ≡ match_of options.now }
-{
-    match options.get("match") {
-        None => Some(Policy::Exact),
-        Some(Tree::Null) => Some(Policy::Exact),
-        Some(Tree::Text(name)) => policy_named(name.as_str()),
-        Some(_) => None,
-    }
 }
 
 /// The pattern that a SUBSCRIBE asks for, or why it is malformed.
 fn pattern_of(
     alloc: Global,
-    options: &Options,
+    options: SubscribeOptions,
     topic: &Text,
 ) -> Result<Result<Pattern, Reason>, Fault>
-    ensures { IfOk result (λ pattern. pattern ≡ pattern_of options.now topic.now) }
+    ensures { IfOk result (λ pattern. pattern ≡ pattern_of options topic.now) }
 {
-    let Some(policy) = policy_of(options) else {
+    let (Some(policy), Some(_)) = (options.policy, options.get_retained) else {
         return Ok(Err(Reason::InvalidArgument));
     };
-    if flag(options, "get_retained").is_none() {
-        return Ok(Err(Reason::InvalidArgument));
-    }
     match Pattern::read(alloc, policy, topic.as_str()) {
         Ok(pattern) => Ok(Ok(pattern)),
         Err(wamp_ids::Fault::BadUri) => Ok(Err(Reason::InvalidUri)),
@@ -98,14 +66,14 @@ fn admitted(
 fn wanted(
     alloc: Global,
     store: &Store,
-    options: &Options,
+    options: SubscribeOptions,
     pattern: &Pattern,
     who: &Who,
 ) -> Result<Vec<Shared<Publication>>, Fault>
     ensures { IfOk result (λ kept.
-        kept.items ≡ wanted store.now (get_retained_of options.now) pattern.now who.now) }
+        kept.items ≡ wanted store.now options.get_retained pattern.now who.now) }
 {
-    match flag(options, "get_retained") {
+    match options.get_retained {
         Some(true) => admitted(alloc, store.matching(alloc, pattern)?, who),
         _ => Ok(Vec::new(alloc)),
     }
@@ -158,8 +126,8 @@ pub fn subscribe(
         → session_of state.old.sessions asked.now.conn ≡ Some w
         → IsSubscribed (record { old = state.old; new = state.new; given = given.items })
         (record { conn = asked.now.conn; request = asked.now.request })
-        (get_retained_of asked.now.options.now) w
-        (pattern_of asked.now.options.now asked.now.topic.now)) }
+        asked.now.options.get_retained w
+        (pattern_of asked.now.options asked.now.topic.now)) }
     ensures unchanged { OnErr result (state.new ≡ state.old) }
 {
     let pattern = match pattern_of(alloc, asked.options, asked.topic)? {

@@ -34,7 +34,7 @@ fn copy_of_said(alloc: Global, said: &Said) -> Result<Said, AllocError>
             args,
         } => Ok(Said::Publish {
             request: *request,
-            options: options.try_copy(alloc)?,
+            options: options.twin()?,
             topic: topic.try_copy(alloc)?,
             args: args.try_copy(alloc)?,
         }),
@@ -44,7 +44,7 @@ fn copy_of_said(alloc: Global, said: &Said) -> Result<Said, AllocError>
             topic,
         } => Ok(Said::Subscribe {
             request: *request,
-            options: options.try_copy(alloc)?,
+            options: *options,
             topic: topic.try_copy(alloc)?,
         }),
         Said::Unsubscribe {

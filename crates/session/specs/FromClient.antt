@@ -5,6 +5,9 @@ use Rattle.std.specs.Option.{option_map}
 use Rattle.message_tree.specs.Data.{Data, null, whole, text, list, dict, Items, no_items, item, Entries, find_entry}
 use Rattle.eligibility.specs.Options.{number_of, text_of}
 use Rattle.eligibility.specs.Lists.{is_number}
+use Rattle.request_options.specs.Options.{publish_options_of, subscribe_options_of}
+use Rattle.request_options.specs.declared.publish_options.PublishOptions.{PublishOptions}
+use Rattle.request_options.specs.declared.subscribe_options.SubscribeOptions.{SubscribeOptions}
 use Rattle.session.specs.Arguments.{Arguments}
 -- what Arguments and ArgumentsKw are read as
 pub use Rattle.arguments.specs.Reading.{args_of, kwargs_of, with_args, with_both}
@@ -16,6 +19,14 @@ use Rattle.session.specs.declared.messages.said.Said.TheVariants.{Hello, Abort, 
 abbrev pub dict_of : Data → Option Entries
 dict_of (dict es) = Some es
 dict_of _ = None
+
+-- what a dictionary asks for as the options of a PUBLISH
+abbrev pub publish_options_in : Data → Option PublishOptions
+publish_options_in d = option_map publish_options_of (dict_of d)
+
+-- what it asks for as the options of a SUBSCRIBE
+abbrev pub subscribe_options_in : Data → Option SubscribeOptions
+subscribe_options_in d = option_map subscribe_options_of (dict_of d)
 
 -- an id is a whole number from 1 to 2^53
 abbrev pub id_among : ℤ → Option ℕ
@@ -71,13 +82,13 @@ ending said ds = and_then (first dict_of ds) (λ details more. and_then (first t
 -- Request, Options, Topic, (Arguments, (ArgumentsKw))
 unfoldable pub publish : Items → Option Said
 publish ds =
-    and_then (first id_of ds) (λ request more. and_then (first dict_of more) (λ options others. and_then (first text_of others) (λ topic rest.
+    and_then (first id_of ds) (λ request more. and_then (first publish_options_in more) (λ options others. and_then (first text_of others) (λ topic rest.
     option_map (Publish request options topic) (arguments_of rest))))
 
 -- Request, Options, Topic
 unfoldable pub subscribe : Items → Option Said
 subscribe ds =
-    and_then (first id_of ds) (λ request more. and_then (first dict_of more) (λ options others. and_then (first text_of others) (λ topic rest.
+    and_then (first id_of ds) (λ request more. and_then (first subscribe_options_in more) (λ options others. and_then (first text_of others) (λ topic rest.
     last rest (Some (Subscribe request options topic)))))
 
 -- Request, Subscription

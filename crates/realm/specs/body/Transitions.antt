@@ -55,10 +55,10 @@ abbrev pub is_some_true : Option Bool → Bool
 is_some_true None = false
 is_some_true (Some b) = b
 
--- what a PUBLISH makes whose topic and publish_options are accepted
+-- what a PUBLISH makes whose topic and options are accepted
 abbrev pub made_with : ℕ → Who → Result AcceptedPublication Reason → Result Made Reason
 made_with word w (Err reason) = Err reason
-made_with word w (Ok accepted) = Ok (made_by word w accepted.topic accepted.args accepted.publish_options)
+made_with word w (Ok accepted) = Ok (made_by word w accepted.topic accepted.args accepted.options)
 
 -- ERROR for a PUBLISH, where it asked for an answer
 abbrev pub refused : ℕ → ℕ → Option Bool → Reason → List (ℕ × Item)

@@ -6,11 +6,12 @@
 ghost use Rattle.std.specs.Prelude.{◌≡◌, ℕ, Bool, List, IfOk, IfErr, OnOk, OnErr, None, Some, true, false, codes};
 ghost use Rattle.message_tree.specs.Data.{Items, Entries, no_items, find_entry};
 ghost use Rattle.eligibility.specs.Options.{number_of, text_of};
-ghost use Rattle.session.specs.FromClient.{IsMore, IsReadFault, arguments_of, dict_of, first, id_of, text_or_none};
+ghost use Rattle.session.specs.FromClient.{IsMore, IsReadFault, arguments_of, dict_of, first, id_of, publish_options_in, subscribe_options_in, text_or_none};
 
 use crate::fault::Fault;
 use arguments::Args;
-use message_tree::{Options, Text};
+use message_tree::Text;
+use request_options::{PublishOptions, SubscribeOptions};
 use std::alloc::Global;
 use wamp_ids::Id;
 
@@ -50,12 +51,23 @@ pub(crate) trait Elements: Drop {
         ensures bad { OnErr result (is_whole self.old ≡ true → first text_of (items self.old) ≡ None) }
         ensures fault { IfErr result (λ fault. fault ≡ Fault.Shape) };
 
-    /// The next element, a dictionary.
-    fn options(&mut self, alloc: Global) -> Result<Options, Fault>
-        ensures ok { IfOk result (λ o. first dict_of (items self.old) ≡ Some (o, items self.new)) }
+    /// What the next element, a dictionary, asks for as the options of a PUBLISH.
+    fn publish_options(&mut self, alloc: Global) -> Result<PublishOptions, Fault>
+        ensures ok { IfOk result (λ o.
+            first publish_options_in (items self.old) ≡ Some (o, items self.new)) }
         ensures whole { OnOk result (is_whole self.new ≡ is_whole self.old) }
-        ensures bad { result ≡ Err Fault.Shape → is_whole self.old ≡ true → first dict_of (items self.old) ≡ None }
+        ensures bad { result ≡ Err Fault.Shape → is_whole self.old ≡ true
+            → first publish_options_in (items self.old) ≡ None }
         ensures faults { IfErr result IsReadFault };
+
+    /// What the next element, a dictionary, asks for as the options of a SUBSCRIBE.
+    fn subscribe_options(&mut self) -> Result<SubscribeOptions, Fault>
+        ensures ok { IfOk result (λ o.
+            first subscribe_options_in (items self.old) ≡ Some (o, items self.new)) }
+        ensures whole { OnOk result (is_whole self.new ≡ is_whole self.old) }
+        ensures bad { OnErr result (is_whole self.old ≡ true
+            → first subscribe_options_in (items self.old) ≡ None) }
+        ensures fault { IfErr result (λ fault. fault ≡ Fault.Shape) };
 
     /// The next element, a dictionary that nobody asks for.
     fn pass_dict(&mut self) -> Result<(), Fault>

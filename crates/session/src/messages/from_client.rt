@@ -36,8 +36,7 @@ pub fn read_said(alloc: Global, message: Message) -> Result<Said, Fault>
     }
 }
 
-/// What a payload says: [`read_said`] of what it decodes to. In MessagePack no tree is made of it but
-/// of options, and of arguments that are uncarried.
+/// What a payload says: [`read_said`] of what it decodes to. In MessagePack no tree is made of it.
 ///
 /// # Errors
 /// As of [`decode`] and [`read_said`].
@@ -152,7 +151,7 @@ fn publish<E: Elements>(alloc: Global, mut elements: E) -> Result<Said, Fault>
     ensures faults { IfErr result IsReadFault }
 {
     let request = elements.id()?;
-    let options = elements.options(alloc)?;
+    let options = elements.publish_options(alloc)?;
     let topic = elements.text(alloc)?;
     let args = elements.arguments(alloc)?;
     Ok(Said::Publish {
@@ -171,7 +170,7 @@ fn subscribe<E: Elements>(alloc: Global, mut elements: E) -> Result<Said, Fault>
     ensures faults { IfErr result IsReadFault }
 {
     let request = elements.id()?;
-    let options = elements.options(alloc)?;
+    let options = elements.subscribe_options()?;
     let topic = elements.text(alloc)?;
     elements.end()?;
     Ok(Said::Subscribe {

@@ -1,7 +1,7 @@
 //! The elements of a client's message where they stand in octets of MessagePack.
 ghost use Rattle.std.specs.Prelude.{◌≡◌, IfOk, IfErr, OnOk, OnErr, None, Some, codes};
 ghost use Rattle.message_tree.specs.Data.{Entries, find_entry, fits_codecs};
-ghost use Rattle.session.specs.FromClient.{IsReadFault, dict_of, text_or_none, id_of};
+ghost use Rattle.session.specs.FromClient.{IsReadFault, dict_of, id_of, publish_options_in, subscribe_options_in, text_or_none};
 ghost use Rattle.eligibility.specs.Options.{text_of};
 ghost use Rattle.msgpack_cursor.specs.Seen.{data_of};
 
@@ -9,8 +9,9 @@ use crate::fault::Fault;
 use crate::messages::elements::Elements;
 use crate::messages::tree_elements::id_among;
 use arguments::Args;
-use message_tree::{Dict, Options, Text, Tree};
+use message_tree::Text;
 use msgpack_cursor::{Seen, Unread, Value};
+use request_options::{PublishOptions, SubscribeOptions};
 use std::alloc::Global;
 use std::marker::Model;
 use wamp_ids::Id;
@@ -63,17 +64,26 @@ fn text_or_none(alloc: Global, value: Option<Value>) -> Result<Option<Text>, Fau
     }
 }
 
-/// A dictionary as a tree.
-fn options_of(alloc: Global, value: &Value) -> Result<Options, Fault>
-    ensures ok { IfOk result (λ o. dict_of value.now ≡ Some o) }
-    ensures bad { result ≡ Err Fault.Shape → dict_of value.now ≡ None }
+/// What a dictionary asks for as the options of a PUBLISH.
+fn publish_options_in(alloc: Global, value: &Value) -> Result<PublishOptions, Fault>
+    ensures ok { IfOk result (λ o. publish_options_in value.now ≡ Some o) }
+    ensures bad { result ≡ Err Fault.Shape → publish_options_in value.now ≡ None }
     ensures faults { IfErr result IsReadFault }
 {
     match value.seen() {
-        Seen::Dict(_) => match value.tree(alloc)? {
-            Tree::Dict(dict) => Ok(Options::of(dict)),
-            _ => Err(Fault::Shape),
-        },
+        Seen::Dict(options) => Ok(PublishOptions::of_octets(alloc, &options)?),
+        _ => Err(Fault::Shape),
+    }
+}
+
+/// What a dictionary asks for as the options of a SUBSCRIBE.
+fn subscribe_options_in(value: &Value) -> Result<SubscribeOptions, Fault>
+    ensures ok { IfOk result (λ o. subscribe_options_in value.now ≡ Some o) }
+    ensures bad { OnErr result (subscribe_options_in value.now ≡ None) }
+    ensures fault { IfErr result (λ fault. fault ≡ Fault.Shape) }
+{
+    match value.seen() {
+        Seen::Dict(options) => Ok(SubscribeOptions::of_octets(&options)),
         _ => Err(Fault::Shape),
     }
 }
@@ -137,12 +147,19 @@ impl<'a> Elements for OctetElements<'a> {
         Ok(())
     }
 
-    fn options(&mut self, alloc: Global) -> Result<Options, Fault> {
+    fn publish_options(&mut self, alloc: Global) -> Result<PublishOptions, Fault> {
         if self.rest.pass_empty_dict() {
-            return Ok(Options::of(Dict::new(alloc)));
+            return Ok(PublishOptions::none());
         }
         match self.rest.value() {
-            Some(value) => options_of(alloc, &value),
+            Some(value) => publish_options_in(alloc, &value),
+            None => Err(Fault::Shape),
+        }
+    }
+
+    fn subscribe_options(&mut self) -> Result<SubscribeOptions, Fault> {
+        match self.rest.value() {
+            Some(value) => subscribe_options_in(&value),
             None => Err(Fault::Shape),
         }
     }

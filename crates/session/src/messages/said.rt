@@ -1,6 +1,10 @@
 //! What a client says.
+ghost use Rattle.std.specs.Prelude.{◌≡◌};
+ghost use Rattle.session.specs.Kinds.{kind_of};
+
 use arguments::Args;
-use message_tree::{Options, Text};
+use message_tree::Text;
+use request_options::{PublishOptions, SubscribeOptions};
 use wamp_ids::Id;
 
 /// What a client said: one message of a session (WAMP, "Messages").
@@ -21,8 +25,8 @@ pub enum Said {
     Publish {
         /// The request's id.
         request: Id,
-        /// The options, as they were sent.
-        options: Options,
+        /// What its options ask for.
+        options: PublishOptions,
         /// The topic's URI, as it was sent.
         topic: Text,
         /// Arguments and ArgumentsKw.
@@ -32,8 +36,8 @@ pub enum Said {
     Subscribe {
         /// The request's id.
         request: Id,
-        /// The options, as they were sent.
-        options: Options,
+        /// What its options ask for.
+        options: SubscribeOptions,
         /// The pattern's URI, as it was sent.
         topic: Text,
     },
@@ -44,4 +48,33 @@ pub enum Said {
         /// The subscription's number.
         subscription: Id,
     },
+}
+
+/// What a message of a client is to its session, once that stands.
+#[derive(Clone, Copy, Debug, PartialEq, Eq)]
+pub enum SaidKind {
+    /// ABORT or GOODBYE: the client ends the session, and says no more.
+    Farewell,
+    /// A second HELLO: it breaks the protocol, which ends the session.
+    Violation,
+    /// PUBLISH.
+    Publication,
+    /// SUBSCRIBE or UNSUBSCRIBE.
+    Request,
+}
+
+impl Said {
+    /// What it is to its session.
+    pub fn kind(&self) -> SaidKind
+        ensures { result ≡ kind_of self.now }
+    {
+        match self {
+            Said::Hello { .. } => SaidKind::Violation,
+            Said::Abort => SaidKind::Farewell,
+            Said::Goodbye => SaidKind::Farewell,
+            Said::Publish { .. } => SaidKind::Publication,
+            Said::Subscribe { .. } => SaidKind::Request,
+            Said::Unsubscribe { .. } => SaidKind::Request,
+        }
+    }
 }

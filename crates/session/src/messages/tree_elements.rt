@@ -5,12 +5,13 @@ ghost use Rattle.message_tree.specs.View.{view, items_view};
 ghost use Rattle.eligibility.specs.Options.{number_of, text_of};
 ghost use Rattle.arguments.specs.Arguments.{is_args, is_kwargs};
 ghost use Rattle.arguments.specs.Reading.{args_of, kwargs_of};
-ghost use Rattle.session.specs.FromClient.{IsMore, IsReadFault, arguments_of, dict_of, first, id_of, id_among, text_or_none};
+ghost use Rattle.session.specs.FromClient.{IsMore, IsReadFault, arguments_of, dict_of, first, id_of, id_among, publish_options_in, subscribe_options_in, text_or_none};
 
 use crate::fault::Fault;
 use crate::messages::elements::Elements;
 use arguments::Args;
 use message_tree::{Content, Dict, Options, Text, Tree};
+use request_options::{PublishOptions, SubscribeOptions};
 use std::alloc::Global;
 use std::collections::VecDeque;
 use std::marker::Model;
@@ -95,9 +96,16 @@ impl Elements for TreeElements {
         }
     }
 
-    fn options(&mut self, _alloc: Global) -> Result<Options, Fault> {
+    fn publish_options(&mut self, alloc: Global) -> Result<PublishOptions, Fault> {
         match self.next() {
-            Some(Tree::Dict(dict)) => Ok(Options::of(dict)),
+            Some(Tree::Dict(dict)) => Ok(PublishOptions::of_dict(alloc, dict)?),
+            _ => Err(Fault::Shape),
+        }
+    }
+
+    fn subscribe_options(&mut self) -> Result<SubscribeOptions, Fault> {
+        match self.next() {
+            Some(Tree::Dict(dict)) => Ok(SubscribeOptions::of_dict(&dict)),
             _ => Err(Fault::Shape),
         }
     }

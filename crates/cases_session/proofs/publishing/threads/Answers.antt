@@ -1,14 +1,13 @@
 use denote.Param.Send.{sendable}
 use Rattle.std.proofs.Crossing.{crosses}
-use Rattle.message_tree.proofs.SendLemmas.{options_send, options_sync, text_send, text_sync}
-use Rattle.session.proofs.SendLemmas.{args_send, args_sync, publication_sync}
+use Rattle.session.proofs.SendLemmas.{publication_sync, said_send, said_sync}
 use Rattle.cases_session.proofs.publishing.threads.Goals as goal
 
 pub may_be_shared-requires-send-T : goal.may_be_shared-requires-send-T
-may_be_shared-requires-send-T c κs = search (args_send, options_send, text_send, crosses, sendable) depth 60 fits 20000
+may_be_shared-requires-send-T c κs = search (said_send, crosses, sendable) depth 60 fits 20000
 
 pub may_be_shared-requires-sync-T : goal.may_be_shared-requires-sync-T
-may_be_shared-requires-sync-T c κs = search (args_sync, options_sync, text_sync, crosses, sendable) depth 60 fits 20000
+may_be_shared-requires-sync-T c κs = search (said_sync, crosses, sendable) depth 60 fits 20000
 
 pub may_be_shared-requires-2-sync-T : goal.may_be_shared-requires-2-sync-T
 may_be_shared-requires-2-sync-T c κs = search (publication_sync, crosses, sendable) depth 60 fits 20000

@@ -1,5 +1,5 @@
 use Rattle.std.proofs.Common.{◌∷◌, ◌∙◌, arith}
-use Rattle.session.specs.declared.messages.said.Said.TheVariants.{Goodbye}
+use Rattle.client.specs.declared.client_message.ClientMessage.TheVariants.{Goodbye}
 use Rattle.client_session.specs.Saying.{saying}
 use Rattle.client_commands.specs.Acts.{standing, terms_of, writing}
 use Rattle.client_commands.proofs.ListeningLemmas.{listens-more}

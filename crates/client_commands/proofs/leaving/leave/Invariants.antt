@@ -1,5 +1,5 @@
 use Rattle.std.proofs.Common.{◌≡◌, List}
-use Rattle.session.specs.declared.messages.said.Said.TheVariants.{Goodbye}
+use Rattle.client.specs.declared.client_message.ClientMessage.TheVariants.{Goodbye}
 use Rattle.client.specs.declared.heard.Heard.{Heard}
 use Rattle.client_session.specs.Saying.{saying}
 use Rattle.client_commands.specs.Acts.{Listens, standing, terms_of, writing}

@@ -1,0 +1,121 @@
+//! A list of session ids, in a form in which one look-up takes few steps.
+ghost use Rattle.std.specs.Prelude.{◌≡◌, IfOk, OnErr, IfErr, Some, None};
+ghost use Rattle.message_tree.specs.Data.{list, whole, fits_codecs};
+ghost use Rattle.msgpack_codec.specs.Grammar.{Spells};
+ghost use Rattle.eligibility.specs.Options.{each_of, number_of};
+ghost use Rattle.eligibility.specs.Lists.{has_number};
+ghost use Rattle.eligibility.specs.body.Ids.{holds};
+ghost use Rattle.eligibility.specs.body.Standing.{AreHeld};
+
+use crate::fault::Fault;
+use crate::ids::{self, Ids, LARGE};
+use msgpack_cursor::{Elements, Seen, Value};
+use std::alloc::{AllocError, Global};
+use std::marker::Model;
+use std::snapshot::Snapshot;
+use wamp_ids::Id;
+
+/// A list of session ids. Contracts see the numbers as they were given, by a snapshot of the octets
+/// that spell them, which takes no memory; what is kept is the set of the ids.
+#[derive(Drop)]
+pub(crate) struct Numbers {
+    ids: Ids,
+    given: Snapshot<Vec<u8>>,
+}
+
+impl Model for Numbers {
+    ghost use Rattle.std.specs.Prelude.{◌≡◌, ◌<◌, ◌^◌, ℕ, ℤ, List};
+    ghost use Rattle.std.specs.Ordering.{nat_cmp};
+    ghost use Rattle.std.specs.List.Sorted.{IsSorted};
+    ghost use Rattle.eligibility.specs.Options.{number_of};
+    ghost use Rattle.eligibility.specs.Lists.{has_number};
+    ghost use Rattle.eligibility.specs.body.Ids.{holds};
+    ghost use Rattle.eligibility.specs.body.Standing.{listed_in};
+
+    ghost Value = { List ℤ };
+
+    ghost view = { λ n. listed_in number_of n.given.value.items };
+
+    ghost invariant = { λ n. IsSorted nat_cmp n.ids.large.items
+        × ((q : ℕ) → q < 2 ^ 64
+        → has_number q (listed_in number_of n.given.value.items) ≡ holds n.ids q) };
+}
+
+impl Numbers {
+    /// The list of these items, of which so many are large, and which stands in these octets.
+    pub fn of(
+        alloc: Global,
+        octets: &[u8],
+        items: Elements<'_>,
+        room: usize,
+    ) -> Result<Numbers, Fault>
+        requires { Spells 100 octets.now (list items) }
+        ensures ok { IfOk result (λ n. each_of number_of items.entry ≡ Some n) }
+        ensures bad { result ≡ Err Fault.Shape → each_of number_of items.entry ≡ None }
+    {
+        let given = snapshot_of(alloc, octets)?;
+        let mut ids = ids_of(alloc, items, room)?;
+        ids::put_in_order(&mut ids);
+        Ok(Numbers { ids, given })
+    }
+
+    /// Whether this session is among them.
+    pub fn has(&self, id: Id) -> bool
+        ensures { result ≡ has_number id self.now }
+    {
+        ids::has(&self.ids, id.value())
+    }
+}
+
+fn snapshot_of(alloc: Global, octets: &[u8]) -> Result<Snapshot<Vec<u8>>, AllocError>
+    ensures { IfOk result (λ given. given.value.items ≡ octets.now) }
+{
+    let copy = Vec::from_slice(alloc, octets)?;
+    Ok(Snapshot::of(&copy))
+}
+
+/// How many of the items are large numbers.
+pub(crate) fn large_count(items: Elements<'_>) -> usize {
+    let mut items = items;
+    let mut count = 0usize;
+    while let Some(item) = items.next() {
+        if is_large(&item) {
+            count = count.saturating_add(1);
+        }
+    }
+    count
+}
+
+fn is_large(item: &Value<'_>) -> bool {
+    matches!(item.seen(), Seen::Whole(number) if number >= LARGE)
+}
+
+fn ids_of(alloc: Global, items: Elements<'_>, room: usize) -> Result<Ids, Fault>
+    ensures ok { IfOk result (λ ids. AreHeld (holds ids) (each_of number_of items.entry)) }
+    ensures bad { result ≡ Err Fault.Shape → each_of number_of items.entry ≡ None }
+{
+    let mut items = items;
+    let mut ids = ids::with_room(alloc, room)?;
+    while let Some(item) = items.next() {
+        ids::add(&mut ids, number_of(&item)?)?;
+    }
+    Ok(ids)
+}
+
+fn number_of(item: &Value<'_>) -> Result<i128, Fault>
+    ensures ok { IfOk result (λ z. number_of item.now ≡ Some z) }
+    ensures bad { OnErr result (number_of item.now ≡ None) }
+    ensures fault { IfErr result (λ fault. fault ≡ Fault.Shape) }
+{
+    match item.seen() {
+        Seen::Whole(number) if fits_codecs(number) => Ok(number),
+        _ => Err(Fault::Shape),
+    }
+}
+
+/// Whether a serialization carries the number as a whole number.
+fn fits_codecs(number: i128) -> bool
+    ensures { result ≡ fits_codecs number }
+{
+    -(1 << 63) <= number && number < 1 << 64
+}
