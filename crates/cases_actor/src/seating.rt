@@ -41,7 +41,7 @@ fn post_join<R: Wait>(
     let transport = Wire::new(alloc)?;
     let wire = transport.again()?;
     let Entrance { joining, drain } = entrance_of(alloc, poster.conn(), authid, cap, transport)?;
-    let _ = poster.post(rt, Act::Join(joining));
+    let _ = poster.post(rt, Act::Join(joining), 0);
     Ok(Entered { drain, wire })
 }
 
@@ -49,7 +49,7 @@ fn post_join<R: Wait>(
 pub fn post_act<R: Wait>(rt: &R, poster: &mut Poster<Wire>, act: Act<Wire>) -> bool
     requires { is_join act ≡ false }
 {
-    Posting::post(poster, rt, act).is_ok()
+    Posting::post(poster, rt, act, 0).is_ok()
 }
 
 impl Seating {

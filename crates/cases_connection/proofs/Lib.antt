@@ -1,1 +1,2 @@
 mod Next
+mod SendLemmas

@@ -71,7 +71,12 @@ impl Log {
 impl Posting<Nowhere> for Log {
     ghost posted = { λ l. l.acts.items };
 
-    fn post<R: Wait>(&mut self, _rt: &R, act: Act<Nowhere>) -> Result<(), Act<Nowhere>>
+    fn post<R: Wait>(
+        &mut self,
+        _rt: &R,
+        act: Act<Nowhere>,
+        _octets: usize,
+    ) -> Result<(), Act<Nowhere>>
         requires { is_join act ≡ false }
         ensures { MatchResult result (λ _. self.new.acts.items ≡ self.old.acts.items ++ act ∷ [])
             (λ back. (back ≡ act) × (self.new.acts.items ≡ self.old.acts.items)) }

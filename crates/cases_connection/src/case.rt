@@ -1,5 +1,6 @@
 //! The words of the table.
 use crate::client::{Client, Devices, Manner, serializer_of};
+use crate::pongs::hold_back;
 use crate::reader::Stream;
 use crate::sessions::{Sessions, threads};
 use crate::writer::Debt;
@@ -8,6 +9,7 @@ use connection::Seats;
 use std::alloc::{AllocError, Global};
 use std::io;
 use std::sync::Wait;
+use std::thread::Threads;
 use wamp_ids::Conn;
 
 /// What the lines of a case have said so far.
@@ -34,7 +36,7 @@ impl Case {
     }
 
     /// Takes a line, and gives what it is answered by.
-    pub fn take<R: Wait + Copy>(
+    pub fn take<R: Threads + Wait + Copy + Send + 'static>(
         &mut self,
         rt: &R,
         alloc: Global,
@@ -45,6 +47,7 @@ impl Case {
                 *self = Case::new(alloc)?;
                 line_of(alloc, line)
             }
+            Some(("pongs", text)) => hold_back(*rt, alloc, text),
             Some((word, text)) => self.set(alloc, line, word, text),
             None => self.run(rt, alloc, line),
         }

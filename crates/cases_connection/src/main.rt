@@ -12,6 +12,8 @@
 //!   them use, or more. `crossing`: what may go to other threads.
 //! - `forward` reads the octets, and what they publish is owed, as EVENTs of subscription 1 and publication 3.
 //! - `read` reads the octets, and tells what was posted and how it ended.
+//! - `pongs COUNT OCTETS FIRST WRITTEN SECOND`: a thread posts so many PINGs of so many octets. Once so many of them are posted, so many PONGs are
+//!   written; and once so many PINGs are posted, their writer ends. What is told is how many were posted each time.
 //! - `slowly`: devices give and take one octet at a time. `held`: the device written to holds octets back until it is told to pass them
 //!   on, and only those passed on are told. `fed`: the same, and each item is owed only once all before it was passed on.
 //! - `fails N`: the call of this number fails, from 0.
@@ -24,6 +26,7 @@ mod client;
 mod fed;
 mod items;
 mod owed;
+mod pongs;
 mod reader;
 mod sessions;
 mod writer;
@@ -33,6 +36,7 @@ use case_text::is_refused;
 use std::alloc::Global;
 use std::io::{self, Input, Print};
 use std::sync::Wait;
+use std::thread::Threads;
 
 fn main(rt: HostRuntime) -> io::Result<()> {
     let alloc = rt.alloc();
@@ -40,7 +44,7 @@ fn main(rt: HostRuntime) -> io::Result<()> {
 }
 
 // Prints what each line of standard input is answered by.
-fn tell_all<R: Input + Print + Wait + Copy>(
+fn tell_all<R: Input + Print + Threads + Wait + Copy + Send + 'static>(
     rt: R,
     alloc: Global,
     case: &mut Case,
@@ -53,7 +57,7 @@ fn tell_all<R: Input + Print + Wait + Copy>(
 }
 
 /// What a line is answered by; one that memory was refused for is taken once more.
-fn answer<R: Wait + Copy>(
+fn answer<R: Threads + Wait + Copy + Send + 'static>(
     rt: &R,
     alloc: Global,
     case: &mut Case,

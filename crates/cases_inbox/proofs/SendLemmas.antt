@@ -27,4 +27,4 @@ pub inbox_send : IsSend (Inbox.the_row Wire.the_row shut.ghosts)
 inbox_send = ends.inbox_send Wire.the_row shut.ghosts wire_send
 
 pub numbered_send : IsSend Numbered.the_row
-numbered_send = declared_send Numbered.the_type (poster_send, (search sendable, (search (crosses, sendable) depth 60, tt)))
+numbered_send = declared_send Numbered.the_type (poster_send, (search sendable, (search sendable, (search (crosses, sendable) depth 60, tt))))

@@ -2,6 +2,7 @@
 ghost use Rattle.std.specs.Prelude.{◌≤◌};
 
 use crate::acts::{act_of, answered, joining_of, told};
+use crate::laden::{Laden, pass_laden, strand};
 use crate::room::{Room, post};
 use crate::tally::Received;
 use crate::threads::{Taking, pass_all};
@@ -48,6 +49,8 @@ impl Case {
             "forsake" => forsake(rt, alloc, text),
             "linger" => again(rt, alloc, text, Taking::AllBut(1)),
             "turns" => again(rt, alloc, text, Taking::ByTurns),
+            "laden" => laden(rt, alloc, text, false),
+            "strand" => laden(rt, alloc, text, true),
             "crossing" => ends_cross(alloc),
             _ => match &mut self.room {
                 None => line_of(alloc, "no inbox"),
@@ -149,6 +152,40 @@ fn again<R: Threads + Wait + Copy + Send + 'static>(
     Ok(format!(in alloc; "{times} times: {first}")?)
 }
 
+// What comes of one thread that posts what was read from many octets; the text names a connection, how many it posts, from how many octets
+// each, and how many are kept. Then they are handled, or the receiving end goes.
+fn laden<R: Threads + Wait + Copy + Send + 'static>(
+    rt: R,
+    alloc: Global,
+    text: &str,
+    goes: bool,
+) -> io::Result<String> {
+    let (conn, rest) = part(text);
+    let (count, rest) = part(rest);
+    let (octets, kept) = part(rest);
+    match (
+        conn_of(conn),
+        count.parse::<u64>(),
+        octets.parse::<usize>(),
+        kept.parse::<u64>(),
+    ) {
+        (Some(conn), Ok(count), Ok(octets), Ok(kept)) => {
+            let laden = Laden {
+                conn,
+                count,
+                octets,
+                kept,
+            };
+            if goes {
+                strand(rt, alloc, laden)
+            } else {
+                pass_laden(rt, alloc, laden)
+            }
+        }
+        _ => line_of(alloc, "no seat and numbers"),
+    }
+}
+
 // What a word does that needs an inbox.
 fn step<R: Wait>(
     rt: &R,
@@ -191,7 +228,12 @@ fn of_conn<R: Wait>(
         "poster" => done(alloc, room.seat_poster(conn)?, "its seat isn't free"),
         "leave" => done(alloc, room.leave(conn)?, "no poster"),
         "join" => join(rt, alloc, room, conn, rest),
-        _ => act(rt, alloc, room, conn, (word, rest)),
+        "heavy" => {
+            let (octets, text) = part(rest);
+            let octets = octets.parse::<usize>().unwrap_or(0);
+            act(rt, alloc, room, conn, ("ping", text), octets)
+        }
+        _ => act(rt, alloc, room, conn, (word, rest), 0),
     }
 }
 
@@ -239,7 +281,7 @@ fn join<R: Wait>(
     };
     let wire = wire.parse::<u64>().unwrap_or(0);
     let joining = joining_of(alloc, poster.conn(), authid, wire)?;
-    let posted = poster.post(rt, Act::Join(joining));
+    let posted = poster.post(rt, Act::Join(joining), 0);
     room.posters.push(poster)?;
     answered(alloc, posted)
 }
@@ -250,6 +292,7 @@ fn act<R: Wait>(
     room: &mut Room,
     conn: Conn,
     words: (&str, &str),
+    octets: usize,
 ) -> io::Result<String> {
     let Some(act) = act_of(alloc, words.0, words.1)? else {
         return line_of(alloc, "no case has this word");
@@ -257,7 +300,7 @@ fn act<R: Wait>(
     let Some(mut poster) = room.take_poster(conn) else {
         return line_of(alloc, "no poster");
     };
-    let posted = post(rt, &mut poster, act);
+    let posted = post(rt, &mut poster, act, octets);
     room.posters.push(poster)?;
     answered(alloc, posted)
 }

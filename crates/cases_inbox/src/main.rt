@@ -13,11 +13,15 @@
 //! - `linger TIMES CAP CONN CONN COUNT`: so many times `threads`, where the third receives all posts but one, waits until both threads have
 //!   ended, and receives that one. `turns TIMES CAP CONN CONN COUNT`: the same, where it looks for a post, waits for the next one, and so on in
 //!   turn.
+//! - `heavy CONN OCTETS TEXT`: `ping CONN TEXT`, as if it was read from so many octets. `laden CONN COUNT OCTETS KEPT`: a thread posts so many
+//!   PINGs, numbered from 0, each of them as if it was read from so many octets. So many are received and kept, and one more is looked for;
+//!   then those are handled, and all others. `strand CONN COUNT OCTETS KEPT`: the same, but that the inbox goes in place of that.
 //! - `crossing`: what may go to other threads.
 #![tactic(auto)]
 
 mod acts;
 mod case;
+mod laden;
 mod room;
 mod tally;
 mod threads;

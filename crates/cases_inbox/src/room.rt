@@ -20,11 +20,16 @@ pub struct Room {
     pub inbox: Option<Inbox<Wire>>,
 }
 
-/// Posts an act that is no Join.
-pub fn post<R: Wait>(rt: &R, poster: &mut Poster<Wire>, act: Act<Wire>) -> Result<(), Act<Wire>>
+/// Posts an act that is no Join, as if it was read from so many octets.
+pub fn post<R: Wait>(
+    rt: &R,
+    poster: &mut Poster<Wire>,
+    act: Act<Wire>,
+    octets: usize,
+) -> Result<(), Act<Wire>>
     requires { is_join act ≡ false }
 {
-    Posting::post(poster, rt, act)
+    Posting::post(poster, rt, act, octets)
 }
 
 impl Room {

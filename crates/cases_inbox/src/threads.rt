@@ -13,11 +13,12 @@ use std::sync::Wait;
 use std::thread::Threads;
 use wamp_ids::{Conn, seat};
 
-/// A poster, and how many PINGs it is to post.
+/// A poster, how many PINGs it is to post, and from how many octets each was read.
 #[derive(Drop)]
 pub struct Numbered {
     poster: Poster<Wire>,
     count: u64,
+    octets: usize,
     alloc: Global,
 }
 
@@ -35,13 +36,14 @@ impl<R: Wait + Copy> Work<R, bool> for Numbered {
         let Numbered {
             mut poster,
             count,
+            octets,
             alloc,
         } = self;
         for number in 0..count {
             let Ok(ping) = ping_of(alloc, number) else {
                 return false;
             };
-            if post(&rt, &mut poster, ping).is_err() {
+            if post(&rt, &mut poster, ping, octets).is_err() {
                 break;
             }
         }
@@ -68,19 +70,27 @@ struct Both {
     inbox: Inbox<Wire>,
 }
 
-fn work_of(room: &mut Room, alloc: Global, conn: Conn, count: u64) -> Option<Numbered> {
+/// What a connection is to post. None where its seat isn't free.
+pub fn work_of(
+    room: &mut Room,
+    alloc: Global,
+    conn: Conn,
+    count: u64,
+    octets: usize,
+) -> Option<Numbered> {
     let at = room.take_seat(seat(conn))?;
     let poster = at.into_poster(conn).ok()?;
     Some(Numbered {
         poster,
         count,
+        octets,
         alloc,
     })
 }
 
 fn both_of(mut room: Room, alloc: Global, first: Conn, second: Conn, count: u64) -> Option<Both> {
-    let first = work_of(&mut room, alloc, first, count)?;
-    let second = work_of(&mut room, alloc, second, count)?;
+    let first = work_of(&mut room, alloc, first, count, 0)?;
+    let second = work_of(&mut room, alloc, second, count, 0)?;
     let Room { inbox, .. } = room;
     Some(Both {
         first,
@@ -89,8 +99,8 @@ fn both_of(mut room: Room, alloc: Global, first: Conn, second: Conn, count: u64)
     })
 }
 
-// Receives until each sender is gone, or so many posts came.
-fn receive_up_to<R: Wait>(rt: &R, inbox: &mut Inbox<Wire>, most: u64, received: &mut Received) {
+/// Receives until each sender is gone, or so many posts came.
+pub fn receive_up_to<R: Wait>(rt: &R, inbox: &mut Inbox<Wire>, most: u64, received: &mut Received) {
     for _ in 0..most {
         match inbox.receive(rt) {
             None => break,

@@ -1,15 +1,15 @@
 //! One case.
-use crate::client::Client;
+use crate::client::{Client, Peer};
 use crate::loopback::Loopback;
 use crate::script::Script;
-use crate::steps::{Cue, Deed, Stand, Step};
+use crate::steps::{Cue, Deed, Flood, Stand, Step};
 use crate::told::{tell, tell_last};
 use case_items::grant_of;
 use case_text::{line_of, number_of, octets_of};
 use rawsocket::devices::WriteSink;
 use std::alloc::Global;
 use std::collections::VecDeque;
-use std::io::{self, Read, Write};
+use std::io::{self, Read};
 use std::mem;
 use std::net::{Net, TcpListener, TcpStream};
 use std::os::unix::net::UnixStream;
@@ -88,6 +88,8 @@ impl Case {
             "hears" => self.act(number, Deed::Hears(number_of(after)))?,
             "ends" => self.act(number, Deed::Hears(u64::MAX))?,
             "says" => self.act(number, Deed::Says(octets_of(alloc, after)?))?,
+            "floods" => self.act(number, Deed::Floods(flood_of(after)))?,
+            "leaves" => self.act(number, Deed::Leaves)?,
             "stands" => self.act(number, Deed::Stands)?,
             "frees" => self.act(number, Deed::Frees)?,
             _ => return line_of(alloc, "no case has this word"),
@@ -206,7 +208,7 @@ impl Case {
         mem::replace(&mut self.steps, VecDeque::new(alloc))
     }
 
-    fn tell<T: Read + Write + Drop>(
+    fn tell<T: Peer>(
         &self,
         alloc: Global,
         told: &mut String,
@@ -216,6 +218,17 @@ impl Case {
             None => tell(told, clients, &self.allowed),
             Some(count) => tell_last(alloc, told, clients, count as usize),
         }
+    }
+}
+
+// The PINGs that three numbers name.
+fn flood_of(text: &str) -> Flood {
+    let (times, rest) = text.split_once(' ').unwrap_or((text, ""));
+    let (octets, least) = rest.split_once(' ').unwrap_or((rest, ""));
+    Flood {
+        times: number_of(times),
+        octets: number_of(octets) as usize,
+        least: number_of(least),
     }
 }
 

@@ -11,7 +11,8 @@
 //!   `fails N`, so many failures in a row. After the last one the broker is told to stop.
 //! - What is done before accepting goes on, to the client of this number, from 1: `hears K N`, it waits until it got so many octets;
 //!   `ends K`, until its stream has ended; `says K TEXT`, it sends these octets; `stands K`, its sink is waited for to stand still;
-//!   `frees K`, its sink or its source goes on.
+//!   `frees K`, its sink or its source goes on; `floods K N OCTETS LEAST`, it sends N PINGs of so many octets each, and reads nothing, until
+//!   its stream takes no more, but takes so many at least; `leaves K`, it closes its stream.
 //! - `serve` serves all that over pairs of connected sockets, `serve tcp` over TCP, where no sink stands still. It tells how serving ended
 //!   and what each client got, if it got anything; after `last N` only how many got the same last N octets as the first one, and what each
 //!   other one got. Where a `may K TEXT` has what the client K got, only that is told of it. `serve N` does so many times what `serve`

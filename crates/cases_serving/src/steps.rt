@@ -1,8 +1,7 @@
 //! What a case does, step by step.
-use crate::client::Client;
+use crate::client::{Client, Peer};
 use std::alloc::{AllocError, Global};
 use std::collections::VecDeque;
-use std::io::{Read, Write};
 
 /// Where a stream stands still.
 #[derive(Clone, Copy, Drop)]
@@ -28,6 +27,17 @@ pub enum Cue {
     Stops,
 }
 
+/// PINGs that a client sends.
+#[derive(Clone, Copy, Drop)]
+pub struct Flood {
+    /// How many it sends.
+    pub times: u64,
+    /// How many octets each one carries.
+    pub octets: usize,
+    /// How many of them its stream takes, sooner or later.
+    pub least: u64,
+}
+
 /// What is done with a client.
 #[derive(Drop)]
 pub enum Deed {
@@ -35,6 +45,10 @@ pub enum Deed {
     Hears(u64),
     /// It sends these octets.
     Says(Vec<u8>),
+    /// It sends so many PINGs, and reads nothing, until its stream takes no more.
+    Floods(Flood),
+    /// It closes its stream.
+    Leaves,
     /// It is waited until its sink stands still.
     Stands,
     /// What stands still goes on.
@@ -83,6 +97,8 @@ impl Deed {
         match self {
             Deed::Hears(count) => Ok(Deed::Hears(*count)),
             Deed::Says(octets) => Ok(Deed::Says(copy_of(alloc, octets)?)),
+            Deed::Floods(flood) => Ok(Deed::Floods(*flood)),
+            Deed::Leaves => Ok(Deed::Leaves),
             Deed::Stands => Ok(Deed::Stands),
             Deed::Frees => Ok(Deed::Frees),
         }
@@ -96,7 +112,7 @@ pub struct Play<T> {
     pub clients: Vec<Client<T>>,
 }
 
-impl<T: Read + Write + Drop> Play<T> {
+impl<T: Peer> Play<T> {
     /// What accepting gives next. All that comes before it is done.
     pub fn next(&mut self) -> Cue {
         for _ in 0..u64::MAX {
@@ -116,6 +132,8 @@ impl<T: Read + Write + Drop> Play<T> {
         let _ = match deed {
             Deed::Hears(count) => client.hear(count),
             Deed::Says(octets) => client.say(&octets),
+            Deed::Floods(flood) => client.flood(flood),
+            Deed::Leaves => client.leave(),
             Deed::Stands => client.wait_for_sink(),
             Deed::Frees => client.free(),
         };

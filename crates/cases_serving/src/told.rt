@@ -1,12 +1,12 @@
 //! What a case tells of its clients.
-use crate::client::Client;
+use crate::client::{Client, Peer};
 use case_text::spell;
 use std::alloc::Global;
-use std::io::{self, Read, Write};
+use std::io;
 
 /// What each client got, by its number, if it got anything; where it is among what that client may get, only so. Each is heard to its end
-/// first.
-pub fn tell<T: Read + Write + Drop>(
+/// first. Before that, whether it was held back.
+pub fn tell<T: Peer>(
     told: &mut String,
     clients: &mut [Client<T>],
     allowed: &[(u64, Vec<u8>)],
@@ -15,6 +15,9 @@ pub fn tell<T: Read + Write + Drop>(
     for client in clients.iter_mut() {
         number = number.wrapping_add(1);
         client.hear(u64::MAX)?;
+        if client.is_held_back() {
+            write!(told, "{number} was held back\n")?;
+        }
         if may_get(allowed, number, client.got()) {
             write!(told, "{number} got what it may\n")?;
         } else {
@@ -43,7 +46,7 @@ fn tell_one(told: &mut String, number: u64, got: &[u8]) -> io::Result<()> {
 }
 
 /// The last octets that the first client got, so many of them, and how many clients got these last; and of each other one what it got.
-pub fn tell_last<T: Read + Write + Drop>(
+pub fn tell_last<T: Peer>(
     alloc: Global,
     told: &mut String,
     clients: &mut [Client<T>],

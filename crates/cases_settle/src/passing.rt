@@ -64,7 +64,7 @@ impl Desk {
             × (outbox_of self.new.actor.rows (poster_conn poster) ≡ Some p)
             × (p.queue ≡ joining.outbox.queue)) }
     {
-        let Ok(()) = poster.post(rt, act) else {
+        let Ok(()) = poster.post(rt, act, 0) else {
             return None;
         };
         let post = self.inbox.receive(rt)?;

@@ -28,14 +28,14 @@ pub struct EncodingPoster<'a, P> {
 impl<S: Shut, P: Posting<S>> Posting<S> for EncodingPoster<'_, P> {
     ghost posted = { λ e. P.posted e.poster };
 
-    fn post<R: Wait>(&mut self, rt: &R, act: Act<S>) -> Result<(), Act<S>>
+    fn post<R: Wait>(&mut self, rt: &R, act: Act<S>, octets: usize) -> Result<(), Act<S>>
         requires { is_join act ≡ false }
         ensures { MatchResult result (λ _.
             P.posted self.new.poster ≡ P.posted self.old.poster ++ act ∷ []) (λ back. (back ≡ act)
             × (P.posted self.new.poster ≡ P.posted self.old.poster)) }
     {
         let act = encoded(self.alloc, self.in_use, act);
-        self.poster.post(rt, act)
+        self.poster.post(rt, act, octets)
     }
 }
 

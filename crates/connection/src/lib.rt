@@ -3,7 +3,7 @@
 //!
 //! [`read_posts`] and [`write_items`] run in a thread each, and end where their stream, the other threads or want of memory make them. Each
 //! says by its end what was posted, or written, of all that it read, or took. By an [`EncodingPoster`] a reader posts what is encoded
-//! once for many receivers.
+//! once for many receivers, and by a [`PongPoster`] it reads on only while its client takes its PONGs.
 //!
 //! It stands on `session`, `rawsocket`, `outbox_queue` and `realm_inbox`. Contracts compare what was posted with what the octets spell,
 //! and what was written with the frames of the items.
@@ -12,6 +12,7 @@
 mod encoding_poster;
 mod fault;
 mod in_use;
+mod pongs;
 mod reader;
 mod seats;
 mod writer;
@@ -19,6 +20,7 @@ mod writer;
 pub use encoding_poster::EncodingPoster;
 pub use fault::Fault;
 pub use in_use::{InUse, Using};
+pub use pongs::{AskedPongs, OwedPongs, PongPoster, share_pongs};
 pub use reader::{ReadEnd, read_posts};
 pub use seats::Seats;
 pub use writer::{Watch, WriteEnd, write_items, write_watched};

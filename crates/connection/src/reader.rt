@@ -60,14 +60,19 @@ fn is_last(said: &Said) -> bool
 // Lets go of an act that came back.
 fn let_go<S: Shut>(_back: Act<S>) {}
 
-// Posts an act that is no Join.
-fn post<R: Wait, S: Shut, P: Posting<S>>(rt: &R, poster: &mut P, act: Act<S>) -> Result<(), ReadEnd>
+// Posts an act that is no Join, and was read from so many octets.
+fn post<R: Wait, S: Shut, P: Posting<S>>(
+    rt: &R,
+    poster: &mut P,
+    act: Act<S>,
+    octets: usize,
+) -> Result<(), ReadEnd>
     requires { is_join act ≡ false }
     ensures posted { OnOk result (P.posted poster.new ≡ P.posted poster.old ++ act ∷ []) }
     ensures back { OnErr result (P.posted poster.new ≡ P.posted poster.old) }
     ensures end { IfErr result (λ e. e ≡ ReadEnd.ActorGone) }
 {
-    match poster.post(rt, act) {
+    match poster.post(rt, act, octets) {
         Ok(()) => Ok(()),
         Err(back) => {
             let_go(back);
@@ -92,14 +97,14 @@ fn post_message<R: Wait, S: Shut, P: Posting<S>>(
         Ok(said) => said,
         Err(Fault::NoMemory) => return Err(ReadEnd::NoMemory),
         Err(fault) => {
-            if let Err(end) = post(rt, poster, Act::Spoilt) {
+            if let Err(end) = post(rt, poster, Act::Spoilt, 0) {
                 return Err(end);
             }
             return Err(ReadEnd::Violation(fault));
         }
     };
     let last = is_last(&said);
-    if let Err(end) = post(rt, poster, Act::Said(said)) {
+    if let Err(end) = post(rt, poster, Act::Said(said), payload.len()) {
         return Err(end);
     }
     if last {
@@ -121,7 +126,15 @@ fn post_frame<R: Wait, S: Shut, P: Posting<S>>(
 {
     match frame.kind {
         Kind::Message => post_message(rt, alloc, serializer, &frame.payload, poster),
-        Kind::Ping => post(rt, poster, Act::Ping(Octets::from_vec(frame.payload))),
+        Kind::Ping => {
+            let octets = frame.payload.len();
+            post(
+                rt,
+                poster,
+                Act::Ping(Octets::from_vec(frame.payload)),
+                octets,
+            )
+        }
         Kind::Pong => Ok(()),
     }
 }
@@ -138,7 +151,7 @@ fn post_fault<R: Wait, S: Shut, P: Posting<S>>(
     let Some(fault) = fault else {
         return Ok(());
     };
-    match post(rt, poster, Act::Spoilt) {
+    match post(rt, poster, Act::Spoilt, 0) {
         Ok(()) => Err(ReadEnd::Violation(Fault::from(fault))),
         Err(end) => Err(end),
     }
@@ -236,7 +249,7 @@ fn leave<R: Wait, S: Shut, P: Posting<S>>(rt: &R, poster: &mut P, end: ReadEnd) 
         ReadEnd::ActorGone => return end,
         _ => {}
     }
-    if let Err(end) = post(rt, poster, Act::Gone) {
+    if let Err(end) = post(rt, poster, Act::Gone, 0) {
         return end;
     }
     end

@@ -38,6 +38,9 @@ pub trait Watch {
     /// The writer took an item. Nothing of it is written yet.
     fn takes(&mut self, item: &Item);
 
+    /// The frame of the item is handed to the device, or is among less than 65,536 octets that the writer holds back.
+    fn writes(&mut self, item: &Item);
+
     /// The writer gives up, as it can't make the frame of the item, by this fault. Nothing of it is written.
     fn gives_up(&mut self, item: &Item, fault: Fault);
 }
@@ -48,6 +51,8 @@ struct Unwatched;
 
 impl Watch for Unwatched {
     fn takes(&mut self, _item: &Item) {}
+
+    fn writes(&mut self, _item: &Item) {}
 
     fn gives_up(&mut self, _item: &Item, _fault: Fault) {}
 }
@@ -244,7 +249,11 @@ fn write_next<R: Wait, H: Owed<Item>, S: Sink, W: Watch>(
         Err(end) => return Err(end),
     };
     watch.takes(&item);
-    add_frame(sink, client, &item, gathered, watch)
+    let added = add_frame(sink, client, &item, gathered, watch);
+    if added.is_ok() {
+        watch.writes(&item);
+    }
+    added
 }
 
 /// Takes items and writes their frames, one after another, until the outbox is closed and nothing is left in it, or something fails.

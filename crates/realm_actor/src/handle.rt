@@ -36,7 +36,7 @@ impl<S: Shut, W: IdSource> State<S, W> {
         ensures handled { self.new.handled ≡ self.old.handled }
         ensures room { IsRoomy self.old → IsRoomy self.new }
     {
-        let (conn, act) = letter.into_parts();
+        let (conn, act, _weight) = letter.into_parts();
         match act {
             Act::Join(joining) => self.join(rt, alloc, conn, joining),
             other => self.enter(rt, alloc, conn, other),

@@ -9,6 +9,7 @@ use Rattle.std.specs.contracts.alloc.Global as Global
 use Rattle.std.specs.contracts.impls.GlobalAllocator.TheImpl as global
 use Rattle.std.specs.contracts.option.Option as Option
 use Rattle.std.specs.contracts.sync.Arc as Arc
+use Rattle.std.specs.contracts.vec.Vec as Vec
 use Rattle.atomic_table.proofs.badge.Badge.TheSendSync as badge
 use Rattle.atomic_table.proofs.shared.Seat.TheSendSync as ticket
 use Rattle.atomic_table.specs.contracts.badge.Badge as Badge
@@ -35,6 +36,9 @@ use Rattle.outbox_queue.specs.contracts.outbox.Outbox as Outbox
 use Rattle.session.proofs.SendLemmas.{item_send, said_send}
 use Rattle.session.specs.contracts.messages.item.Item as Item
 use Rattle.realm_inbox.specs.contracts.act.Act as Act
+use Rattle.realm_inbox.specs.contracts.backlog.Backlog as Backlog
+use Rattle.realm_inbox.specs.contracts.backlog.Held as Held
+use Rattle.realm_inbox.specs.contracts.backlog.Weight as Weight
 use Rattle.realm_inbox.specs.contracts.ends.Door as Door
 use Rattle.realm_inbox.specs.contracts.ends.Inbox as Inbox
 use Rattle.realm_inbox.specs.contracts.ends.Poster as Poster
@@ -64,6 +68,25 @@ bell_sync = search (crosses, sendable) depth 60
 room_send : IsSend (Arc.the_row RoomBell.the_row Global.the_row global.ghosts)
 room_send = heap.Arc-send _ bell_send bell_sync
 
+-- of a seat's backlog, and what shares it
+pub backlog_send : IsSend Backlog.the_row
+backlog_send = search (crosses, sendable) depth 60
+
+pub backlog_sync : IsSync Backlog.the_row
+backlog_sync = search (crosses, sendable) depth 60
+
+abbrev shared : RattleType
+shared = Arc.the_row Backlog.the_row Global.the_row global.ghosts
+
+shared_send : IsSend shared
+shared_send = heap.Arc-send _ backlog_send backlog_sync
+
+held_send : IsSend Held.the_row
+held_send = variants_send Held.enum (tt, ((search sendable, (as_row_send (Arc.the_field Backlog.the_row Global.the_row global.ghosts) shared_send, tt)), tt))
+
+weight_send : IsSend Weight.the_row
+weight_send = declared_send Weight.the_type (held_send, tt)
+
 bells_send : IsSend Bells.the_row
 bells_send = declared_send Bells.the_type (as_row_send (Arc.the_field RoomBell.the_row Global.the_row global.ghosts) room_send, (search (unparker.the_field_send, unparker.the_send, crosses, heap.send, heap.sync, heap.frees, sendable) depth 60, tt))
 
@@ -78,7 +101,7 @@ module _ (S : RattleType) where
   act_send s = variants_send (Act.enum S) ((joining_send s, tt), ((said_send, tt), ((as_row_send (Octets.the_field) octets_send, tt), (tt, (tt, tt)))))
 
   letter_send : IsSend S → IsSend (Letter.the_row S)
-  letter_send s = declared_send (Letter.the_type S) (search (crosses, sendable) depth 60, (act_send s, (search (crosses, sendable) depth 60, tt)))
+  letter_send s = declared_send (Letter.the_type S) (search (crosses, sendable) depth 60, (act_send s, (search (crosses, sendable) depth 60, (weight_send, tt))))
 
   post_send : IsSend S → IsSend (Post.the_row S)
   post_send s = variants_send (Post.enum S) ((letter_send s, tt), ((search (crosses, sendable) depth 60, tt), tt))
@@ -112,10 +135,10 @@ module _ (S : RattleType) (shut : Ghosts S.Denot) where
   sending_send s = sending.the_send _ _ global.ghosts (channel_send s) heap.send (channel_sync s) heap.sync heap.frees
 
   pub inbox_send : IsSend S → IsSend (Inbox.the_row S shut)
-  inbox_send s = declared_send (Inbox.the_type S shut) (search sendable, (receiving_send s, (as_row_send (Arc.the_field RoomBell.the_row Global.the_row global.ghosts) room_send, (search (parker.the_field_send, parker.the_send, crosses, heap.send, heap.sync, heap.frees, sendable) depth 60, (ticket.the_send _ _ key_send, tt)))))
+  inbox_send s = declared_send (Inbox.the_type S shut) (search sendable, (receiving_send s, (as_row_send (Arc.the_field RoomBell.the_row Global.the_row global.ghosts) room_send, (as_row_send (Vec.the_field shared Global.the_row global.ghosts) (heap.Vec-send _ shared_send), (search (parker.the_field_send, parker.the_send, crosses, heap.send, heap.sync, heap.frees, sendable) depth 60, (ticket.the_send _ _ key_send, tt))))))
 
   pub seat_send : IsSend S → IsSend (Seat.the_row S shut)
-  seat_send s = declared_send (Seat.the_type S shut) (search sendable, (search (crosses, sendable) depth 60, (sending_send s, (search (bells_send, crosses, sendable) depth 60, (ticket.the_send _ _ key_send, tt)))))
+  seat_send s = declared_send (Seat.the_type S shut) (search sendable, (search (crosses, sendable) depth 60, (as_row_send (Arc.the_field Backlog.the_row Global.the_row global.ghosts) shared_send, (sending_send s, (search (bells_send, crosses, sendable) depth 60, (ticket.the_send _ _ key_send, tt))))))
 
   pub poster_send : IsSend S → IsSend (Poster.the_row S shut)
   poster_send s = declared_send (Poster.the_type S shut) (search (crosses, sendable) depth 60, (seat_send s, tt))

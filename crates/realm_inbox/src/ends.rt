@@ -9,6 +9,7 @@ ghost use Rattle.realm_inbox.specs.Seats.{IsNext, BringsOwn, at_seat};
 ghost use Rattle.realm_inbox.specs.Ends.{place_of, posted_in, received_in, number_in, is_seat, is_reader, is_door, reads_any, posts_any};
 
 use crate::act::Act;
+use crate::backlog::{Backlog, Weight};
 use crate::bells::{Bells, send};
 use crate::letter::{Halt, Letter, Post};
 use crate::room_bell::RoomBell;
@@ -45,6 +46,8 @@ pub struct Door<S: Shut> {
 pub struct Seat<S: Shut> {
     pub(crate) number: u64,
     pub(crate) past: GhostList<(Conn, Act<S>)>,
+    // What was posted here and isn't handled yet.
+    pub(crate) backlog: Arc<Backlog>,
     pub(crate) sender: Sending<S>,
     pub(crate) bells: Bells,
     pub(crate) pass: Ticket<S>,
@@ -71,6 +74,8 @@ pub struct Inbox<S: Shut> {
     pub(crate) next: u64,
     pub(crate) receiver: Receiving<S>,
     pub(crate) room: Arc<RoomBell>,
+    // Of each seat.
+    pub(crate) backlogs: Vec<Arc<Backlog>>,
     pub(crate) parker: Parker,
     pub(crate) pass: Ticket<S>,
     ghost at: { IsSeatAt (receives_on receiver) pass },
@@ -177,17 +182,21 @@ fn compare_passes<S: Shut>(sender: &Sending<S>, reading: &mut Ticket<S>, posting
 }
 
 impl<S: Shut> Drop for Inbox<S> {
-    // Posters that wait find that it is gone.
+    // Posters that wait find that it is gone. Posts that wait in it last as long as a sender does, so that room is made by nobody.
     fn drop(self) {
         let Self {
             next: _,
             receiver,
             room,
+            backlogs,
             parker: _,
             pass: _,
         } = self;
         drop(receiver);
         room.ring();
+        for backlog in &backlogs {
+            backlog.close();
+        }
     }
 }
 
@@ -236,8 +245,14 @@ impl<S: Shut> Seat<S> {
         compare_passes(&self.sender, reading, &mut self.pass);
     }
 
-    // Posts an act of a connection of this seat.
-    fn post<R: Wait>(&mut self, rt: &R, conn: Conn, act: Act<S>) -> Result<(), Act<S>>
+    // Posts an act of a connection of this seat, which was read from so many octets.
+    fn post<R: Wait>(
+        &mut self,
+        rt: &R,
+        conn: Conn,
+        act: Act<S>,
+        octets: usize,
+    ) -> Result<(), Act<S>>
         requires seat { seat_of conn ≡ seat_number self.old }
         requires own { BringsOwn conn act }
         ensures posted { MatchResult result (λ _.
@@ -246,11 +261,17 @@ impl<S: Shut> Seat<S> {
         ensures same { (seat_number self.new ≡ seat_number self.old)
             × (inbox_of_seat self.new ≡ inbox_of_seat self.old) }
     {
+        let weight = Weight::of(rt, &self.backlog, octets);
         let before = Snapshot::of(&self.past);
         let said = (conn, act);
         let last = Snapshot::of(&said);
         let (conn, act) = said;
-        let letter = Letter { conn, act, before };
+        let letter = Letter {
+            conn,
+            act,
+            before,
+            weight,
+        };
         let post = Post::Act(letter);
         match send::<_, _, _, Posts, R>(rt, &self.sender, &self.bells, &mut self.pass, post) {
             Ok(()) => {
@@ -269,6 +290,7 @@ impl<S: Shut> Drop for Seat<S> {
         let Self {
             number: _,
             past: _,
+            backlog: _,
             sender,
             bells,
             pass: _,
@@ -281,11 +303,18 @@ impl<S: Shut> Drop for Seat<S> {
 impl<S: Shut> Poster<S> {
     ghost use Rattle.realm_inbox.specs.EndViews.{posted, posted_at, poster_conn, seat_number, inbox_of_poster, inbox_of_seat};
 
-    /// Posts an act of its connection, and waits while the inbox is full. A Join brings an outbox of this connection.
+    /// Posts an act of its connection, which was read from so many octets of the client's, or from none. A Join brings an outbox of
+    /// this connection.
+    ///
+    /// It waits while the inbox is full; and, where the octets are 256 or more, while [`MOST_WAITING`](crate::MOST_WAITING) of its
+    /// seat wait that weren't handled yet: once it waits, until fewer than half of them do. Who ends that wait is who drops the
+    /// [`Weight`]s of these posts: the actor with each post that it has handled, and who turns away what is posted behind a stop; or
+    /// the inbox, when it goes. Each of them rings, and no ring is missed ([`Backlog`]). A poster that waits has posts in the
+    /// inbox, or ahead of it with the actor, so there is always one that is still to be handled.
     ///
     /// # Errors
     /// The act, where the inbox is gone. Nothing was posted then.
-    pub fn post<R: Wait>(&mut self, rt: &R, act: Act<S>) -> Result<(), Act<S>>
+    pub fn post<R: Wait>(&mut self, rt: &R, act: Act<S>, octets: usize) -> Result<(), Act<S>>
         requires own { BringsOwn (poster_conn self.old) act }
         ensures posted { MatchResult result (λ _.
             posted self.new ≡ posted self.old ++ (poster_conn self.old, act) ∷ [])
@@ -293,7 +322,7 @@ impl<S: Shut> Poster<S> {
         ensures same { (poster_conn self.new ≡ poster_conn self.old)
             × (inbox_of_poster self.new ≡ inbox_of_poster self.old) }
     {
-        self.seat.post(rt, self.conn, act)
+        self.seat.post(rt, self.conn, act, octets)
     }
 
     /// The connection that it posts for.

@@ -4,6 +4,7 @@ ghost use Rattle.realm_inbox.specs.declared.joining.Joining.{Joining as AJoining
 ghost use Rattle.realm_inbox.specs.declared.act.Act.TheVariants.{Join};
 
 use crate::act::Act;
+use crate::backlog::Weight;
 use crate::transport::Shut;
 use ghost_state::GhostList;
 use std::snapshot::Snapshot;
@@ -18,6 +19,8 @@ pub struct Letter<S: Shut> {
     pub(crate) act: Act<S>,
     // It takes no bytes.
     pub(crate) before: Snapshot<GhostList<(Conn, Act<S>)>>,
+    // What it takes of its seat's backlog.
+    pub(crate) weight: Weight,
     ghost own: { (joining : AJoining S) → act ≡ Join joining → joining.outbox.conn ≡ conn },
 }
 
@@ -38,8 +41,9 @@ impl<S: Shut> Letter<S> {
         &self.act
     }
 
-    /// Whose act it is, and the act. A Join brings an outbox of this connection.
-    pub fn into_parts(self) -> (Conn, Act<S>)
+    /// Whose act it is, and the act. A Join brings an outbox of this connection. The third is what the letter takes of its seat's
+    /// backlog: who handles the act drops it afterwards, and so makes room for the client's next acts.
+    pub fn into_parts(self) -> (Conn, Act<S>, Weight)
         ensures conn { result.0 ≡ conn_of_letter self }
         ensures act { result.1 ≡ act_of_letter self }
         ensures own { BringsOwn result.0 result.1 }
@@ -48,8 +52,9 @@ impl<S: Shut> Letter<S> {
             conn,
             act,
             before: _,
+            weight,
         } = self;
-        (conn, act)
+        (conn, act, weight)
     }
 }
 

@@ -17,6 +17,7 @@
 #![tactic(auto)]
 
 mod act;
+mod backlog;
 mod bells;
 mod ends;
 mod history;
@@ -30,6 +31,7 @@ mod rule;
 mod transport;
 
 pub use act::Act;
+pub use backlog::{Backlog, MOST_WAITING, Weight};
 pub use ends::{Door, Inbox, Poster, Seat};
 pub use ghost_state::GhostList;
 pub use history::RealmHistory;

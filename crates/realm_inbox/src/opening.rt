@@ -5,6 +5,7 @@ ghost use Rattle.crossbeam_channel.specs.Ends.{sends_on};
 ghost use Rattle.realm_inbox.specs.Ends.{place_of, received_in, stops_in, is_reader, is_door};
 ghost use Rattle.realm_inbox.specs.EndViews.{received, capacity, stops, inbox_of, inbox_of_door, IsNewSeat, AreNewSeats};
 
+use crate::backlog::Backlog;
 use crate::bells::Bells;
 use crate::ends::{Door, Inbox, Seat, Sending, Ticket};
 use crate::letter::Post;
@@ -32,6 +33,7 @@ fn cut_door<S: Shut>(sender: &Sending<S>, pass: &mut Ticket<S>) -> Ticket<S>
 
 // The next seat.
 fn cut_seat<S: Shut>(
+    alloc: Global,
     sender: &Sending<S>,
     bells: &Bells,
     pass: &mut Ticket<S>,
@@ -47,10 +49,12 @@ fn cut_seat<S: Shut>(
 {
     let own = sender.try_clone()?;
     let bells = bells.twin()?;
+    let backlog = Arc::new(alloc, Backlog::new())?;
     let cut = sender.another::<CutSeat>(pass);
     Ok(Seat {
         number,
         past: GhostList::new(),
+        backlog,
         sender: own,
         bells,
         pass: cut,
@@ -75,10 +79,19 @@ fn cut_seats<S: Shut>(
 {
     let mut seats = Vec::new(alloc);
     for i in 0..count {
-        let seat = cut_seat(sender, bells, pass, i + 1)?;
+        let seat = cut_seat(alloc, sender, bells, pass, i + 1)?;
         seats.push(seat)?;
     }
     Ok(seats)
+}
+
+// The backlog of each seat.
+fn backlogs_of<S: Shut>(alloc: Global, seats: &[Seat<S>]) -> Result<Vec<Arc<Backlog>>, AllocError> {
+    let mut backlogs = Vec::with_capacity(alloc, seats.len())?;
+    for seat in seats {
+        backlogs.push(Arc::try_clone(&seat.backlog)?)?;
+    }
+    Ok(backlogs)
 }
 
 /// An inbox in which at most `cap` posts wait, 1 or more, with its door and its seats, from 1 to 256 in order. Nothing was posted
@@ -107,6 +120,7 @@ pub fn inbox<S: Shut>(
         receiver: parker.unparker().clone()?,
     };
     let seats = cut_seats(alloc, &sender, &bells, &mut pass, SEATS)?;
+    let backlogs = backlogs_of(alloc, &seats)?;
     Ok((
         Door {
             sender,
@@ -118,6 +132,7 @@ pub fn inbox<S: Shut>(
             next: SEATS + 1,
             receiver,
             room,
+            backlogs,
             parker,
             pass,
         },

@@ -13,11 +13,11 @@ pub trait Posting<S: Shut> {
     /// What was posted so far, the oldest first.
     ghost posted: { Self → List (AnAct S) };
 
-    /// Posts an act that is no Join, and may wait for room.
+    /// Posts an act that is no Join, and may wait for room. It was read from so many octets of the client's, or from none.
     ///
     /// # Errors
     /// The act, where nobody receives it any more. Nothing was posted then.
-    fn post<R: Wait>(&mut self, rt: &R, act: Act<S>) -> Result<(), Act<S>>
+    fn post<R: Wait>(&mut self, rt: &R, act: Act<S>, octets: usize) -> Result<(), Act<S>>
         requires { is_join act ≡ false }
         ensures { MatchResult result (λ _. posted self.new ≡ posted self.old ++ act ∷ [])
             (λ back. (back ≡ act) × (posted self.new ≡ posted self.old)) };
@@ -28,11 +28,11 @@ impl<S: Shut> Posting<S> for Poster<S> {
 
     ghost posted = { posted_acts };
 
-    fn post<R: Wait>(&mut self, rt: &R, act: Act<S>) -> Result<(), Act<S>>
+    fn post<R: Wait>(&mut self, rt: &R, act: Act<S>, octets: usize) -> Result<(), Act<S>>
         requires { is_join act ≡ false }
         ensures { MatchResult result (λ _. posted_acts self.new ≡ posted_acts self.old ++ act ∷ [])
             (λ back. (back ≡ act) × (posted_acts self.new ≡ posted_acts self.old)) }
     {
-        Poster::post(self, rt, act)
+        Poster::post(self, rt, act, octets)
     }
 }

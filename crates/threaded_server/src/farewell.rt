@@ -18,14 +18,14 @@ pub struct FarewellPoster<P> {
 impl<S: Shut, P: Posting<S>> Posting<S> for FarewellPoster<P> {
     ghost posted = { λ e. P.posted e.poster };
 
-    fn post<R: Wait>(&mut self, rt: &R, act: Act<S>) -> Result<(), Act<S>>
+    fn post<R: Wait>(&mut self, rt: &R, act: Act<S>, octets: usize) -> Result<(), Act<S>>
         requires { is_join act ≡ false }
         ensures { MatchResult result (λ _.
             P.posted self.new.poster ≡ P.posted self.old.poster ++ act ∷ []) (λ back. (back ≡ act)
             × (P.posted self.new.poster ≡ P.posted self.old.poster)) }
     {
         self.has_aborted = self.has_aborted || is_abort(&act);
-        self.poster.post(rt, act)
+        self.poster.post(rt, act, octets)
     }
 }
 

@@ -1,20 +1,21 @@
 //! What is told of what a session's writer does.
 use crate::fate::Fate;
 use crate::plan::Plan;
-use connection::Watch;
+use connection::{OwedPongs, Watch};
 use notices::{Opening, opened};
 use rawsocket::Serializer;
 use session::{Fault, Item, Who, write_payload};
 use std::alloc::{AllocError, Global};
 use std::sync::Wait;
 
-/// Tells of the session that a WELCOME opens, and counts the octets of an item that can't be written.
+/// Tells of the session that a WELCOME opens, and of each PONG that is written; and counts the octets of an item that can't be.
 #[derive(Drop)]
 pub struct Herald<'a, R> {
     rt: &'a R,
     alloc: Global,
     plan: &'a Plan,
     fate: &'a Fate,
+    pongs: &'a OwedPongs,
     realm: usize,
     serializer: Serializer,
     limit: u32,
@@ -30,6 +31,7 @@ impl<'a, R> Herald<'a, R> {
         alloc: Global,
         plan: &'a Plan,
         fate: &'a Fate,
+        pongs: &'a OwedPongs,
         realm: usize,
         serializer: Serializer,
         limit: u32,
@@ -39,6 +41,7 @@ impl<'a, R> Herald<'a, R> {
             alloc,
             plan,
             fate,
+            pongs,
             realm,
             serializer,
             limit,
@@ -90,6 +93,10 @@ impl<R: Wait> Watch for Herald<'_, R> {
         if let Item::Welcome(who) = item {
             self.welcome(who);
         }
+    }
+
+    fn writes(&mut self, item: &Item) {
+        self.pongs.writes(item);
     }
 
     fn gives_up(&mut self, item: &Item, fault: Fault) {

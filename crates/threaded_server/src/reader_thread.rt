@@ -10,7 +10,9 @@ use crate::plan::Plan;
 use crate::told::tell_closed;
 use crate::work::start;
 use crate::writer_thread::{Writer, Written};
-use connection::{EncodingPoster, ReadEnd, Using, read_posts};
+use connection::{
+    AskedPongs, EncodingPoster, PongPoster, ReadEnd, Using, read_posts, share_pongs,
+};
 use message_tree::Text;
 use notices::Reason;
 use outbox_queue::{Drain, pair};
@@ -154,21 +156,28 @@ fn run_session<
     let Begun {
         opened,
         joining,
+        pongs,
         writer,
         using,
     } = begun;
+    // What comes back is let go of here, so that the writer ends.
+    let has_asked = poster.post(&rt, Act::Join(joining), 0).is_ok();
     let encoding = EncodingPoster {
         alloc,
         in_use: using.in_use(),
         poster,
     };
     let mut posting = FarewellPoster {
-        poster: encoding,
+        poster: PongPoster {
+            pongs,
+            poster: encoding,
+        },
         has_aborted: false,
     };
-    let read = match posting.poster.poster.post(&rt, Act::Join(joining)) {
-        Ok(()) => read_posts(&rt, alloc, source, opened, &mut posting),
-        Err(_) => ReadEnd::ActorGone,
+    let read = if has_asked {
+        read_posts(&rt, alloc, source, opened, &mut posting)
+    } else {
+        ReadEnd::ActorGone
     };
     let ends = Ends {
         read,
@@ -176,7 +185,8 @@ fn run_session<
         is_unwritable: broker.fate.is_unwritable(),
         written: writer.join(&rt),
     };
-    (posting.poster.poster, reason_of(broker, ends, limit))
+    let PongPoster { poster, .. } = posting.poster;
+    (poster.poster, reason_of(broker, ends, limit))
 }
 
 // How both threads of a session ended.
@@ -217,6 +227,7 @@ fn reason_of(broker: Broker<'_>, ends: Ends, limit: u32) -> Reason {
 struct Begun<S: Shut> {
     opened: Opened,
     joining: Joining<S>,
+    pongs: AskedPongs,
     writer: JoinHandle<Written>,
     // Its place among those who use its serialization.
     using: Using,
@@ -258,12 +269,14 @@ fn begin<
     let Made {
         opened,
         joining,
+        pongs,
         using,
     } = made;
     match start(rt, writer) {
         Ok(writer) => Ok(Begun {
             opened,
             joining,
+            pongs,
             writer,
             using,
         }),
@@ -276,6 +289,7 @@ fn begin<
 struct Made<S: Shut> {
     opened: Opened,
     joining: Joining<S>,
+    pongs: AskedPongs,
     using: Using,
 }
 
@@ -301,12 +315,14 @@ fn make<O: Sink + Drop, S: Shut>(
     let in_use = plan.in_use.get(opened.realm)?;
     let using = in_use.enter(opened.serializer).ok()?;
     let (joining, drain) = joining(alloc, plan, opened.authid.take(), conn, transport)?;
+    let (pongs, owed) = share_pongs(alloc).ok()?;
     let writer = Writer {
         alloc,
         plan: Arc::try_clone(plan).ok()?,
         fate: Arc::try_clone(fate).ok()?,
         realm: opened.realm,
         drain,
+        pongs: owed,
         sink,
         transport: transport.twin()?,
         serializer: opened.serializer,
@@ -315,6 +331,7 @@ fn make<O: Sink + Drop, S: Shut>(
     let made = Made {
         opened,
         joining,
+        pongs,
         using,
     };
     Some((made, writer))

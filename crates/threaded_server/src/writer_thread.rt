@@ -5,7 +5,7 @@ use crate::fate::Fate;
 use crate::herald::Herald;
 use crate::plan::Plan;
 use crate::work::Work;
-use connection::{WriteEnd, write_watched};
+use connection::{OwedPongs, WriteEnd, write_watched};
 use outbox_queue::Drain;
 use rawsocket::Serializer;
 use rawsocket::devices::Sink;
@@ -23,6 +23,8 @@ pub struct Writer<O, S> {
     /// The place of the session's realm.
     pub realm: usize,
     pub drain: Drain<Item, RealmHistory>,
+    /// The reader waits for these, until they are dropped: once the writer has ended, or where it never came to be.
+    pub pongs: OwedPongs,
     pub sink: O,
     pub transport: S,
     pub serializer: Serializer,
@@ -50,12 +52,13 @@ impl<R: Wait + Copy, O: Sink + Drop, S: Shut> Work<R> for Writer<O, S> {
             fate,
             realm,
             drain,
+            pongs,
             mut sink,
             transport,
             serializer,
             limit,
         } = self;
-        let mut herald = Herald::new(&rt, alloc, &plan, &fate, realm, serializer, limit);
+        let mut herald = Herald::new(&rt, alloc, &plan, &fate, &pongs, realm, serializer, limit);
         let (drain, end) = write_watched(
             &rt,
             alloc,
@@ -71,6 +74,7 @@ impl<R: Wait + Copy, O: Sink + Drop, S: Shut> Work<R> for Writer<O, S> {
         }
         transport.shut();
         drop(drain);
+        drop(pongs);
         Written { end, octets }
     }
 }

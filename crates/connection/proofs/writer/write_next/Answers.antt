@@ -8,5 +8,5 @@ returns-in-Err-clause-ended g c =
 
 pub returns-clause-ended : goal.returns-clause-ended
 returns-clause-ended g c =
-    then_breaks c.args.client c.add_frame.result c.in-Ok.item c.args.drain.now.taken c.next_item.new.drain.taken (g.S.Sink.taken c.args.sink.now) (g.S.Sink.taken c.next_item.new.sink)
-    (g.S.Sink.taken c.add_frame.new.sink) c.args.gathered.now.frames.items c.next_item.new.gathered.frames.items c.in-Ok.ensures.took c.in-Ok.ensures.held c.add_frame.ensures.ended
+    then_breaks c.args.client c.add_frame-added.result c.in-Ok.item c.args.drain.now.taken c.next_item.new.drain.taken (g.S.Sink.taken c.args.sink.now) (g.S.Sink.taken c.next_item.new.sink)
+    (g.S.Sink.taken c.add_frame-added.new.sink) c.args.gathered.now.frames.items c.next_item.new.gathered.frames.items c.in-Ok.ensures.took c.in-Ok.ensures.held c.add_frame-added.ensures.ended

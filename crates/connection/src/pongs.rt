@@ -1,0 +1,80 @@
+//! A client that doesn't take its PONGs is read no further.
+ghost use Rattle.std.specs.Prelude.{◌≡◌, ◌++◌, ◌∷◌, [], MatchResult, false};
+ghost use Rattle.realm_inbox.specs.Joins.{is_join};
+
+use realm_inbox::{Act, Backlog, Posting, Shut};
+use session::Item;
+use std::alloc::{AllocError, Global};
+use std::sync::{Arc, Wait};
+
+/// The PONGs that a connection's writer hasn't written yet, as its reader knows them.
+#[derive(Drop)]
+pub struct AskedPongs {
+    waiting: Arc<Backlog>,
+}
+
+/// The same PONGs, as the writer knows them. Once this is dropped the reader waits for none.
+pub struct OwedPongs {
+    waiting: Arc<Backlog>,
+}
+
+/// What the two threads of a connection know of its PONGs: none waits yet.
+///
+/// # Errors
+/// `AllocError` where a growth of memory was refused.
+pub fn share_pongs(alloc: Global) -> Result<(AskedPongs, OwedPongs), AllocError> {
+    let waiting = Arc::new(alloc, Backlog::new())?;
+    let asked = AskedPongs {
+        waiting: Arc::try_clone(&waiting)?,
+    };
+    Ok((asked, OwedPongs { waiting }))
+}
+
+impl OwedPongs {
+    /// The writer has written the item.
+    pub fn writes(&self, item: &Item) {
+        if let Item::Pong(payload) = item {
+            self.waiting.give_back(payload.as_slice().len());
+        }
+    }
+}
+
+impl Drop for OwedPongs {
+    // A reader that waits goes on: nobody writes PONGs any more.
+    fn drop(self) {
+        let Self { waiting } = self;
+        waiting.close();
+    }
+}
+
+/// Posts what a client does by way of `poster`. Before it posts a PING it waits while [`MOST_WAITING`](realm_inbox::MOST_WAITING)
+/// octets of PONGs, or more, weren't written yet: once it waits, until fewer than half of them are left. PONGs of less than 256 octets
+/// aren't counted, since an outbox holds few of them.
+///
+/// Who ends that wait is the writer: with each PONG that it writes, and for good when it ends, or never came to be, since its
+/// [`OwedPongs`] are dropped then. A PING whose PONG never comes is one of a session that isn't live any more, or never was, or of
+/// which memory was refused, and that was cut for it; or it was turned away behind a stop. The outbox of each such session is closed,
+/// so its writer ends. And a client that takes none of its PONGs holds up its own reader and writer, until its stream is at its end.
+#[derive(Drop)]
+pub struct PongPoster<P> {
+    /// The PONGs of the connection.
+    pub pongs: AskedPongs,
+    /// Posts it.
+    pub poster: P,
+}
+
+impl<S: Shut, P: Posting<S>> Posting<S> for PongPoster<P> {
+    ghost posted = { λ e. P.posted e.poster };
+
+    fn post<R: Wait>(&mut self, rt: &R, act: Act<S>, octets: usize) -> Result<(), Act<S>>
+        requires { is_join act ≡ false }
+        ensures { MatchResult result (λ _.
+            P.posted self.new.poster ≡ P.posted self.old.poster ++ act ∷ []) (λ back. (back ≡ act)
+            × (P.posted self.new.poster ≡ P.posted self.old.poster)) }
+    {
+        if let Act::Ping(payload) = &act {
+            self.pongs.waiting.take_on(rt, payload.as_slice().len());
+        }
+        self.poster.post(rt, act, octets)
+    }
+}

@@ -1,0 +1,130 @@
+//! How much of a client waits for another thread, and how the client is held back while that is too much.
+use crate::room_bell::RoomBell;
+use std::mem::size_of;
+use std::sync::atomic::{AtomicBool, AtomicU64, Ordering};
+use std::sync::{Arc, Wait};
+
+/// While so many octets of a client wait, or more, nothing more is taken on.
+pub const MOST_WAITING: u64 = 4_194_304;
+
+/// Who waits goes on once fewer octets than these are left: so there is room for several messages then, and they cost one wake.
+const RESUMED: u64 = 2_097_152;
+
+/// What was read from fewer octets isn't counted: so it costs one comparison. How many of those wait is bounded elsewhere, by the
+/// capacity of what they wait in.
+const LEAST_COUNTED: usize = 256;
+
+/// The octets of one client that wait for another thread. One thread takes them on, and others give them back.
+///
+/// Nothing is promised of it, as another thread may change it at any time. It is there to bound what one client can make the broker
+/// keep: the thread that takes on waits while there is no room, and so reads no more of the client.
+#[derive(Drop)]
+pub struct Backlog {
+    waiting: AtomicU64,
+    is_closed: AtomicBool,
+    bell: RoomBell,
+}
+
+impl Backlog {
+    /// Nothing waits.
+    pub fn new() -> Backlog {
+        Backlog {
+            waiting: AtomicU64::new(0),
+            is_closed: AtomicBool::new(false),
+            bell: RoomBell::new(),
+        }
+    }
+
+    /// Counts what was read from so many octets, if they are 256 or more, and waits before while there is no room: so one thing of
+    /// any size finds room. Once it is closed nobody waits.
+    pub fn take_on<R: Wait>(&self, rt: &R, octets: usize) {
+        if octets < LEAST_COUNTED {
+            return;
+        }
+        if self.waiting.load(Ordering::SeqCst) >= MOST_WAITING {
+            self.wait(rt);
+        }
+        self.waiting.fetch_add(octets as u64, Ordering::SeqCst);
+    }
+
+    // Waits for room. It listens, and only then looks: so where it finds no room, whoever makes it, or closes, does so after the look,
+    // and rings then.
+    fn wait<R: Wait>(&self, rt: &R) {
+        for _ in rt.forever() {
+            let heard = self.bell.listen();
+            if self.is_closed.load(Ordering::SeqCst) {
+                return;
+            }
+            if self.waiting.load(Ordering::SeqCst) < RESUMED {
+                return;
+            }
+            self.bell.wait(rt, heard);
+        }
+    }
+
+    /// What was read from so many octets, and was taken on, waits no longer.
+    pub fn give_back(&self, octets: usize) {
+        if octets < LEAST_COUNTED {
+            return;
+        }
+        let before = self.waiting.fetch_sub(octets as u64, Ordering::SeqCst);
+        if before.saturating_sub(octets as u64) < RESUMED {
+            self.bell.ring();
+        }
+    }
+
+    /// Nobody gives anything back any more, and nobody waits any more: who waits goes on.
+    pub fn close(&self) {
+        self.is_closed.store(true, Ordering::SeqCst);
+        self.bell.ring();
+    }
+}
+
+/// What a post takes of its seat's backlog, until this is dropped.
+///
+/// It is of 16 octets: so a post is of 128 at most, which are moved by a few instructions, where more are by a call.
+pub struct Weight {
+    held: Held,
+}
+
+// What is given back. Nothing of a post that isn't counted.
+#[derive(Drop)]
+enum Held {
+    Nothing,
+    Octets(u32, Arc<Backlog>),
+}
+
+const _: () = prove!(size_of::<Weight>() == 16);
+
+impl Weight {
+    /// The weight of what was read from so many octets, once there is room for it.
+    pub(crate) fn of<R: Wait>(rt: &R, backlog: &Arc<Backlog>, octets: usize) -> Weight {
+        if octets < LEAST_COUNTED {
+            return Weight {
+                held: Held::Nothing,
+            };
+        }
+        Weight {
+            held: held_of(rt, backlog, octets),
+        }
+    }
+}
+
+// So many octets, once there is room for them. Nothing where the count of those who share the backlog can't grow.
+fn held_of<R: Wait>(rt: &R, backlog: &Arc<Backlog>, octets: usize) -> Held {
+    let Ok(backlog) = Arc::try_clone(backlog) else {
+        return Held::Nothing;
+    };
+    let octets = octets.min(u32::MAX as usize) as u32;
+    backlog.take_on(rt, octets as usize);
+    Held::Octets(octets, backlog)
+}
+
+impl Drop for Weight {
+    fn drop(self) {
+        let Self { held } = self;
+        if let Held::Octets(octets, backlog) = held {
+            backlog.give_back(octets as usize);
+        }
+    }
+}
