@@ -3,6 +3,7 @@ use crate::canonical::{canonical, same, shape};
 use crate::json::json;
 use crate::looking::{get, look};
 use crate::reading::{take, unread};
+use crate::transliterating::transliterate;
 use crate::walking::entries;
 use case_text::{Table, line_of, octets_of, part};
 use std::alloc::Global;
@@ -26,6 +27,7 @@ impl Table for Case {
             "entries" => entries(alloc, &octets_of(alloc, text)?),
             "unread" => unread(alloc, &octets_of(alloc, text)?),
             "take" => take(alloc, text),
+            "transliterate" => transliterate(alloc, &octets_of(alloc, text)?),
             _ => line_of(alloc, "no case has this word"),
         }
     }

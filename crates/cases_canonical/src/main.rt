@@ -1,5 +1,6 @@
-//! Cases of MessagePack in canonical form (`msgpack_canonical`), of JSON written from that (`transcoder`), and of values where they
-//! stand in octets (`msgpack_cursor`), as lines of standard input; what each is answered by is printed. In octets `\7f` is an octet.
+//! Cases of MessagePack in canonical form (`msgpack_canonical`), of JSON written from that (`transcoder`), of values where they stand in
+//! octets (`msgpack_cursor`), and of JSON as MessagePack (`json_to_msgpack`), as lines of standard input; what each is answered
+//! by is printed. In octets `\7f` is an octet.
 //!
 //! - `# TEXT` begins a case, and is printed as it stands.
 //! - `canonical ROOM OCTETS`: writes the value at the front of octets, with so much room to nest in, behind the octets `ab`, and
@@ -19,6 +20,8 @@
 //!   whether that is the end (or there is more), and whether what is left is whole; or `no list`.
 //! - `take KINDS OCTETS`: the next element by each letter: `w` a whole number, `t` a text, `v` any value; behind them the same of what
 //!   is left; or `none` where such an element isn't there, and nothing behind that; or `no list`.
+//! - `transliterate OCTETS`: the octets of MessagePack that a JSON text becomes, and whether they are the message that it is read as
+//!   (`same`, or `differs`); or `none`, and the fault of the text.
 #![tactic(auto)]
 
 mod canonical;
@@ -26,6 +29,7 @@ mod case;
 mod json;
 mod looking;
 mod reading;
+mod transliterating;
 mod walking;
 
 use case::Case;

@@ -1,0 +1,2 @@
+pub mod Transliteration
+pub mod body
