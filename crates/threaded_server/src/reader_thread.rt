@@ -10,9 +10,7 @@ use crate::plan::Plan;
 use crate::told::tell_closed;
 use crate::work::start;
 use crate::writer_thread::{Writer, Written};
-use connection::{
-    AskedPongs, EncodingPoster, PongPoster, ReadEnd, Using, read_posts, share_pongs,
-};
+use connection::{AskedPongs, EncodingPoster, PongPoster, ReadEnd, Using, read_posts, share_pongs};
 use message_tree::Text;
 use notices::Reason;
 use outbox_queue::{Drain, pair};
