@@ -5,7 +5,7 @@ use eligibility::{Lists, Who};
 use message_tree::{Dict, Tree};
 use msgpack_cursor::{Dictionary, Seen, message};
 use request_options::{PublishOptions, SubscribeOptions};
-use std::alloc::Global;
+use std::alloc::{AllocError, Global};
 use std::io;
 use wamp_ids::Policy;
 
@@ -48,7 +48,7 @@ fn published(alloc: Global, octets: &[u8]) -> io::Result<Option<PublishOptions>>
 
 /// What the options of a PUBLISH ask for in JSON.
 fn published_in_json(alloc: Global, json: &str) -> io::Result<Option<PublishOptions>> {
-    match dict_of(alloc, json) {
+    match dict_of(alloc, json)? {
         Some(options) => Ok(Some(PublishOptions::of_dict(alloc, options)?)),
         None => Ok(None),
     }
@@ -62,7 +62,7 @@ fn subscribed(octets: &[u8]) -> Option<SubscribeOptions> {
 
 /// What the options of a SUBSCRIBE ask for in JSON.
 fn subscribed_in_json(alloc: Global, json: &str) -> io::Result<Option<SubscribeOptions>> {
-    match dict_of(alloc, json) {
+    match dict_of(alloc, json)? {
         Some(options) => Ok(Some(SubscribeOptions::of_dict(&options))),
         None => Ok(None),
     }
@@ -80,13 +80,14 @@ fn dictionary_of(octets: &[u8]) -> Option<Dictionary<'_>> {
 }
 
 /// The dictionary of a JSON text.
-fn dict_of(alloc: Global, json: &str) -> Option<Dict> {
-    let Ok(message) = json_codec::decode(alloc, json.as_bytes()) else {
-        return None;
-    };
-    match message.into_tree() {
-        Tree::Dict(options) => Some(options),
-        _ => None,
+fn dict_of(alloc: Global, json: &str) -> io::Result<Option<Dict>> {
+    match json_codec::decode(alloc, json.as_bytes()) {
+        Ok(message) => match message.into_tree() {
+            Tree::Dict(options) => Ok(Some(options)),
+            _ => Ok(None),
+        },
+        Err(json_codec::Fault::NoMemory) => Err(AllocError)?,
+        Err(_) => Ok(None),
     }
 }
 
