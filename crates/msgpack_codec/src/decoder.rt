@@ -10,6 +10,7 @@ ghost use Rattle.message_tree.specs.View.{view, items_view, dict_view};
 
 use crate::fault::Fault;
 use crate::format::{Form, Size, Width, form_of};
+use crate::utf8::text_in;
 use message_tree::{Dict, Message, Tree};
 use std::alloc::{AllocError, Global};
 
@@ -97,7 +98,7 @@ pub(crate) fn signed(number: u64, width: Width) -> i128
 fn text(alloc: Global, octets: &[u8]) -> Result<Tree, AllocError>
     ensures ok { IfOk result (λ t. view t ≡ text_from octets.now) }
 {
-    match str::from_utf8(octets) {
+    match text_in(octets) {
         Ok(text) => Ok(Tree::Text(String::from_str(alloc, text)?)),
         Err(_) => Ok(Tree::Uncarried),
     }

@@ -20,6 +20,7 @@ pub mod laws;
 mod passing;
 mod shortest;
 mod tokens;
+mod utf8;
 
 pub use carriage::Carriage;
 pub use decoder::decode;

@@ -17,6 +17,7 @@ use crate::format::{Form, form_of};
 use crate::shortest::{
     before, is_bytes_head, is_dict_head, is_list_head, is_one, is_text_head, is_whole,
 };
+use crate::utf8::text_in;
 use std::cmp::Ordering;
 use thiserror::Error;
 
@@ -61,7 +62,7 @@ fn text<'a>(front: &[u8], octets: &'a [u8], rest: &'a [u8]) -> Seen<'a>
         → TellsLeaf result.is_shortest (is_writable (text_from octets.entry.now))
         front.now (short (text_from octets.entry.now)) }
 {
-    match str::from_utf8(octets) {
+    match text_in(octets) {
         Ok(_) => Seen {
             rest,
             carriage: Carriage::Carried,

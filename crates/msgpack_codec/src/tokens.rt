@@ -8,6 +8,7 @@ ghost use Rattle.msgpack_codec.specs.Values.{text_from};
 use crate::decoder::{number_of, octets_of, signed, size_of, sized};
 use crate::fault::Fault;
 use crate::format::{Form, form_of};
+use crate::utf8::text_in;
 use thiserror::Error;
 
 /// The octets begin with no whole token.
@@ -41,7 +42,7 @@ fn text(octets: &[u8]) -> Token<'_>
     ensures data { data_of result ≡ text_from octets.now }
     ensures leaf { IsLeafToken result }
 {
-    match str::from_utf8(octets) {
+    match text_in(octets) {
         Ok(text) => Token::Text(text),
         Err(_) => Token::Uncarried,
     }

@@ -9,10 +9,10 @@ pub returns-in_ok-from_str-in-Ok : goal.returns-in_ok-from_str-in-Ok
 returns-in_ok-from_str-in-Ok c =
     let made = c.in_ok-from_str-in-Ok.field-0 in
     let seen : view (Text made) ≡ tree.text (string_bytes made) = search (rules, the_lemmas) in
-    let copied : string_bytes made ≡ c.args.octets.now = c.in_ok-from_str-in-Ok.ensures.ok ∙ c.in-Ok.ensures.cases.0 in
-    record { ok = seen ∙ ap tree.text copied ∙ sym (text_from-utf8 c.args.octets.now c.in-Ok.ensures.cases.1) }
+    let copied : string_bytes made ≡ c.args.octets.now = c.in_ok-from_str-in-Ok.ensures.ok ∙ c.in-Ok.ensures.ok.0 in
+    record { ok = seen ∙ ap tree.text copied ∙ sym (text_from-utf8 c.args.octets.now c.in-Ok.ensures.ok.1) }
 
 pub returns-in-Err : goal.returns-in-Err
 returns-in-Err c =
     let seen : view Uncarried ≡ tree.uncarried = search (rules, the_lemmas) in
-    record { ok = seen ∙ sym (text_from-other c.args.octets.now c.in-Err.ensures.cases.0) }
+    record { ok = seen ∙ sym (text_from-other c.args.octets.now c.in-Err.ensures.err) }
