@@ -1,5 +1,5 @@
 -- The values of a list, one more at a time.
-use Rattle.std.proofs.Common.{◌≡◌, ℕ, suc, List, ◌++◌, Bool, true, false, ◌&&◌, Ok, refl, sym, ap, ◌∙◌, append_assoc}
+use Rattle.std.proofs.Common.{◌≡◌, ℕ, suc, List, ◌++◌, ◌&&◌, Ok, sym, ap, ◌∙◌, append_assoc}
 use Rattle.std.proofs.lemmas.List.{append-nil}
 use Rattle.std.proofs.Math.Bool.{and-true, and_assoc}
 use Rattle.message_tree.specs.Data as tree

@@ -14,3 +14,7 @@ pub record IsCanonicalized (room : ℕ) (octets rest : List ℕ) (is_written : B
   pub fits : is_written ≡ true → has_short meant ≡ true
   pub written : is_written ≡ true → after ≡ before ++ short meant
   pub refused : is_written ≡ false → tree.is_carried meant ≡ true → has_short meant ≡ true → ⊥
+
+-- the octets are one value, within so many levels
+abbrev pub IsValue : ℕ → List ℕ → Type 0
+IsValue room octets = (meant : tree.Data) × Spells room octets meant

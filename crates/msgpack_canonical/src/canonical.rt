@@ -1,8 +1,8 @@
 //! Canonical form, from octets to octets.
-ghost use Rattle.std.specs.Prelude.{◌≡◌, ◌≢◌, ◌++◌, ℕ, List, IfOk, IfErr};
+ghost use Rattle.std.specs.Prelude.{◌≡◌, ◌≢◌, ◌++◌, ℕ, List, [], IfOk, IfErr};
 ghost use Rattle.msgpack_codec.specs.Grammar.{IsDeep};
 ghost use Rattle.msgpack_codec.specs.Written.{IsPassed, IsNoValue};
-ghost use Rattle.msgpack_canonical.specs.Canonical.{IsCanonicalized};
+ghost use Rattle.msgpack_canonical.specs.Canonical.{IsCanonicalized, IsValue};
 
 use crate::writing::put_value;
 use message_tree::Appender;
@@ -93,5 +93,29 @@ pub fn canonicalize<'a>(
         }
         Err(Refusal::TooDeep) => Err(Fault::TooDeep),
         Err(Refusal::Malformed) => Err(Fault::Malformed),
+    }
+}
+
+/// Writes the value that octets are as [`canonicalize`] does, and says whether it is written: for who
+/// has passed over them already, so that they are looked at once less. They nest no more than `room`
+/// levels. What can't be carried may have been written in part.
+///
+/// # Errors
+/// [`AllocError`] where a growth was refused, or the entries of a dictionary have 2^32 octets or more;
+/// some of the value may have been written. What stood in `out` at its start stays.
+pub fn canonicalize_value(
+    alloc: Global,
+    octets: &[u8],
+    room: u8,
+    out: &mut Appender,
+) -> Result<bool, AllocError>
+    requires { IsValue room octets.now }
+    ensures ok { IfOk result (λ is_written. IsCanonicalized room octets.now [] is_written
+        out.old.since out.new.since) }
+    ensures before { out.new.before ≡ out.old.before }
+{
+    match put_value(alloc, octets, room, out)? {
+        Some(done) => Ok(done.is_written),
+        None => unreachable!(),
     }
 }

@@ -1,17 +1,13 @@
 //! The entries of a dictionary, as they were written behind one another.
-ghost use Rattle.std.specs.Prelude.{◌≡◌, ◌≤◌, ◌^◌, ◌&&◌, ◌++◌, ℕ, nat_lt, List, IfOk, IfSome, IfNone, OnOk, Ok, true, false, All, length, map, reverse};
+ghost use Rattle.std.specs.Prelude.{◌≡◌, ◌≤◌, ◌^◌, ◌&&◌, ◌++◌, nat_lt, IfOk, OnOk, Ok, true, false, All, length, map, reverse};
 ghost use Rattle.std.specs.Ordering.{eq_by_cmp};
-ghost use Rattle.message_tree.specs.Data.{Data, text};
 ghost use Rattle.msgpack_codec.specs.Short.{dict_head};
-ghost use Rattle.msgpack_codec.specs.Values.{is_text};
-ghost use Rattle.msgpack_codec.specs.body.Decoder.{value_at};
 ghost use Rattle.msgpack_canonical.specs.body.Entries.{IsPlaced, IsStanding, all_kept, cut, cuts, entry_in, place_cmp};
 ghost use Rattle.msgpack_canonical.specs.body.Sorting.{in_order};
 
 use crate::heads::put_dict_head;
-use crate::kinds::text_of;
+use crate::texts::first_text;
 use message_tree::Appender;
-use msgpack_codec::first_token;
 use std::alloc::AllocError;
 use std::cmp::Ordering;
 
@@ -58,28 +54,12 @@ pub(crate) fn octets_at(written: &[u8], place: Place) -> &[u8]
     behind.split_at(len).0
 }
 
-/// The key at the front, and the octets after it; `None` where no text stands there.
-pub(crate) fn key_of(octets: &[u8]) -> Option<(&str, &[u8])>
-    ensures some { IfSome result (λ x. (room : ℕ)
-        → value_at room octets.now ≡ Ok (text x.0.now, x.1.now)) }
-    ensures none { IfNone result ((room : ℕ) (k : Data) (rest : List ℕ)
-        → value_at room octets.now ≡ Ok (k, rest) → is_text k ≡ false) }
-{
-    match first_token(octets) {
-        Ok((token, rest)) => match text_of(token) {
-            Some(key) => Some((key, rest)),
-            None => None,
-        },
-        Err(_) => None,
-    }
-}
-
 /// The key of an entry, and the octets of its value.
 pub(crate) fn entry_at(written: &[u8], place: Place) -> (&[u8], &[u8])
     ensures key { result.0.now ≡ (entry_in written.now place).0 }
     ensures value { result.1.now ≡ (entry_in written.now place).1 }
 {
-    match key_of(octets_at(written, place)) {
+    match first_text(octets_at(written, place)) {
         Some((key, value)) => (key.as_bytes(), value),
         None => (&[], &[]),
     }

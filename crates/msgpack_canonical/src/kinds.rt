@@ -1,6 +1,5 @@
 //! Tokens by what they begin.
-ghost use Rattle.std.specs.Prelude.{◌≡◌, IfSome, IfNone};
-ghost use Rattle.msgpack_canonical.specs.body.Kinds.{IsNoText, IsKind};
+ghost use Rattle.msgpack_canonical.specs.body.Kinds.{IsKind};
 
 use msgpack_codec::Token;
 
@@ -24,22 +23,5 @@ pub(crate) fn kind_of(token: &Token) -> Kind
         | Token::Text(_)
         | Token::Bytes(_)
         | Token::Uncarried => Kind::Leaf,
-    }
-}
-
-/// The text that a token is.
-pub(crate) fn text_of(token: Token<'_>) -> Option<&str>
-    ensures text { IfSome result (λ s. token.entry ≡ Token.Text s) }
-    ensures none { IfNone result (IsNoText token.entry) }
-{
-    match token {
-        Token::Text(text) => Some(text),
-        Token::Null
-        | Token::Flag(_)
-        | Token::Whole(_)
-        | Token::Bytes(_)
-        | Token::List(_)
-        | Token::Dict(_)
-        | Token::Uncarried => None,
     }
 }

@@ -1,5 +1,5 @@
 //! Values with nothing inside.
-ghost use Rattle.std.specs.Prelude.{◌≡◌, ◌<◌, ◌^◌, ◌++◌, ℕ, List, IfOk, true, length};
+ghost use Rattle.std.specs.Prelude.{◌≡◌, ◌<◌, ◌^◌, ◌++◌, ℕ, List, IfOk, true};
 ghost use Rattle.message_tree.specs.Data.{whole, text, bytes};
 ghost use Rattle.msgpack_codec.specs.Short.{short};
 ghost use Rattle.msgpack_codec.specs.body.Tokens.{data_of};

@@ -11,6 +11,8 @@ mod entries;
 mod heads;
 mod kinds;
 mod leaves;
+mod texts;
 mod writing;
 
-pub use canonical::{Canonicalized, canonicalize};
+pub use canonical::{Canonicalized, canonicalize, canonicalize_value};
+pub use texts::first_text;

@@ -7,10 +7,11 @@ ghost use Rattle.msgpack_codec.specs.body.Passing.{list_at};
 ghost use Rattle.msgpack_canonical.specs.body.Fitting.{IsPut, IsUnread};
 ghost use Rattle.msgpack_canonical.specs.body.Entries.{AreRead, IsEntryPut, IsNoEntry};
 
-use crate::entries::{Place, add_place, key_of, put_entries, put_in_order};
+use crate::entries::{Place, add_place, put_entries, put_in_order};
 use crate::heads::put_short_list_head;
 use crate::kinds::{Kind, kind_of};
 use crate::leaves::{put_leaf, put_text};
+use crate::texts::first_text;
 use message_tree::Appender;
 use msgpack_codec::{first_token, pass};
 use std::alloc::{AllocError, Global};
@@ -151,7 +152,7 @@ fn put_entry<'a>(
         e.rest.now e.is_text written.items e.written.items)) }
     ensures none { IfOk result (λ o. IfNone o (IsNoEntry (value_at room) octets.entry.now)) }
 {
-    let Some((key, value)) = key_of(octets) else {
+    let Some((key, value)) = first_text(octets) else {
         return Ok(pass_entry(octets, room, written));
     };
     let mut out = Appender::new(written);
