@@ -3,8 +3,9 @@ ghost use Rattle.std.specs.Prelude.{◌≡◌, ◌≤◌, ◌∷◌, [], IfSome,
 ghost use Rattle.msgpack_codec.specs.body.Decoder.{value_at};
 ghost use Rattle.msgpack_cursor.specs.body.Fronts.{IsEntry, IsNoEntry};
 
-use crate::front::{first_value, text_at};
+use crate::front::first_value;
 use crate::value::Value;
+use msgpack_canonical::first_text;
 use std::marker::Model;
 
 /// The entries of a dictionary that aren't read yet, in the order in which they stand: a key that
@@ -61,7 +62,7 @@ pub(crate) fn entry_at(octets: &[u8], room: u8) -> Option<Entry<'_>>
     ensures some { IfSome result (λ e. IsEntry (value_at room) octets.now e.key.now e.value e.rest.now) }
     ensures none { IfNone result (IsNoEntry (value_at room) octets.now) }
 {
-    let Some((key, rest)) = text_at(octets) else {
+    let Some((key, rest)) = first_text(octets) else {
         return None;
     };
     let Some((value, rest)) = first_value(rest, room) else {

@@ -1,10 +1,8 @@
 //! The value at the front of octets.
-ghost use Rattle.std.specs.Prelude.{◌≡◌, ◌≤◌, ◌++◌, ℕ, ℤ, List, IfSome, IfNone, Ok, false};
-ghost use Rattle.message_tree.specs.Data.{Data, text, whole};
-ghost use Rattle.msgpack_codec.specs.Values.{is_text};
+ghost use Rattle.std.specs.Prelude.{◌≡◌, ◌≤◌, ◌++◌, ℕ, ℤ, List, IfSome, IfNone, Ok};
+ghost use Rattle.message_tree.specs.Data.{whole};
 ghost use Rattle.msgpack_codec.specs.body.Decoder.{value_at};
 ghost use Rattle.msgpack_canonical.specs.body.Fitting.{IsUnread};
-ghost use Rattle.msgpack_canonical.specs.body.Kinds.{IsNoText};
 
 use crate::value::Value;
 use msgpack_codec::{Token, first_token, pass};
@@ -34,39 +32,6 @@ pub fn first_value(octets: &[u8], room: u8) -> Option<(Value<'_>, &[u8])>
             Some((value, passed.rest))
         }
         Err(_) => None,
-    }
-}
-
-/// The text that a token is.
-fn text_of(token: Token<'_>) -> Option<&str>
-    ensures text { IfSome result (λ s. token.entry ≡ Token.Text s) }
-    ensures none { IfNone result (IsNoText token.entry) }
-{
-    match token {
-        Token::Text(text) => Some(text),
-        Token::Null
-        | Token::Flag(_)
-        | Token::Whole(_)
-        | Token::Bytes(_)
-        | Token::List(_)
-        | Token::Dict(_)
-        | Token::Uncarried => None,
-    }
-}
-
-/// The text at the front, and the octets after it; `None` where another value stands there, or none.
-pub(crate) fn text_at(octets: &[u8]) -> Option<(&str, &[u8])>
-    ensures some { IfSome result (λ x. (room : ℕ)
-        → value_at room octets.now ≡ Ok (text x.0.now, x.1.now)) }
-    ensures none { IfNone result ((room : ℕ) (k : Data) (rest : List ℕ)
-        → value_at room octets.now ≡ Ok (k, rest) → is_text k ≡ false) }
-{
-    let Ok((token, rest)) = first_token(octets) else {
-        return None;
-    };
-    match text_of(token) {
-        Some(text) => Some((text, rest)),
-        None => None,
     }
 }
 

@@ -17,6 +17,6 @@ pub use dictionary::Dictionary;
 pub use elements::Elements;
 pub use entries::DictionaryEntries;
 pub use front::first_value;
-pub use seen::Seen;
+pub use seen::{Beginning, Seen};
 pub use unread::Unread;
 pub use value::{Spelling, Value, message};

@@ -1,4 +1,4 @@
-//! What a value is.
+//! What a value is, and what it begins as.
 use crate::dictionary::Dictionary;
 use crate::elements::Elements;
 
@@ -21,4 +21,19 @@ pub enum Seen<'a> {
     Dict(Dictionary<'a>),
     /// What no tree carries: a float, a value of an extension type, a str that isn't UTF-8, a map with another key than a text.
     Uncarried,
+}
+
+/// A value, as its first octets tell it.
+#[derive(Clone, Copy, Debug, Drop, PartialEq, Eq)]
+pub enum Beginning {
+    /// nil.
+    Null,
+    /// An array.
+    List,
+    /// A map. It is uncarried where one of its keys is no text.
+    Map,
+    /// What no tree carries, with nothing inside.
+    Uncarried,
+    /// A flag, a number, a text or a byte string.
+    Leaf,
 }

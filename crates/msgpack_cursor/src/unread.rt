@@ -1,12 +1,13 @@
 //! Elements before anybody looked whether they are whole.
-ghost use Rattle.std.specs.Prelude.{◌≡◌, ◌≤◌, ◌↔◌, IfSome, IfNone, List, ℕ, true, false};
+ghost use Rattle.std.specs.Prelude.{◌≡◌, ◌≤◌, IfSome, IfNone, List, true, false};
 ghost use Rattle.message_tree.specs.Data.{Data, Items, depth, dict, list, no_entries, no_items, text, whole};
 ghost use Rattle.msgpack_codec.specs.Grammar.{Spells};
 ghost use Rattle.msgpack_cursor.specs.Standing.{is_whole};
 ghost use Rattle.msgpack_cursor.specs.Unread.{HasNone, StandsBefore};
 
-use crate::front::{first_value, text_at, whole_at};
+use crate::front::{first_value, whole_at};
 use crate::value::Value;
+use msgpack_canonical::first_text;
 use msgpack_codec::{Token, first_token};
 use std::marker::Model;
 
@@ -98,7 +99,7 @@ impl<'a> Unread<'a> {
         if self.left == 0 {
             return None;
         }
-        let Some((text, rest)) = text_at(self.octets) else {
+        let Some((text, rest)) = first_text(self.octets) else {
             return None;
         };
         self.octets = rest;

@@ -5,13 +5,13 @@ ghost use Rattle.message_tree.specs.View.{view};
 ghost use Rattle.msgpack_codec.specs.Grammar.{IsDeep, IsNoMessage, Spells};
 ghost use Rattle.msgpack_codec.specs.Written.{IsShortest};
 ghost use Rattle.msgpack_codec.specs.body.Tokens.{data_of as token_data};
-ghost use Rattle.msgpack_cursor.specs.Seen.{data_of};
+ghost use Rattle.msgpack_cursor.specs.Seen.{BeginsAs, data_of};
 ghost use Rattle.msgpack_cursor.specs.Standing.{dict_in};
-ghost use Rattle.msgpack_cursor.specs.body.Fronts.{IsReadable};
+ghost use Rattle.msgpack_cursor.specs.body.Fronts.{IsBegun, IsReadable};
 
 use crate::dictionary::{Dictionary, are_keys_texts};
 use crate::elements::Elements;
-use crate::seen::Seen;
+use crate::seen::{Beginning, Seen};
 use message_tree::Tree;
 use msgpack_codec::{Fault, Refusal, Token, decode, first_token, pass};
 use std::alloc::{AllocError, Global};
@@ -85,7 +85,17 @@ impl<'a> Value<'a> {
         }
     }
 
-    /// What it is.
+    /// What it begins as. No octet behind the first ones is looked at.
+    pub fn beginning(&self) -> Beginning
+        ensures { BeginsAs result self.now }
+    {
+        let Ok((token, _rest)) = first_token(self.octets) else {
+            unreachable!()
+        };
+        beginning_of(&token)
+    }
+
+    /// What it is. Of a map each key is looked at, to see whether it is a dictionary.
     pub fn seen(&self) -> Seen<'a>
         ensures { data_of result ≡ self.now }
     {
@@ -101,6 +111,19 @@ impl<'a> Value<'a> {
             Token::Dict(count) => map(rest, count, self.room.saturating_sub(1)),
             _ => leaf(token),
         }
+    }
+}
+
+/// What a token begins.
+fn beginning_of(token: &Token) -> Beginning
+    ensures { IsBegun result token.now }
+{
+    match token {
+        Token::Null => Beginning::Null,
+        Token::Flag(_) | Token::Whole(_) | Token::Text(_) | Token::Bytes(_) => Beginning::Leaf,
+        Token::List(_) => Beginning::List,
+        Token::Dict(_) => Beginning::Map,
+        Token::Uncarried => Beginning::Uncarried,
     }
 }
 
