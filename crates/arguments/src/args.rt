@@ -29,7 +29,8 @@ struct Held {
 /// most 99 levels, and there is no ArgumentsKw without Arguments.
 ///
 /// Where MessagePack has a spelling for them, its octets are all that is kept, and beside them those
-/// of JSON once they were asked for. No contract shows which.
+/// of JSON once they were asked for. What is uncarried stays in the octets that spelled it, where it
+/// came in MessagePack. No contract shows which.
 ///
 /// They stand in one box, so that they are moved as one pointer; no arguments take no memory.
 #[derive(Drop)]
@@ -171,14 +172,12 @@ impl Args {
         }
     }
 
-    /// The same arguments, with what they are in JSON beside them where JSON is asked for, unless
-    /// something in them is uncarried, or a growth is refused.
-    pub fn encoded(mut self, alloc: Global, serializer: Serializer) -> Args
+    /// The same arguments, with what they are in JSON beside them, unless something in them is
+    /// uncarried, or a growth is refused.
+    pub fn with_json(mut self, alloc: Global) -> Args
         ensures { result ≡ self }
     {
-        if let Serializer::Json = serializer {
-            self.keep_json(alloc);
-        }
+        self.keep_json(alloc);
         self
     }
 

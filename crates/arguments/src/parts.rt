@@ -1,5 +1,5 @@
 //! Arguments and ArgumentsKw as they are read from the elements of a message.
-ghost use Rattle.std.specs.Prelude.{◌≡◌, ◌≤◌, ◌⊎◌, IfOk, IfErr, OnOk, OnErr, None, Some, ℕ, true};
+ghost use Rattle.std.specs.Prelude.{◌≡◌, ◌≤◌, ◌⊎◌, IfOk, IfErr, OnOk, None, Some, ℕ, true};
 ghost use Rattle.message_tree.specs.Data.{Data, depth};
 ghost use Rattle.arguments.specs.Reading.{args_of, kwargs_of};
 ghost use Rattle.msgpack_codec.specs.Grammar.{Spells};
@@ -8,8 +8,8 @@ ghost use Rattle.arguments.specs.body.Parts.{AreValue, IsPartPut, IsPut, IsSpell
 
 use crate::fault::Fault;
 use message_tree::Appender;
-use msgpack_canonical::canonicalize;
-use msgpack_cursor::{Seen, Value};
+use msgpack_canonical::canonicalize_value;
+use msgpack_cursor::{Beginning, Seen, Value};
 use std::alloc::Global;
 
 /// What `encode` writes for a list without elements.
@@ -26,13 +26,7 @@ fn put_canonical(alloc: Global, octets: &[u8], room: u8, out: &mut Appender) -> 
     ensures before { out.new.before ≡ out.old.before }
     ensures fault { IfErr result (λ f. f ≡ Fault.NoMemory) }
 {
-    match canonicalize(alloc, octets, room, out) {
-        Ok(canonical) => Ok(canonical.is_written),
-        Err(msgpack_codec::Fault::NoMemory) => Err(Fault::NoMemory),
-        Err(msgpack_codec::Fault::TooDeep) => unreachable!(),
-        Err(msgpack_codec::Fault::Malformed) => unreachable!(),
-        Err(msgpack_codec::Fault::UncarriedLeaf) => unreachable!(),
-    }
+    Ok(canonicalize_value(alloc, octets, room, out)?)
 }
 
 /// Writes the value that octets spell as `encode` writes it, behind others.
@@ -86,13 +80,13 @@ pub(crate) fn put_kwargs(alloc: Global, value: &Value, out: &mut Appender) -> Re
     ensures shape { result ≡ Err Fault.Shape → kwargs_of value.now ≡ None }
     ensures fault { IfErr result (λ f. (f ≡ Fault.NoMemory) ⊎ (f ≡ Fault.Shape)) }
 {
-    match value.seen() {
-        Seen::Null => {
+    match value.beginning() {
+        Beginning::Null => {
             out.put(EMPTY_DICT)?;
             Ok(true)
         }
-        Seen::Dict(_) | Seen::Uncarried => put_value(alloc, value, out),
-        _ => Err(Fault::Shape),
+        Beginning::Map | Beginning::Uncarried => put_value(alloc, value, out),
+        Beginning::List | Beginning::Leaf => Err(Fault::Shape),
     }
 }
 

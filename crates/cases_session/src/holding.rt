@@ -52,8 +52,7 @@ fn told(alloc: Global, args: Args) -> io::Result<String> {
     out.push_str("\ncopied")?;
     tell_held(alloc, &mut out, args.try_copy(alloc)?)?;
     out.push_str("\nasked")?;
-    let args = args.encoded(alloc, Serializer::MsgPack);
-    let args = args.encoded(alloc, Serializer::Json);
+    let args = args.with_json(alloc);
     if lacks_json(&args) {
         return line_of(alloc, "nothing is kept in JSON, or E1 no memory");
     }

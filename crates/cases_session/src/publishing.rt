@@ -3,7 +3,6 @@ use crate::saying::args_in_words;
 use crate::telling::{anonymous, told_if};
 use case_text::{crossing, may_be_shared};
 use message_tree::{Content, Shared, Tree};
-use rawsocket::Serializer;
 use session::{Args, CarriedArgs, Item, Lists, Publication, Said, read_said};
 use std::alloc::Global;
 use std::io;
@@ -40,14 +39,10 @@ pub fn carried(alloc: Global, json: &str) -> io::Result<String> {
     Ok(format!(in alloc; "{is_carried} {is_taken}\n")?)
 }
 
-/// The arguments, encoded in JSON under the mark `j`, in MessagePack under `m`.
-fn encoded(alloc: Global, args: Args, marks: &str) -> Args {
-    let mut args = args;
+/// The arguments, under the mark `j` with what they are in JSON beside them.
+fn marked(alloc: Global, args: Args, marks: &str) -> Args {
     if marks.contains('j') {
-        args = args.encoded(alloc, Serializer::Json);
-    }
-    if marks.contains('m') {
-        args = args.encoded(alloc, Serializer::MsgPack);
+        return args.with_json(alloc);
     }
     args
 }
@@ -55,7 +50,7 @@ fn encoded(alloc: Global, args: Args, marks: &str) -> Args {
 /// The carried arguments of a PUBLISH in JSON, by a copy of them.
 fn carried_of(alloc: Global, json: &str, marks: &str) -> Option<CarriedArgs> {
     let args = args_of(alloc, json)?;
-    let args = encoded(alloc, args.try_copy(alloc).ok()?, marks);
+    let args = marked(alloc, args.try_copy(alloc).ok()?, marks);
     CarriedArgs::of(args).ok()
 }
 

@@ -2,8 +2,8 @@
 //!
 //! - `frames SERIALIZER`: the frame of each kind of item but EVENT.
 //! - `frame SERIALIZER LIMIT MARKS JSON`: the frame of the EVENT that `event MARKS JSON` tells, for a
-//!   client that takes so many octets. Further marks are `j` and `m`: its arguments are encoded
-//!   before, in JSON, in MessagePack.
+//!   client that takes so many octets. Further marks are `j`, by which what its arguments are in JSON
+//!   is kept beside them, and `m`, which changes nothing: what is kept of them is MessagePack.
 //!
 //! A frame is written behind the octets `ab`, and compared with the frame of the payload alone and
 //! with that of the item's message. Of more than 300 octets their number, the first 12 and the last

@@ -9,8 +9,8 @@ use session::{Args, Said};
 use std::alloc::Global;
 use std::sync::Wait;
 
-/// Posts what a client does by way of `poster`. The arguments of a PUBLISH get the octets beside them that they are in an EVENT
-/// ([`Args::encoded`]), for each serialization that two live sessions or more use; so the writers of its receivers copy octets, and
+/// Posts what a client does by way of `poster`. The arguments of a PUBLISH get the octets beside them that they are in an EVENT in JSON
+/// ([`Args::with_json`]), where two live sessions or more use JSON; so the writers of its receivers copy octets, and
 /// the work is done by the publisher's reader, beside the realm's actor.
 ///
 /// What is posted is the same to every contract. Where memory is refused for the octets, the arguments are posted without them. A
@@ -66,7 +66,7 @@ fn encoded_said(alloc: Global, said: Said) -> Said
             let args = if options.retain == Some(true) {
                 args
             } else {
-                args.encoded(alloc, Serializer::Json)
+                args.with_json(alloc)
             };
             Said::Publish {
                 request,

@@ -1,53 +1,18 @@
 //! Where the texts of a list stand in its octets.
-ghost use Rattle.std.specs.Prelude.{◌≡◌, ◌++◌, ℕ, List, length, map, IfOk, IfSome, IfNone, Ok, Some, None, false, IsPermutation};
+ghost use Rattle.std.specs.Prelude.{◌≡◌, ◌++◌, ℕ, List, length, map, IfOk, Ok, Some, None, IsPermutation};
 ghost use Rattle.std.specs.Ordering.{nat_cmp};
 ghost use Rattle.std.specs.Cmp.Lexicographic.{slice_cmp};
-ghost use Rattle.message_tree.specs.Data.{Data, Items, list, text};
+ghost use Rattle.message_tree.specs.Data.{Items, list, text};
 ghost use Rattle.msgpack_codec.specs.Grammar.{Spells};
-ghost use Rattle.msgpack_codec.specs.Values.{is_text};
-ghost use Rattle.msgpack_codec.specs.body.Decoder.{value_at};
-ghost use Rattle.msgpack_canonical.specs.body.Kinds.{IsNoText};
 ghost use Rattle.msgpack_cursor.specs.Standing.{items_in, AreThere};
 ghost use Rattle.eligibility.specs.Options.{each_of, text_of};
 ghost use Rattle.eligibility.specs.body.Standing.{text_at, place_cmp, stands, IsBehind, IsOrdered};
 
 use crate::fault::Fault;
+use msgpack_canonical::first_text;
 use msgpack_codec::{Token, first_token};
 use std::alloc::{AllocError, Global};
 use std::cmp::Ordering;
-
-/// The text that a token is.
-fn text_of(token: Token<'_>) -> Option<&str>
-    ensures text { IfSome result (λ s. token.entry ≡ Token.Text s) }
-    ensures none { IfNone result (IsNoText token.entry) }
-{
-    match token {
-        Token::Text(text) => Some(text),
-        Token::Null
-        | Token::Flag(_)
-        | Token::Whole(_)
-        | Token::Bytes(_)
-        | Token::List(_)
-        | Token::Dict(_)
-        | Token::Uncarried => None,
-    }
-}
-
-/// The text at the front, and the octets after it; `None` where another value stands there, or none.
-fn first_text(octets: &[u8]) -> Option<(&str, &[u8])>
-    ensures some { IfSome result (λ x. (room : ℕ)
-        → value_at room octets.now ≡ Ok (text x.0.now, x.1.now)) }
-    ensures none { IfNone result ((room : ℕ) (k : Data) (rest : List ℕ)
-        → value_at room octets.now ≡ Ok (k, rest) → is_text k ≡ false) }
-{
-    let Ok((token, rest)) = first_token(octets) else {
-        return None;
-    };
-    match text_of(token) {
-        Some(text) => Some((text, rest)),
-        None => None,
-    }
-}
 
 /// The text at a place; empty where none stands there.
 fn text_at(octets: &[u8], place: u32) -> &[u8]
