@@ -1,7 +1,7 @@
 -- Steps that follow on one another.
-use Rattle.std.proofs.Common.{◌≡◌, ◌<◌, ◌≤◌, ◌+◌, ◌∙◌, ℕ, Result, Ok, Err, refl, sym, ap, subst, arith}
-use Rattle.std.specs.Prelude.{◌≢◌, OnOk, OnErr, IfErr}
-use Rattle.rawsocket.specs.Steps.{Meter, meter, Told, Fine, Failed, NoTurn, failures_told, Steps, WholeSteps, told_by}
+use Rattle.std.proofs.Common.{◌≡◌, ◌≤◌, ◌+◌, ◌∙◌, ℕ, Result, Ok, Err, refl, sym, ap, subst, arith}
+use Rattle.std.specs.Prelude.{OnOk, OnErr, IfErr}
+use Rattle.rawsocket.specs.Steps.{Meter, meter, Told, Fine, Failed, NoTurn, Steps, WholeSteps, told_by}
 
 -- none so far
 pub no_steps : (m : Meter) → Steps m m Fine

@@ -16,7 +16,7 @@ mod frame;
 mod handshake;
 pub mod laws;
 
-pub use deframer::{Deframer, Fed};
+pub use deframer::{Deframer, Fed, next_frame};
 pub use devices::device::{Sink, Source};
 pub use devices::ghost_octets::GhostOctets;
 pub use devices::memory::{MemorySink, MemorySource};
