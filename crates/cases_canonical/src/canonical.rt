@@ -1,8 +1,9 @@
 //! What is written in canonical form.
 use case_text::{line_of, number_of, octets_of, part, part_of, spell};
 use message_tree::Appender;
-use msgpack_canonical::canonicalize;
+use msgpack_canonical::{canonicalize, canonicalize_value};
 use msgpack_codec::{Fault, decode, encode};
+use msgpack_cursor::{Value, message};
 use std::alloc::Global;
 use std::io;
 
@@ -49,8 +50,34 @@ fn through_tree(alloc: Global, octets: &[u8]) -> Result<Vec<u8>, Fault> {
     encode(alloc, &message)
 }
 
-/// Whether octets are written, or refused, as through a tree.
+/// What is written for a value that was passed over; `None` where it can't be carried.
+fn of_value(alloc: Global, value: &Value) -> io::Result<Option<Vec<u8>>> {
+    let spelling = value.spelling();
+    let mut out = Appender::new(Vec::new(alloc));
+    if canonicalize_value(alloc, spelling.octets, spelling.room, &mut out)? {
+        Ok(Some(out.into_vec()))
+    } else {
+        Ok(None)
+    }
+}
+
+/// Whether octets that are one value are written as it is, or not as it isn't.
+fn is_same_by_value(alloc: Global, octets: &[u8]) -> io::Result<bool> {
+    let Ok(value) = message(octets) else {
+        return Ok(true);
+    };
+    match (of_value(alloc, &value)?, whole(alloc, octets)) {
+        (Some(one), Ok(other)) => Ok(one.as_slice() == other.as_slice()),
+        (None, Err(Fault::UncarriedLeaf)) => Ok(true),
+        _ => Ok(false),
+    }
+}
+
+/// Whether octets are written, or refused, as through a tree; and as the value that they are.
 pub fn same(alloc: Global, octets: &[u8]) -> io::Result<String> {
+    if !is_same_by_value(alloc, octets)? {
+        return line_of(alloc, "another value, or E1 no memory");
+    }
     match (whole(alloc, octets), through_tree(alloc, octets)) {
         (Ok(one), Ok(other)) => {
             let is_same = one.as_slice() == other.as_slice();

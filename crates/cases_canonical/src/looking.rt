@@ -1,7 +1,7 @@
 //! What is seen of a message in its octets, in words: null, true, 5, "text", x0aff, [1,2], {"a":1}; what no tree carries by the levels
-//! that it may nest and its octets, as ?99:ca00000000.
+//! that it may nest and its octets, as ?99:ca00000000. A value that doesn't begin as what it is has a `!` before it.
 use case_text::{line_of, octets_of, part, part_of, spell, text_of};
-use msgpack_cursor::{Dictionary, Elements, Seen, Value, message};
+use msgpack_cursor::{Beginning, Dictionary, Elements, Seen, Value, message};
 use std::alloc::Global;
 use std::io;
 
@@ -67,6 +67,19 @@ fn found(alloc: Global, value: Option<Value>) -> io::Result<String> {
     Ok(told)
 }
 
+/// Whether a value that begins so can be what is seen of it.
+fn begins_as(beginning: Beginning, seen: &Seen) -> bool {
+    match seen {
+        Seen::Null => beginning == Beginning::Null,
+        Seen::Flag(_) | Seen::Whole(_) | Seen::Text(_) | Seen::Bytes(_) => {
+            beginning == Beginning::Leaf
+        }
+        Seen::List(_) => beginning == Beginning::List,
+        Seen::Dict(_) => beginning == Beginning::Map,
+        Seen::Uncarried => beginning == Beginning::Uncarried || beginning == Beginning::Map,
+    }
+}
+
 /// Adds a value, and so many values inside one another.
 #[cycle(telling)]
 pub fn tell(out: &mut String, value: &Value, room: u8) -> io::Result<()> {
@@ -74,7 +87,11 @@ pub fn tell(out: &mut String, value: &Value, room: u8) -> io::Result<()> {
         out.push_str("..")?;
         return Ok(());
     }
-    match value.seen() {
+    let seen = value.seen();
+    if !begins_as(value.beginning(), &seen) {
+        out.push('!')?;
+    }
+    match seen {
         Seen::Null => out.push_str("null")?,
         Seen::Flag(flag) => out.push_str(if flag { "true" } else { "false" })?,
         Seen::Whole(number) => write!(out, "{number}")?,
