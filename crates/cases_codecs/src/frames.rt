@@ -1,8 +1,10 @@
 //! Frames:
 //!
 //! - `cut OCTETS`: the frames of a stream, and its fault; then, that they are the same however it is
-//!   cut: whole, at each octet, at each pair of octets, octet by octet.
+//!   cut: whole, at each octet, at each pair of octets, octet by octet; and that they are the same where
+//!   each is read in place, however it is cut.
 //! - `feed OCTETS`: the frames that a further piece of the case's stream completes, and its fault.
+//! - `in-place OCTETS`: the same, where each frame that lies whole in the piece is read in place.
 //! - `counted N`: the same for N pieces of one octet each: 0 to 250, and again.
 //! - `held`: the fault that the stream is at.
 //! - `frame KIND OCTETS`, `zeros N`: writes a frame behind what the case has written: these octets,
@@ -10,6 +12,7 @@
 //! - `written`: what the case has written.
 //!
 //! Of more than 300 octets their number, the first 252 and the last 4 are printed.
+use crate::in_place::read_in_place;
 use case_text::{line_of, number_of, octets_of, spell};
 use rawsocket::{Deframer, Fault, Fed, Frame, Kind, write_frame};
 use std::alloc::Global;
@@ -34,6 +37,13 @@ impl Stream {
     pub fn feed(&mut self, alloc: Global, octets: &[u8]) -> io::Result<String> {
         let mut text = String::new(alloc);
         feed(alloc, &mut self.deframer, &mut text, octets)?;
+        Ok(text)
+    }
+
+    /// Reads a further piece in place.
+    pub fn in_place(&mut self, alloc: Global, octets: &[u8]) -> io::Result<String> {
+        let mut text = String::new(alloc);
+        read_in_place(alloc, &mut self.deframer, &mut text, octets)?;
         Ok(text)
     }
 
@@ -116,7 +126,7 @@ fn feed(alloc: Global, deframer: &mut Deframer, text: &mut String, piece: &[u8])
     match fed(alloc, deframer, piece) {
         Ok(fed) => {
             frames(text, &fed.frames)?;
-            fault(text, fed.fault)
+            tell_fault(text, fed.fault)
         }
         Err(fault) => Ok(writeln!(text, "{fault}")?),
     }
@@ -124,15 +134,21 @@ fn feed(alloc: Global, deframer: &mut Deframer, text: &mut String, piece: &[u8])
 
 fn frames(text: &mut String, frames: &[Frame]) -> io::Result<()> {
     for frame in frames {
-        text.push_str(name_of(frame.kind))?;
-        text.push(' ')?;
-        summarize(text, &frame.payload)?;
-        text.push('\n')?;
+        tell_frame(text, frame.kind, &frame.payload)?;
     }
     Ok(())
 }
 
-fn fault(text: &mut String, fault: Option<Fault>) -> io::Result<()> {
+/// Adds a frame.
+pub fn tell_frame(text: &mut String, kind: Kind, payload: &[u8]) -> io::Result<()> {
+    text.push_str(name_of(kind))?;
+    text.push(' ')?;
+    summarize(text, payload)?;
+    Ok(text.push('\n')?)
+}
+
+/// Adds the fault, if there is one.
+pub fn tell_fault(text: &mut String, fault: Option<Fault>) -> io::Result<()> {
     match fault {
         None => Ok(()),
         Some(fault) => Ok(writeln!(text, "fault {fault}")?),
@@ -152,54 +168,80 @@ fn summarize(text: &mut String, octets: &[u8]) -> io::Result<()> {
     spell(text, last)
 }
 
-/// The frames of a stream, its fault, and whether both are the same however it is cut.
+/// How a piece is read.
+#[derive(Clone, Copy, Drop)]
+enum Way {
+    Fed,
+    InPlace,
+}
+
+/// The frames of a stream, its fault, and whether both are the same however it is cut and read.
 pub fn cut_everywhere(alloc: Global, octets: &[u8]) -> io::Result<String> {
-    let mut whole = told(alloc, &[octets])?;
-    if is_cut_alike(alloc, octets, whole.as_str())? {
-        whole.push_str("however cut\n")?;
+    let mut whole = told(alloc, Way::Fed, &[octets])?;
+    let alike = is_cut_alike(alloc, Way::Fed, octets, whole.as_str())?;
+    let in_place = is_cut_alike(alloc, Way::InPlace, octets, whole.as_str())?;
+    whole.push_str(if alike {
+        "however cut\n"
     } else {
-        whole.push_str("but not however cut\n")?;
+        "but not however cut\n"
+    })?;
+    if !in_place {
+        whole.push_str("but not in place\n")?;
     }
     Ok(whole)
 }
 
-fn is_cut_alike(alloc: Global, octets: &[u8], whole: &str) -> io::Result<bool> {
+fn is_cut_alike(alloc: Global, way: Way, octets: &[u8], whole: &str) -> io::Result<bool> {
     for then in 0..octets.len() + 1 {
         for at in 0..then + 1 {
-            if !is_alike(alloc, octets, at, then, whole)? {
+            let pieces = cut_at(octets, at, then);
+            if told(alloc, way, &pieces)?.as_str() != whole {
                 return Ok(false);
             }
         }
     }
-    is_alike_by_octets(alloc, octets, whole)
+    is_alike_by_octets(alloc, way, octets, whole)
 }
 
-fn is_alike(alloc: Global, octets: &[u8], at: usize, then: usize, whole: &str) -> io::Result<bool> {
+/// Octets in three pieces.
+fn cut_at(octets: &[u8], at: usize, then: usize) -> [&[u8]; 3] {
     let then = then.min(octets.len());
     let at = at.min(then);
-    let told = told(alloc, &[&octets[..at], &octets[at..then], &octets[then..]])?;
-    Ok(told.as_str() == whole)
+    [&octets[..at], &octets[at..then], &octets[then..]]
 }
 
-fn is_alike_by_octets(alloc: Global, octets: &[u8], whole: &str) -> io::Result<bool> {
+fn is_alike_by_octets(alloc: Global, way: Way, octets: &[u8], whole: &str) -> io::Result<bool> {
     let mut deframer = Deframer::new(alloc);
     let mut text = String::new(alloc);
     for piece in octets.chunks(1) {
-        if deframer.fault().is_none() {
-            feed(alloc, &mut deframer, &mut text, piece)?;
-        }
+        tell(alloc, way, &mut deframer, &mut text, piece)?;
     }
     Ok(text.as_str() == whole)
 }
 
 /// The frames of these pieces, and the first fault.
-fn told(alloc: Global, pieces: &[&[u8]]) -> io::Result<String> {
+fn told(alloc: Global, way: Way, pieces: &[&[u8]]) -> io::Result<String> {
     let mut deframer = Deframer::new(alloc);
     let mut text = String::new(alloc);
     for piece in pieces {
-        if deframer.fault().is_none() {
-            feed(alloc, &mut deframer, &mut text, piece)?;
-        }
+        tell(alloc, way, &mut deframer, &mut text, piece)?;
     }
     Ok(text)
+}
+
+/// Adds the frames that a piece completes, and the fault, where there was none before.
+fn tell(
+    alloc: Global,
+    way: Way,
+    deframer: &mut Deframer,
+    text: &mut String,
+    piece: &[u8],
+) -> io::Result<()> {
+    if deframer.fault().is_some() {
+        return Ok(());
+    }
+    match way {
+        Way::Fed => feed(alloc, deframer, text, piece),
+        Way::InPlace => read_in_place(alloc, deframer, text, piece),
+    }
 }

@@ -35,6 +35,7 @@ mod frames;
 mod great;
 mod handshakes;
 mod holding;
+mod in_place;
 mod passing;
 mod reading;
 mod sending;
