@@ -144,6 +144,24 @@ module _ {S : Type 0} (s : Serializer) where
   Halfway-last (Err reader.Device) fault frames left before now after none h w = absurd w
   Halfway-last (Err reader.TooManyTurns) fault frames left before now after none h w = absurd w
 
+  -- the posts of a frame that is the same
+  pub posted_as : (result : Result Unit ReadEnd) (k l : Kind) (p q : List ℕ) (before now : List (Act S)) → k ≡ l → p ≡ q → let frame : Kind → List ℕ → Content = λ kind payload. record { kind = kind; payload = payload } in
+      IsPosted s (batch (frame k p ∷ []) None) before now result → IsPosted s (batch (frame l q ∷ []) None) before now result
+  posted_as result k l p q before now same_kind same w =
+      let frame : Kind → List ℕ → Content = λ kind payload. record { kind = kind; payload = payload } in
+      subst (λ kind. IsPosted s (batch (frame kind q ∷ []) None) before now result) same_kind (subst (λ payload. IsPosted s (batch (frame k payload ∷ []) None) before now result) same w)
+
+  pub none_posted : (before : List (Act S)) → PostsAll s (batch [] None) GoesOn before before
+  none_posted before = record { acts = []; posted = sym (append-nil before); posts = (refl, refl) }
+
+  -- all frames are posted
+  pub Halfway-done : (frames left : List Content) (before now : List (Act S)) → left ≡ [] → Halfway frames left before now → PostsAll s (batch frames None) GoesOn before now
+  Halfway-done frames left before now none h = Halfway-last (Ok tt) None frames left before now now none h (none_posted now)
+
+  -- where all are posted, some are
+  pub all_is_some : (frames : List Content) (before now : List (Act S)) → PostsAll s (batch frames None) GoesOn before now → PostsSome s frames before now
+  all_is_some frames before now w = record { done = frames; left = []; frames_are = sym (append-nil frames); acts = w.acts; posted = w.posted; posts = w.posts }
+
   -- part is posted, and then what is left
   pub Halfway-rest : (result : Result Unit ReadEnd) (fault : Option stream.Fault) (frames left : List Content) (before now after : List (Act S)) → Halfway frames left before now
       → IsPosted s (batch left fault) now after result → IsPosted s (batch frames fault) before after result

@@ -1,4 +1,5 @@
 mod FramesPosted
+mod PiecePosted
 mod DrainProgress
 mod ReaderProgress
 mod WriterProgress

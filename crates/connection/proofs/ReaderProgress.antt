@@ -30,8 +30,7 @@ module _ {S : Type 0} (s : Serializer) (early : List Content) (held₀ : List �
     pub posts : Posts s (fault_of held) (early ++ frames) acts GoesOn
 
   pub Onward-start : (given : List ℕ) (before now : List (Act S)) (new : List ℕ) → IsAdvance (start s early held₀) (taking [] new) before now (Ok tt) → Onward given given before now new
-  Onward-start given before now new (inr none) = absurd (let never : Ok tt ≡ Err NoMemory = none.0 in cc)
-  Onward-start given before now new (inl w) = record {
+  Onward-start given before now new w = record {
     octets = [];
     frames = w.frames;
     acts = w.posted.acts;
@@ -47,8 +46,7 @@ module _ {S : Type 0} (s : Serializer) (early : List Content) (held₀ : List �
 
   pub Onward-more : (given_before given after piece : List ℕ) (before now later : List (Act S)) (held new : List ℕ) → Onward given_before given before now held → after ≡ given ++ piece → IsAdvance (start s [] held) (taking piece new) now later (Ok tt)
       → Onward given_before after before later new
-  Onward-more given_before given after piece before now later held new o more (inr none) = absurd (let never : Ok tt ≡ Err NoMemory = none.0 in cc)
-  Onward-more given_before given after piece before now later held new o more (inl w) = record {
+  Onward-more given_before given after piece before now later held new o more w = record {
     octets = o.octets ++ piece;
     frames = o.frames ++ w.frames;
     acts = o.acts ++ w.posted.acts;
@@ -101,43 +99,15 @@ module _ {S : Type 0} (s : Serializer) (early : List Content) (held₀ : List �
     });
   }
 
-  -- nothing more is posted, of a piece that is read
-  none_then : (given_before given after piece : List ℕ) (before now later : List (Act S)) (held : List ℕ) → Onward given_before given before now held → after ≡ given ++ piece → later ≡ now → ReadsSince given_before after before later (IsReadPartly (start s early held₀))
-  none_then given_before given after piece before now later held o grows same = record {
-    octets = o.octets ++ piece;
-    acts = o.acts;
-    read = grows ∙ ap (λ g. g ++ piece) o.read ∙ append_assoc given_before o.octets piece;
-    posted = same ∙ o.posted;
-    holds = inr (record {
-      front = o.octets;
-      back = piece;
-      octets_are = refl;
-      frames = o.frames;
-      new = held;
-      reads = o.reads;
-      done = early ++ o.frames;
-      left = [];
-      frames_are = sym (append-nil (early ++ o.frames));
-      posts = Posts-open s (fault_of held) (early ++ o.frames) o.acts o.posts;
-    });
-  }
-
   pub Onward-ends : (end : ReadEnd) (given_before given after piece : List ℕ) (before now later : List (Act S)) (held new : List ℕ) → Onward given_before given before now held → after ≡ given ++ piece → length piece ≤ 65536 → IsAdvance (start s [] held) (taking piece new) now later (Err end)
       → ReadsSince given_before after before later (IsReadUpTo (start s early held₀) end)
-  Onward-ends Left given_before given after piece before now later held new o grows few (inl w) = all_then Leaves given_before given after piece before now later held new w.frames o grows few w.reads w.posted
-  Onward-ends (Violation f) given_before given after piece before now later held new o grows few (inl w) = all_then (Breaks f) given_before given after piece before now later held new w.frames o grows few w.reads w.posted
-  Onward-ends NoMemory given_before given after piece before now later held new o grows few (inl w) = some_then given_before given after piece before now later held new w.frames o grows w.reads w.posted
-  Onward-ends ActorGone given_before given after piece before now later held new o grows few (inl w) = some_then given_before given after piece before now later held new w.frames o grows w.reads w.posted
-  Onward-ends Ended given_before given after piece before now later held new o grows few (inl w) = absurd w.posted
-  Onward-ends Device given_before given after piece before now later held new o grows few (inl w) = absurd w.posted
-  Onward-ends TooManyTurns given_before given after piece before now later held new o grows few (inl w) = absurd w.posted
-  Onward-ends NoMemory given_before given after piece before now later held new o grows few (inr none) = none_then given_before given after piece before now later held o grows none.1
-  Onward-ends Left given_before given after piece before now later held new o grows few (inr none) = absurd (let never : Err Left ≡ Err NoMemory = none.0 in cc)
-  Onward-ends (Violation f) given_before given after piece before now later held new o grows few (inr none) = absurd (let never : Err (Violation f) ≡ Err NoMemory = none.0 in cc)
-  Onward-ends ActorGone given_before given after piece before now later held new o grows few (inr none) = absurd (let never : Err ActorGone ≡ Err NoMemory = none.0 in cc)
-  Onward-ends Ended given_before given after piece before now later held new o grows few (inr none) = absurd (let never : Err Ended ≡ Err NoMemory = none.0 in cc)
-  Onward-ends Device given_before given after piece before now later held new o grows few (inr none) = absurd (let never : Err Device ≡ Err NoMemory = none.0 in cc)
-  Onward-ends TooManyTurns given_before given after piece before now later held new o grows few (inr none) = absurd (let never : Err TooManyTurns ≡ Err NoMemory = none.0 in cc)
+  Onward-ends Left given_before given after piece before now later held new o grows few (there, w) = all_then Leaves given_before given after piece before now later held there w.frames o grows few w.reads w.posted
+  Onward-ends (Violation f) given_before given after piece before now later held new o grows few (there, w) = all_then (Breaks f) given_before given after piece before now later held there w.frames o grows few w.reads w.posted
+  Onward-ends NoMemory given_before given after piece before now later held new o grows few (there, w) = some_then given_before given after piece before now later held there w.frames o grows w.reads w.posted
+  Onward-ends ActorGone given_before given after piece before now later held new o grows few (there, w) = some_then given_before given after piece before now later held there w.frames o grows w.reads w.posted
+  Onward-ends Ended given_before given after piece before now later held new o grows few (there, w) = absurd w.posted
+  Onward-ends Device given_before given after piece before now later held new o grows few (there, w) = absurd w.posted
+  Onward-ends TooManyTurns given_before given after piece before now later held new o grows few (there, w) = absurd w.posted
 
   -- the stream ends
   so_far : (given_before given after : List ℕ) (before now : List (Act S)) (held : List ℕ) → Onward given_before given before now held → after ≡ given → ReadsSince given_before after before now (IsReadAll (start s early held₀) GoesOn)
@@ -170,24 +140,14 @@ module _ {S : Type 0} (s : Serializer) (early : List Content) (held₀ : List �
     holds = inr (record { front = []; back = []; octets_are = refl; frames = frames; new = new; reads = reads; done = w.done; left = w.left; frames_are = w.frames_are; posts = w.posts });
   }
 
-  pub nothing_posted : (given : List ℕ) (before now : List (Act S)) → now ≡ before → ReadsSince given given before now (IsReadPartly (start s early held₀))
-  nothing_posted given before now same = record { octets = []; acts = []; read = sym (append-nil given); posted = same ∙ sym (append-nil before); holds = inl refl }
-
   pub early_ends : (end : ReadEnd) (given new : List ℕ) (before now : List (Act S)) → IsAdvance (start s early held₀) (taking [] new) before now (Err end) → ReadsSince given given before now (IsReadUpTo (start s early held₀) end)
-  early_ends Left given new before now (inl w) = early_all Leaves given new before now w.frames w.reads w.posted
-  early_ends (Violation f) given new before now (inl w) = early_all (Breaks f) given new before now w.frames w.reads w.posted
-  early_ends NoMemory given new before now (inl w) = early_some given new before now w.frames w.reads w.posted
-  early_ends ActorGone given new before now (inl w) = early_some given new before now w.frames w.reads w.posted
-  early_ends Ended given new before now (inl w) = absurd w.posted
-  early_ends Device given new before now (inl w) = absurd w.posted
-  early_ends TooManyTurns given new before now (inl w) = absurd w.posted
-  early_ends NoMemory given new before now (inr none) = nothing_posted given before now none.1
-  early_ends Left given new before now (inr none) = absurd (let never : Err Left ≡ Err NoMemory = none.0 in cc)
-  early_ends (Violation f) given new before now (inr none) = absurd (let never : Err (Violation f) ≡ Err NoMemory = none.0 in cc)
-  early_ends ActorGone given new before now (inr none) = absurd (let never : Err ActorGone ≡ Err NoMemory = none.0 in cc)
-  early_ends Ended given new before now (inr none) = absurd (let never : Err Ended ≡ Err NoMemory = none.0 in cc)
-  early_ends Device given new before now (inr none) = absurd (let never : Err Device ≡ Err NoMemory = none.0 in cc)
-  early_ends TooManyTurns given new before now (inr none) = absurd (let never : Err TooManyTurns ≡ Err NoMemory = none.0 in cc)
+  early_ends Left given new before now (there, w) = early_all Leaves given there before now w.frames w.reads w.posted
+  early_ends (Violation f) given new before now (there, w) = early_all (Breaks f) given there before now w.frames w.reads w.posted
+  early_ends NoMemory given new before now (there, w) = early_some given there before now w.frames w.reads w.posted
+  early_ends ActorGone given new before now (there, w) = early_some given there before now w.frames w.reads w.posted
+  early_ends Ended given new before now (there, w) = absurd w.posted
+  early_ends Device given new before now (there, w) = absurd w.posted
+  early_ends TooManyTurns given new before now (there, w) = absurd w.posted
 
   -- with the act that says that the client is gone
   gone : (P : List ℕ → List (Act S) → Type 0) (given_before given : List ℕ) (before now later : List (Act S)) → later ≡ now ++ Gone ∷ [] → ReadsSince given_before given before now P
@@ -269,10 +229,8 @@ posting_told s early old piece new before now (Violation f) w = refl
 posting_told s early old piece new before now NoMemory w = refl
 posting_told s early old piece new before now ActorGone w = refl
 posting_told s early old piece new before now Ended w = refl
-posting_told s early old piece new before now Device (inl w) = absurd w.posted
-posting_told s early old piece new before now Device (inr none) = absurd (let never : Err Device ≡ Err NoMemory = none.0 in cc)
-posting_told s early old piece new before now TooManyTurns (inl w) = absurd w.posted
-posting_told s early old piece new before now TooManyTurns (inr none) = absurd (let never : Err TooManyTurns ≡ Err NoMemory = none.0 in cc)
+posting_told s early old piece new before now Device (there, w) = absurd w.posted
+posting_told s early old piece new before now TooManyTurns (there, w) = absurd w.posted
 
 -- the end that the stream makes tells what the read told
 told_of : (why : NoOctets) → read_told (end_of why) ≡ piece_told why

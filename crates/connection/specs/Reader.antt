@@ -1,7 +1,8 @@
 -- What a reader has posted of the octets that it read, when it ends.
 use Rattle.std.specs.Prelude.{◌≡◌, ◌≢◌, ◌⊎◌, ◌≤◌, ℕ, List, [], ◌∷◌, ◌++◌, None, Result, Ok, Err, length}
+use Rattle.std.specs.List.{flat_map, AllByRecursion}
 use Rattle.std.specs.declared.option.Option.{Option}
-use Rattle.rawsocket.specs.Frames.{Content, Reads, fault_of}
+use Rattle.rawsocket.specs.Frames.{Content, IsTaken, Reads, fault_of, spelled}
 use Rattle.rawsocket.specs.declared.fault.Fault as stream
 use Rattle.rawsocket.specs.Steps.{Meter, Told, Fine, Failed, NoTurn, WholeSteps}
 use Rattle.rawsocket.specs.declared.devices.no_octets.NoOctets.{NoOctets}
@@ -137,15 +138,23 @@ module _ {S : Type 0} where
   IsPosted s given before now (Err ActorGone) = PostsSome s given.frames before now
   IsPosted s given before now (Err _) = ⊥
 
-  -- a piece completes these frames, and they are posted behind the early ones
+  -- those of the frames at the front of octets were posted, by what ended it, if anything did
+  pub record PostsFront (s : Serializer) (octets rest : List ℕ) (before now : List (Act S)) (result : Result Unit ReadEnd) : Type 0 where
+    pub frames : List Content
+    pub each : AllByRecursion IsTaken frames
+    pub whole : octets ≡ flat_map spelled frames ++ rest
+    pub posted : IsPosted s (batch frames None) before now result
+
+  -- octets give these frames behind what was held, and they are posted behind the early ones
   pub record Advances (begun : Start) (read : Taking) (before now : List (Act S)) (result : Result Unit ReadEnd) : Type 0 where
     pub frames : List Content
     pub reads : Reads (begun.held ++ read.octets) frames read.held
     pub posted : IsPosted begun.serializer (batch (begun.early ++ frames) (fault_of read.held)) before now result
 
-  -- or there was no memory for it, and nothing is posted
+  -- where something ended it, the deframer needn't hold what stands behind them
   abbrev pub IsAdvance : Start → Taking → List (Act S) → List (Act S) → Result Unit ReadEnd → Type 0
-  IsAdvance begun read before now result = Advances begun read before now result ⊎ ((result ≡ Err NoMemory) × (now ≡ before))
+  IsAdvance begun read before now (Ok u) = Advances begun read before now (Ok u)
+  IsAdvance begun read before now (Err end) = (held : List ℕ) × Advances begun (taking read.octets held) before now (Err end)
 
   -- that the client is gone is posted, or comes back
   abbrev pub GoesWith : ReadEnd → List (Act S) → List (Act S) → ReadEnd → Type 0

@@ -1,15 +1,16 @@
 //! The reader of a connection: it reads octets, and posts what they say.
-ghost use Rattle.std.specs.Prelude.{◌≡◌, ◌≢◌, ◌≤◌, ◌<◌, ◌+◌, ◌++◌, ◌∷◌, [], None, length, take, IfOk, IfErr, OnOk, OnErr, true, false};
+ghost use Rattle.std.specs.Prelude.{◌≡◌, ◌≢◌, ◌≤◌, ◌<◌, ◌+◌, ◌++◌, ◌∷◌, [], None, Ok, Err, ℕ, List, length, take, IfOk, IfErr, OnOk, OnErr, true, false};
 ghost use Rattle.rawsocket.specs.Frames.{content, contents, fault_of};
+ghost use Rattle.rawsocket.specs.Deframer.{IsShort, completed};
 ghost use Rattle.rawsocket.specs.declared.handshake.Serializer.{Serializer};
 ghost use Rattle.rawsocket.specs.Steps.{WholeSteps, meter};
 ghost use Rattle.realm_inbox.specs.Joins.{is_join};
 ghost use Rattle.connection.specs.Posts.{Says, SaysNothing, is_farewell};
-ghost use Rattle.connection.specs.Reader.{IsPosted, IsAdvance, IsReadUpTo, IsReadBy, ReadsSince, ReadsUntil, Departs, batch, read_told, start, taking};
+ghost use Rattle.connection.specs.Reader.{IsPosted, IsAdvance, PostsFront, IsReadUpTo, IsReadBy, ReadsSince, ReadsUntil, Departs, batch, read_told, start, taking};
 
 use message_tree::Octets;
 use rawsocket::devices::{NoOctets, PIECE, Source, Turns, read_piece};
-use rawsocket::{Deframer, Frame, Kind, Serializer};
+use rawsocket::{Deframer, Frame, Kind, Serializer, next_frame};
 use realm_inbox::{Act, Posting, Shut};
 use session::{Fault, Opened, Said, SaidKind, read_payload};
 use std::alloc::Global;
@@ -113,6 +114,42 @@ fn post_message<R: Wait, S: Shut, P: Posting<S>>(
     Ok(())
 }
 
+// Posts a PING.
+fn post_ping<R: Wait, S: Shut, P: Posting<S>>(
+    rt: &R,
+    payload: Octets,
+    poster: &mut P,
+) -> Result<(), ReadEnd>
+    ensures { (s : Serializer) → IsPosted s
+        (batch (record { kind = Kind.Ping; payload = payload } ∷ []) None)
+        (P.posted poster.old) (P.posted poster.new) result }
+{
+    let octets = payload.as_slice().len();
+    post(rt, poster, Act::Ping(payload), octets)
+}
+
+// Posts what a frame is, whose payload is read where it lies.
+fn post_lying<R: Wait, S: Shut, P: Posting<S>>(
+    rt: &R,
+    alloc: Global,
+    serializer: Serializer,
+    kind: Kind,
+    payload: &[u8],
+    poster: &mut P,
+) -> Result<(), ReadEnd>
+    ensures { IsPosted serializer (batch (record { kind = kind; payload = payload.now } ∷ []) None)
+        (P.posted poster.old) (P.posted poster.new) result }
+{
+    match kind {
+        Kind::Message => post_message(rt, alloc, serializer, payload, poster),
+        Kind::Ping => match Octets::of(alloc, payload) {
+            Ok(payload) => post_ping(rt, payload, poster),
+            Err(_) => Err(ReadEnd::NoMemory),
+        },
+        Kind::Pong => Ok(()),
+    }
+}
+
 // Posts what a frame is.
 fn post_frame<R: Wait, S: Shut, P: Posting<S>>(
     rt: &R,
@@ -125,17 +162,25 @@ fn post_frame<R: Wait, S: Shut, P: Posting<S>>(
         (P.posted poster.new) result }
 {
     match frame.kind {
-        Kind::Message => post_message(rt, alloc, serializer, &frame.payload, poster),
-        Kind::Ping => {
-            let octets = frame.payload.len();
-            post(
-                rt,
-                poster,
-                Act::Ping(Octets::from_vec(frame.payload)),
-                octets,
-            )
-        }
-        Kind::Pong => Ok(()),
+        Kind::Ping => post_ping(rt, Octets::from_vec(frame.payload), poster),
+        kind => post_lying(rt, alloc, serializer, kind, &frame.payload, poster),
+    }
+}
+
+// Posts the frame that a piece completed, if it did.
+fn post_completed<R: Wait, S: Shut, P: Posting<S>>(
+    rt: &R,
+    alloc: Global,
+    serializer: Serializer,
+    frame: Option<Frame>,
+    poster: &mut P,
+) -> Result<(), ReadEnd>
+    ensures { IsPosted serializer (batch (completed frame) None) (P.posted poster.old)
+        (P.posted poster.new) result }
+{
+    match frame {
+        Some(frame) => post_frame(rt, alloc, serializer, frame, poster),
+        None => Ok(()),
     }
 }
 
@@ -157,16 +202,15 @@ fn post_fault<R: Wait, S: Shut, P: Posting<S>>(
     }
 }
 
-// Posts what frames are, and that what stands behind them is at fault, if it is.
+// Posts what frames are.
 fn post_frames<R: Wait, S: Shut, P: Posting<S>>(
     rt: &R,
     alloc: Global,
     serializer: Serializer,
     frames: Vec<Frame>,
-    fault: Option<rawsocket::Fault>,
     poster: &mut P,
 ) -> Result<(), ReadEnd>
-    ensures { IsPosted serializer (batch (contents frames.items) fault) (P.posted poster.old)
+    ensures { IsPosted serializer (batch (contents frames.items) None) (P.posted poster.old)
         (P.posted poster.new) result }
 {
     let mut left = VecDeque::from_vec(frames);
@@ -175,30 +219,78 @@ fn post_frames<R: Wait, S: Shut, P: Posting<S>>(
             return Err(end);
         }
     }
-    post_fault(rt, fault, poster)
+    Ok(())
 }
 
-// Takes the next octets of the stream, and posts the early frames and those that the octets complete.
+// Posts what the frames are that lie whole at the front of octets, each from where it lies, and gives what stands behind them.
+fn post_whole<'p, R: Wait, S: Shut, P: Posting<S>>(
+    rt: &R,
+    alloc: Global,
+    serializer: Serializer,
+    octets: &'p [u8],
+    poster: &mut P,
+) -> Result<&'p [u8], ReadEnd>
+    ensures front { IfOk result (λ rest. PostsFront serializer octets.now rest.now
+        (P.posted poster.old) (P.posted poster.new) (Ok tt)) }
+    ensures short { IfOk result (λ rest. IsShort rest.now) }
+    ensures ended { IfErr result (λ end. (rest : List ℕ) × PostsFront serializer octets.now rest
+        (P.posted poster.old) (P.posted poster.new) (Err end)) }
+{
+    let mut rest = octets;
+    'frames: while let Some((kind, payload, after)) = next_frame(rest) {
+        if let Err(end) = post_lying(rt, alloc, serializer, kind, payload, poster) {
+            return Err(end);
+        }
+        rest = after;
+    }
+    Ok(rest)
+}
+
+// Takes the next octets of the stream, and posts the frames that they complete.
 fn advance<R: Wait, S: Shut, P: Posting<S>>(
+    rt: &R,
+    alloc: Global,
+    serializer: Serializer,
+    deframer: &mut Deframer,
+    piece: &[u8],
+    poster: &mut P,
+) -> Result<(), ReadEnd>
+    ensures { IsAdvance (start serializer [] deframer.old) (taking piece.now deframer.new)
+        (P.posted poster.old) (P.posted poster.new) result }
+{
+    let (frame, rest) = match deframer.resume(alloc, piece) {
+        Ok(resumed) => resumed,
+        Err(_) => return Err(ReadEnd::NoMemory),
+    };
+    if let Err(end) = post_completed(rt, alloc, serializer, frame, poster) {
+        return Err(end);
+    }
+    let rest = match post_whole(rt, alloc, serializer, rest, poster) {
+        Ok(rest) => rest,
+        Err(end) => return Err(end),
+    };
+    if deframer.hold(alloc, rest).is_err() {
+        return Err(ReadEnd::NoMemory);
+    }
+    post_fault(rt, deframer.fault(), poster)
+}
+
+// Posts the early frames, and what the deframer holds behind them.
+fn begin<R: Wait, S: Shut, P: Posting<S>>(
     rt: &R,
     alloc: Global,
     serializer: Serializer,
     early: Vec<Frame>,
     deframer: &mut Deframer,
-    piece: &[u8],
     poster: &mut P,
 ) -> Result<(), ReadEnd>
     ensures { IsAdvance (start serializer (contents early.items) deframer.old)
-        (taking piece.now deframer.new) (P.posted poster.old) (P.posted poster.new) result }
+        (taking [] deframer.new) (P.posted poster.old) (P.posted poster.new) result }
 {
-    let fed = match deframer.feed(alloc, piece) {
-        Ok(fed) => fed,
-        Err(_) => return Err(ReadEnd::NoMemory),
-    };
-    if let Err(end) = post_frames(rt, alloc, serializer, early, None, poster) {
+    if let Err(end) = post_frames(rt, alloc, serializer, early, poster) {
         return Err(end);
     }
-    post_frames(rt, alloc, serializer, fed.frames, fed.fault, poster)
+    advance(rt, alloc, serializer, deframer, &[], poster)
 }
 
 // Posts the early frames and those that the deframer holds, and then reads and posts until something ends it.
@@ -223,7 +315,7 @@ fn read_on<R: Wait, S: Shut, I: Source, P: Posting<S>>(
 {
     let mut deframer = deframer;
     let mut turns = Turns::new();
-    if let Err(end) = advance(rt, alloc, serializer, early, &mut deframer, &[], poster) {
+    if let Err(end) = begin(rt, alloc, serializer, early, &mut deframer, poster) {
         return end;
     }
     'pieces: loop {
@@ -232,8 +324,7 @@ fn read_on<R: Wait, S: Shut, I: Source, P: Posting<S>>(
             Err(none) => return ReadEnd::from(none),
         };
         let piece = &buffer[..count];
-        let none = Vec::new(alloc);
-        if let Err(end) = advance(rt, alloc, serializer, none, &mut deframer, piece, poster) {
+        if let Err(end) = advance(rt, alloc, serializer, &mut deframer, piece, poster) {
             return end;
         }
     }

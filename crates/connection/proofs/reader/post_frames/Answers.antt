@@ -1,7 +1,7 @@
-use Rattle.std.proofs.Common.{List, [], ◌∷◌, length, refl, sym, ap, subst, ◌≡◌, arith}
+use Rattle.std.proofs.Common.{None, List, [], ◌∷◌, length, refl, sym, ap, subst, ◌≡◌, arith}
 use Rattle.rawsocket.specs.Frames.{content, contents}
 use Rattle.rawsocket.specs.declared.frame.Frame.{Frame}
-use Rattle.connection.proofs.FramesPosted.{Halfway, Halfway-start, Halfway-more, Halfway-ends, Halfway-last}
+use Rattle.connection.proofs.FramesPosted.{Halfway, Halfway-start, Halfway-more, Halfway-ends, Halfway-done}
 use Rattle.connection.proofs.reader.post_frames.Goals as goal
 
 none_left : (frames : List Frame) → length frames ≡ 0 → contents frames ≡ []
@@ -20,10 +20,10 @@ frames-preserved g c =
 pub returns-in-Err : goal.returns-in-Err
 returns-in-Err g c =
     let here = subst (λ (xs : List Frame). Halfway c.args.serializer (contents c.args.frames.items) (contents xs) (g.P.Posting.posted c.args.poster.now) (g.P.Posting.posted c.frames.poster)) c.in-Some.ensures.items c.frames.invariant in
-    Halfway-ends c.args.serializer c.in-Err.end c.args.fault (contents c.args.frames.items) (content c.in-Some.frame) (contents c.pop_front.new.self.items) (g.P.Posting.posted c.args.poster.now) (g.P.Posting.posted c.frames.poster)
+    Halfway-ends c.args.serializer c.in-Err.end None (contents c.args.frames.items) (content c.in-Some.frame) (contents c.pop_front.new.self.items) (g.P.Posting.posted c.args.poster.now) (g.P.Posting.posted c.frames.poster)
     (g.P.Posting.posted c.post_frame.new.poster) here c.in-Err.ensures
 
 pub returns : goal.returns
 returns g c =
-    Halfway-last c.args.serializer c.post_fault.result c.args.fault (contents c.args.frames.items) (contents c.frames.left.items) (g.P.Posting.posted c.args.poster.now) (g.P.Posting.posted c.frames.poster) (g.P.Posting.posted c.post_fault.new.poster)
-    (none_left c.frames.left.items (omega (arith, c.in_default.ensures.cases.0, c.frames.left.ok.0))) c.frames.invariant (c.post_fault.ensures c.args.serializer)
+    Halfway-done c.args.serializer (contents c.args.frames.items) (contents c.frames.left.items) (g.P.Posting.posted c.args.poster.now) (g.P.Posting.posted c.frames.poster)
+    (none_left c.frames.left.items (omega (arith, c.in_default.ensures.cases.0, c.frames.left.ok.0))) c.frames.invariant

@@ -1,30 +1,27 @@
-use Rattle.std.proofs.Common.{ap, subst, take, Ok, Err, List, [], arith}
+use Rattle.std.proofs.Common.{ap, take, Err, [], arith}
 use Rattle.std.proofs.lemmas.List.{length-take-le}
 use Rattle.rawsocket.specs.Frames.{contents}
-use Rattle.rawsocket.specs.declared.frame.Frame.{Frame}
-use Rattle.connection.specs.Reader.{IsAdvance, start, taking}
 use Rattle.rawsocket.proofs.Lemmas.{all_turns, no_steps, then_steps, told_fine}
 use Rattle.connection.proofs.ReaderProgress.{Onward-start, Onward-more, Onward-ends, Onward-stops, early_ends, piece_ended, piece_steps, posting_told}
 use Rattle.connection.proofs.reader.read_on.Goals as goal
 
 pub pieces-init : goal.pieces-init
 pieces-init g c = record {
-  onward = Onward-start c.args.serializer (contents c.args.early.items) c.args.deframer (g.I.Source.given c.args.source.now) (g.P.Posting.posted c.args.poster.now) (g.P.Posting.posted c.advance.new.poster) c.advance.new.deframer c.in_default.ensures;
+  onward = Onward-start c.args.serializer (contents c.args.early.items) c.args.deframer (g.I.Source.given c.args.source.now) (g.P.Posting.posted c.args.poster.now) (g.P.Posting.posted c.begin.new.poster) c.begin.new.deframer c.in_default.ensures;
   steps = all_turns c.new-turns.ensures;
 }
 
 pub pieces-preserved : goal.pieces-preserved
 pieces-preserved g c = record {
   onward = Onward-more c.args.serializer (contents c.args.early.items) c.args.deframer (g.I.Source.given c.args.source.now) (g.I.Source.given c.pieces.source) (g.I.Source.given c.read_piece.new.source) (take c.in-Ok.count c.read_piece.new.buffer)
-      (g.P.Posting.posted c.args.poster.now) (g.P.Posting.posted c.pieces.poster) (g.P.Posting.posted c.advance-in-pieces.new.poster) c.pieces.deframer c.advance-in-pieces.new.deframer c.pieces.invariant.onward c.in-Ok.ensures.given
-      (subst (λ (fs : List Frame). IsAdvance (start c.args.serializer (contents fs) c.pieces.deframer) (taking (take c.in-Ok.count c.read_piece.new.buffer) c.advance-in-pieces.new.deframer) (g.P.Posting.posted c.pieces.poster) (g.P.Posting.posted c.advance-in-pieces.new.poster) (Ok tt))
-      c.new-none.ensures.items c.in_default-advance.ensures);
+      (g.P.Posting.posted c.args.poster.now) (g.P.Posting.posted c.pieces.poster) (g.P.Posting.posted c.advance.new.poster) c.pieces.deframer c.advance.new.deframer c.pieces.invariant.onward c.in-Ok.ensures.given
+      c.in_default-advance.ensures;
   steps = then_steps c.pieces.invariant.steps c.in-Ok.ensures.steps;
 }
 
 pub returns-in-Err-clause-posted : goal.returns-in-Err-clause-posted
 returns-in-Err-clause-posted g c =
-    early_ends c.args.serializer (contents c.args.early.items) c.args.deframer c.in-Err.end (g.I.Source.given c.args.source.now) c.advance.new.deframer (g.P.Posting.posted c.args.poster.now) (g.P.Posting.posted c.advance.new.poster) c.in-Err.ensures
+    early_ends c.args.serializer (contents c.args.early.items) c.args.deframer c.in-Err.end (g.I.Source.given c.args.source.now) c.begin.new.deframer (g.P.Posting.posted c.args.poster.now) (g.P.Posting.posted c.begin.new.poster) c.in-Err.ensures
 
 pub returns-in-Err-read_piece-clause-posted : goal.returns-in-Err-read_piece-clause-posted
 returns-in-Err-read_piece-clause-posted g c =
@@ -34,14 +31,13 @@ returns-in-Err-read_piece-clause-posted g c =
 pub returns-in-Err-advance-clause-posted : goal.returns-in-Err-advance-clause-posted
 returns-in-Err-advance-clause-posted g c =
     Onward-ends c.args.serializer (contents c.args.early.items) c.args.deframer c.in-Err-advance.end (g.I.Source.given c.args.source.now) (g.I.Source.given c.pieces.source) (g.I.Source.given c.read_piece.new.source) (take c.in-Ok.count c.read_piece.new.buffer)
-    (g.P.Posting.posted c.args.poster.now) (g.P.Posting.posted c.pieces.poster) (g.P.Posting.posted c.advance-in-pieces.new.poster) c.pieces.deframer c.advance-in-pieces.new.deframer c.pieces.invariant.onward c.in-Ok.ensures.given
+    (g.P.Posting.posted c.args.poster.now) (g.P.Posting.posted c.pieces.poster) (g.P.Posting.posted c.advance.new.poster) c.pieces.deframer c.advance.new.deframer c.pieces.invariant.onward c.in-Ok.ensures.given
     (omega (arith, length-take-le c.in-Ok.count c.read_piece.new.buffer c.in-Ok.ensures.within, c.in-Ok.ensures.within, c.requires.piece, c.read_piece.auto.buffer, c.pieces.auto.buffer))
-    (subst (λ (fs : List Frame). IsAdvance (start c.args.serializer (contents fs) c.pieces.deframer) (taking (take c.in-Ok.count c.read_piece.new.buffer) c.advance-in-pieces.new.deframer) (g.P.Posting.posted c.pieces.poster) (g.P.Posting.posted c.advance-in-pieces.new.poster) (Err c.in-Err-advance.end))
-    c.new-none.ensures.items c.in-Err-advance.ensures)
+    c.in-Err-advance.ensures
 
 pub returns-in-Err-clause-reads : goal.returns-in-Err-clause-reads
 returns-in-Err-clause-reads g c =
-    let told = posting_told c.args.serializer (contents c.args.early.items) c.args.deframer [] c.advance.new.deframer (g.P.Posting.posted c.args.poster.now) (g.P.Posting.posted c.advance.new.poster) c.in-Err.end c.in-Err.ensures in
+    let told = posting_told c.args.serializer (contents c.args.early.items) c.args.deframer [] c.begin.new.deframer (g.P.Posting.posted c.args.poster.now) (g.P.Posting.posted c.begin.new.poster) c.in-Err.end c.in-Err.ensures in
     record { left = 4294967296; steps = told_fine told (no_steps _) }
 
 pub returns-in-Err-read_piece-clause-reads : goal.returns-in-Err-read_piece-clause-reads
@@ -53,5 +49,5 @@ returns-in-Err-read_piece-clause-ended g c = λ is. c.in-Err-read_piece.ensures.
 
 pub returns-in-Err-advance-clause-reads : goal.returns-in-Err-advance-clause-reads
 returns-in-Err-advance-clause-reads g c =
-    let told = posting_told c.args.serializer _ c.pieces.deframer (take c.in-Ok.count c.read_piece.new.buffer) c.advance-in-pieces.new.deframer (g.P.Posting.posted c.pieces.poster) (g.P.Posting.posted c.advance-in-pieces.new.poster) c.in-Err-advance.end c.in-Err-advance.ensures in
+    let told = posting_told c.args.serializer [] c.pieces.deframer (take c.in-Ok.count c.read_piece.new.buffer) c.advance.new.deframer (g.P.Posting.posted c.pieces.poster) (g.P.Posting.posted c.advance.new.poster) c.in-Err-advance.end c.in-Err-advance.ensures in
     record { left = c.read_piece.new.turns; steps = told_fine told (then_steps c.pieces.invariant.steps c.in-Ok.ensures.steps) }

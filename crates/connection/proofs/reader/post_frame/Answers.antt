@@ -1,0 +1,9 @@
+use Rattle.std.proofs.Common.{sym}
+use Rattle.rawsocket.specs.declared.frame.Kind.TheVariants.{Ping}
+use Rattle.connection.proofs.FramesPosted.{posted_as}
+use Rattle.connection.proofs.reader.post_frame.Goals as goal
+
+pub returns-in-Ping : goal.returns-in-Ping
+returns-in-Ping g c =
+    posted_as c.args.serializer c.post_ping.result Ping c.args.frame.kind c.from_vec.result c.args.frame.payload.items (g.P.Posting.posted c.args.poster.now) (g.P.Posting.posted c.post_ping.new.poster) (sym c.in-Ping.is) c.from_vec.ensures
+    (c.post_ping.ensures c.args.serializer)
