@@ -89,8 +89,8 @@ pub fn same(alloc: Global, octets: &[u8]) -> io::Result<String> {
     }
 }
 
-/// What `N HEAD MEMBER END` gives.
-pub fn shape(alloc: Global, text: &str) -> io::Result<String> {
+/// The octets that `N HEAD MEMBER END` stands for: HEAD, so many times MEMBER, and END.
+pub fn shaped(alloc: Global, text: &str) -> io::Result<Vec<u8>> {
     let (count, text) = part(text);
     let (head, text) = part(text);
     let (member, end) = part(text);
@@ -100,7 +100,12 @@ pub fn shape(alloc: Global, text: &str) -> io::Result<String> {
         octets.extend_from_slice(&member)?;
     }
     octets.extend_from_slice(&octets_of(alloc, part_of(end))?)?;
-    match whole(alloc, &octets) {
+    Ok(octets)
+}
+
+/// What `N HEAD MEMBER END` gives.
+pub fn shape(alloc: Global, text: &str) -> io::Result<String> {
+    match whole(alloc, &shaped(alloc, text)?) {
         Ok(out) => {
             let len = out.len();
             Ok(format!(in alloc; "{len} octets\n")?)

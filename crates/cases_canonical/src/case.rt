@@ -3,7 +3,7 @@ use crate::canonical::{canonical, same, shape};
 use crate::json::json;
 use crate::looking::{get, look};
 use crate::reading::{take, unread};
-use crate::transliterating::transliterate;
+use crate::transliterating::{transliterate, transliterate_long};
 use crate::walking::entries;
 use case_text::{Table, line_of, octets_of, part};
 use std::alloc::Global;
@@ -28,6 +28,7 @@ impl Table for Case {
             "unread" => unread(alloc, &octets_of(alloc, text)?),
             "take" => take(alloc, text),
             "transliterate" => transliterate(alloc, &octets_of(alloc, text)?),
+            "long" => transliterate_long(alloc, text),
             _ => line_of(alloc, "no case has this word"),
         }
     }

@@ -1,45 +1,44 @@
--- Lists and maps whose count was written behind what is inside.
-use Rattle.std.proofs.Common.{◌≡◌, ℕ, suc, ◌+◌, ◌^◌, ◌<◌, true, List, [], ◌∷◌, ◌++◌, length, take, drop, refl, sym, ap, ap₂, ◌∙◌, append_assoc, append-nil, arith}
-use Rattle.std.specs.Int.{w32, to_be_bytes, from_be_bytes}
-use Rattle.std.proofs.lemmas.Nat.{from_be_bytes-to_be_bytes_4}
+-- Lists and maps whose head was written behind what is inside.
+use Rattle.std.proofs.Common.{◌≡◌, ℕ, suc, ◌+◌, ◌^◌, ◌<◌, true, List, [], ◌∷◌, ◌++◌, length, take, drop, refl, sym, ap, ap₂, subst, ◌∙◌, append_assoc, append-nil, arith}
 use Rattle.message_tree.specs.Data as tree
 use Rattle.message_tree.specs.View.{items_of}
-use Rattle.msgpack_codec.specs.Format.{form_of}
-use Rattle.msgpack_codec.specs.Grammar.{AreSpelled, ArePairsSpelled, map_from, Spells}
-use Rattle.json_to_msgpack.specs.body.Values.{open_head}
+use Rattle.msgpack_codec.specs.Short.{list_head, dict_head}
+use Rattle.msgpack_codec.specs.Grammar.{IsSize, IsNest, AreSpelled, ArePairsSpelled, map_from, Spells}
+use Rattle.msgpack_codec.proofs.ShortIsSpelled.{list_head_is, dict_head_is}
 
--- ---- the count
+-- ---- the head
 
-filled : (before new body : List ℕ) (mark : ℕ)
-    → take (suc (length before)) (before ++ (open_head mark ++ body)) ++ (new ++ drop (suc (suc (suc (suc (suc (length before)))))) (before ++ (open_head mark ++ body)))
-    ≡ before ++ (mark ∷ (new ++ body))
-filled [] new body mark = refl
-filled (x ∷ before) new body mark = ap (λ (l : List ℕ). x ∷ l) (filled before new body mark)
+filled : (before head body : List ℕ) → take (length before) (before ++ (0 ∷ body)) ++ (head ++ drop (suc (length before)) (before ++ (0 ∷ body))) ≡ before ++ (head ++ body)
+filled [] head body = refl
+filled (x ∷ before) head body = ap (λ (l : List ℕ). x ∷ l) (filled before head body)
 
--- the count is written into the octets that were left for it
-pub counted_head : (head mark : ℕ) (before all new body after : List ℕ) → head ≡ length before → all ≡ before ++ (open_head mark ++ body)
-    → after ≡ take (head + 1) all ++ (new ++ drop (head + 5) all) → after ≡ before ++ (mark ∷ (new ++ body))
-counted_head head mark before all new body after at e h =
-    let one : head + 1 ≡ suc (length before) = omega arith in
-    let five : head + 5 ≡ suc (suc (suc (suc (suc (length before))))) = omega arith in
-    let l = before ++ (open_head mark ++ body) in
-    h ∙ ap (λ (a : List ℕ). take (head + 1) a ++ (new ++ drop (head + 5) a)) e
-    ∙ ap₂ (λ (m n : ℕ). take m l ++ (new ++ drop n l)) one five
-    ∙ filled before new body mark
+-- the head takes the place of the octet that was left for it
+pub headed : (at : ℕ) (before all head body after : List ℕ) → at ≡ length before → all ≡ before ++ (0 ∷ body) → after ≡ take at all ++ (head ++ drop (at + 1) all) → after ≡ before ++ (head ++ body)
+headed at before all head body after is e h =
+    let one : at + 1 ≡ suc (length before) = omega arith in
+    let l = before ++ (0 ∷ body) in
+    h ∙ ap (λ (a : List ℕ). take at a ++ (head ++ drop (at + 1) a)) e ∙ ap₂ (λ (m n : ℕ). take m l ++ (head ++ drop n l)) is one ∙ filled before head body
 
--- four octets that are a count
-counts : (n m : ℕ) → n ≡ m → n < 2 ^ 32 → (length (to_be_bytes w32 n) ≡ 4) × (m ≡ from_be_bytes w32 (to_be_bytes w32 n))
-counts n m e lt = (refl, sym e ∙ sym (from_be_bytes-to_be_bytes_4 n lt))
+as_octets : (room : ℕ) (octets same : List ℕ) (d : tree.Data) → octets ≡ same → Spells room same d → Spells room octets d
+as_octets room octets same d e h = subst (λ o. Spells room o d) (sym e) h
 
 pub list_spells : (room n : ℕ) (body : List ℕ) (ds : List tree.Data) → n ≡ length ds → n < 2 ^ 32 → AreSpelled (Spells room) body ds
-    → Spells (suc room) (221 ∷ (to_be_bytes w32 n ++ body)) (tree.list (items_of ds))
-unfolding Spells form_of
-list_spells room n body ds e lt h = (to_be_bytes w32 n, body, ds, counts n (length ds) e lt, refl, h, refl)
+    → Spells (suc room) (list_head n ++ body) (tree.list (items_of ds))
+unfolding Spells
+list_spells room n body ds e lt h =
+    let head = list_head_is n lt in
+    let d = tree.list (items_of ds) in
+    as_octets (suc room) _ (head.0 ∷ (head.2 ++ body)) d (ap (λ o. o ++ body) head.3)
+    (subst (λ f. IsNest (Spells room) f (head.2 ++ body) d) (sym head.4) (head.2, body, ds, subst (λ m. IsSize head.1 head.2 m) e head.5, refl, h, refl))
 
 pub dict_spells : (room n : ℕ) (body : List ℕ) (ps : List (tree.Data × tree.Data)) (es : tree.Entries) → n ≡ length ps → n < 2 ^ 32 → ArePairsSpelled (Spells room) body ps
-    → map_from tree.no_entries true ps ≡ tree.dict es → Spells (suc room) (223 ∷ (to_be_bytes w32 n ++ body)) (tree.dict es)
-unfolding Spells form_of
-dict_spells room n body ps es e lt h made = (to_be_bytes w32 n, body, ps, counts n (length ps) e lt, refl, h, sym made)
+    → map_from tree.no_entries true ps ≡ tree.dict es → Spells (suc room) (dict_head n ++ body) (tree.dict es)
+unfolding Spells
+dict_spells room n body ps es e lt h made =
+    let head = dict_head_is n lt in
+    let d = tree.dict es in
+    as_octets (suc room) _ (head.0 ∷ (head.2 ++ body)) d (ap (λ o. o ++ body) head.3)
+    (subst (λ f. IsNest (Spells room) f (head.2 ++ body) d) (sym head.4) (head.2, body, ps, subst (λ m. IsSize head.1 head.2 m) e head.5, refl, h, sym made))
 
 -- ---- one more inside
 

@@ -1,6 +1,12 @@
+pub mod Found
+pub mod Octets
+pub mod Strings
+pub mod WordParts
+pub mod Punctuated
 pub mod LeafSpellings
 pub mod Turns
 pub mod Heads
 pub mod ListSteps
 pub mod DictSteps
 pub mod Wholes
+pub mod Naturals

@@ -1,103 +1,117 @@
-//! Values with nothing inside.
-ghost use Rattle.std.specs.Prelude.{◌≡◌, ◌==◌, ◌<◌, ◌++◌, IfOk, OnOk, IsTrue, true, false, length, slice_index};
-ghost use Rattle.message_tree.specs.Data.{is_carried, fits_codecs, null, flag, whole, uncarried, text as text_data, bytes as bytes_data};
-ghost use Rattle.message_tree.specs.View.{view};
-ghost use Rattle.msgpack_codec.specs.Short.{short, has_short};
+//! Values with nothing inside, and keys.
+ghost use Rattle.std.specs.Prelude.{◌≡◌, ◌==◌, ◌<◌, ◌∷◌, length, slice_index, OnOk, IsTrue, true, false, Some, IfSome};
+ghost use Rattle.message_tree.specs.Data.{fits_codecs, null, flag, whole, uncarried, text as text_data, bytes as bytes_data};
 ghost use Rattle.std.specs.Float.{binary64, float_is_finite};
 ghost use Rattle.fast_float.specs.Text.{minus, nearest};
+ghost use Rattle.json.specs.Token as grammar;
+ghost use Rattle.serde_json.specs.Data.{unsigned};
 ghost use Rattle.serde_json.specs.Read.{number_of, number_from};
-ghost use Rattle.json.specs.Reads.{token_of};
 ghost use Rattle.json_codec.specs.Decoder.{string_tree};
-ghost use Rattle.json_to_msgpack.specs.body.Values.{IsLeafAdded, IsTokenAdded, IsNumberAdded};
+ghost use Rattle.json_to_msgpack.specs.body.Lexing.{token_of};
+ghost use Rattle.json_to_msgpack.specs.body.Values.{IsLeafAdded, IsTokenAdded, IsNumberAdded, IsKeyAdded};
 
+use crate::lexer::Lexer;
 use crate::refusal::Refusal;
+use crate::token::Token;
+use crate::writing::{put, put_all, put_bytes_head, put_text_head, put_whole_short};
 use base64::DecodeAllocError;
 use base64::engine::general_purpose::STANDARD;
 use fast_float::Numeral;
-use json::Token;
-use message_tree::{Appender, Tree};
-use msgpack_codec::{encode_into, encode_text_into};
 use std::alloc::Global;
 
 /// The float 0: what isn't whole is uncarried, whatever its value.
 const FLOAT: [u8; 5] = [0xca, 0, 0, 0, 0];
 
-/// A value with nothing inside that is carried.
-fn put_leaf(leaf: &Tree, out: Vec<u8>) -> Result<Vec<u8>, Refusal>
-    requires { is_carried (view leaf.now) ≡ true }
-    ensures ok { IfOk result (λ v. v.items ≡ out.items ++ short (view leaf.now)) }
-    ensures fits { OnOk result (has_short (view leaf.now) ≡ true) }
-{
-    let mut out = Appender::new(out);
-    encode_into(leaf, &mut out)?;
-    Ok(out.into_vec())
-}
+/// MessagePack counts octets in four octets at most.
+const LIMIT: usize = 0x1_0000_0000;
 
 /// A text, as it stands.
-pub(crate) fn put_text(text: &str, out: Vec<u8>) -> Result<Vec<u8>, Refusal>
-    ensures { IfOk result (λ v. IsLeafAdded (text_data text.now) out.items v.items) }
+#[inline(always)]
+fn put_text(text: &str, out: &mut Vec<u8>) -> Result<(), Refusal>
+    ensures { OnOk result (IsLeafAdded (text_data text.now) out.old.items out.new.items) }
 {
-    let mut out = Appender::new(out);
-    encode_text_into(text, &mut out)?;
-    Ok(out.into_vec())
+    if text.len() >= LIMIT {
+        return Err(Refusal::Unclear);
+    }
+    put_text_head(text.len(), out)?;
+    put_all(text.as_bytes(), out)
 }
 
 /// A byte string.
-fn put_bytes(bytes: Vec<u8>, out: Vec<u8>) -> Result<Vec<u8>, Refusal>
-    ensures { IfOk result (λ v. IsLeafAdded (bytes_data bytes.items) out.items v.items) }
+fn put_bytes(bytes: &[u8], out: &mut Vec<u8>) -> Result<(), Refusal>
+    ensures { OnOk result (IsLeafAdded (bytes_data bytes.now) out.old.items out.new.items) }
 {
-    put_leaf(&Tree::Bytes(bytes), out)
+    if bytes.len() >= LIMIT {
+        return Err(Refusal::Unclear);
+    }
+    put_bytes_head(bytes.len(), out)?;
+    put_all(bytes, out)
 }
 
 /// A whole number.
-fn put_whole(number: i128, out: Vec<u8>) -> Result<Vec<u8>, Refusal>
+#[inline(always)]
+fn put_whole(number: i128, out: &mut Vec<u8>) -> Result<(), Refusal>
     requires { fits_codecs number ≡ true }
-    ensures { IfOk result (λ v. IsLeafAdded (whole number) out.items v.items) }
+    ensures { OnOk result (IsLeafAdded (whole number) out.old.items out.new.items) }
 {
-    put_leaf(&Tree::Whole(number), out)
+    put_whole_short(number, out)
 }
 
-fn put_null(out: Vec<u8>) -> Result<Vec<u8>, Refusal>
-    ensures { IfOk result (λ v. IsLeafAdded null out.items v.items) }
+fn put_null(out: &mut Vec<u8>) -> Result<(), Refusal>
+    ensures { OnOk result (IsLeafAdded null out.old.items out.new.items) }
 {
-    put_leaf(&Tree::Null, out)
+    put(0xc0, out)
 }
 
-fn put_flag(value: bool, out: Vec<u8>) -> Result<Vec<u8>, Refusal>
-    ensures { IfOk result (λ v. IsLeafAdded (flag value) out.items v.items) }
+fn put_flag(value: bool, out: &mut Vec<u8>) -> Result<(), Refusal>
+    ensures { OnOk result (IsLeafAdded (flag value) out.old.items out.new.items) }
 {
-    put_leaf(&Tree::Flag(value), out)
+    if value {
+        put(0xc3, out)
+    } else {
+        put(0xc2, out)
+    }
 }
 
 /// A string: a byte string where it is the mark and then base64, otherwise a text.
-fn put_string(alloc: Global, text: &str, out: Vec<u8>) -> Result<Vec<u8>, Refusal>
-    ensures { IfOk result (λ v. IsLeafAdded (string_tree text.now) out.items v.items) }
+#[inline(always)]
+fn put_string(alloc: Global, text: &str, out: &mut Vec<u8>) -> Result<(), Refusal>
+    ensures { OnOk result (IsLeafAdded (string_tree text.now) out.old.items out.new.items) }
 {
     if let Some((0, rest)) = text.as_bytes().split_first() {
-        match STANDARD.decode(alloc, rest) {
-            Ok(bytes) => return put_bytes(bytes, out),
-            Err(DecodeAllocError::OutOfMemory) => return Err(Refusal::NoMemory),
-            Err(DecodeAllocError::DecodeError(_)) => {}
-        }
+        return put_marked(alloc, text, rest, out);
     }
     put_text(text, out)
 }
 
+/// A string that begins with the mark, and what is behind this.
+#[inline(never)]
+fn put_marked(alloc: Global, text: &str, rest: &[u8], out: &mut Vec<u8>) -> Result<(), Refusal>
+    requires { text.now ≡ 0 ∷ rest.now }
+    ensures { OnOk result (IsLeafAdded (string_tree text.now) out.old.items out.new.items) }
+{
+    match STANDARD.decode(alloc, rest) {
+        Ok(bytes) => put_bytes(&bytes, out),
+        Err(DecodeAllocError::OutOfMemory) => Err(Refusal::NoMemory),
+        Err(DecodeAllocError::DecodeError(_)) => put_text(text, out),
+    }
+}
+
 /// A number that isn't whole, where it isn't too large for a float.
-fn put_float(negative: bool, numeral: &Numeral, mut out: Vec<u8>) -> Result<Vec<u8>, Refusal>
-    ensures { IfOk result (λ v. (float_is_finite (nearest binary64 negative numeral.now) ≡ true)
-        × IsLeafAdded uncarried out.items v.items) }
+fn put_float(negative: bool, numeral: &Numeral, out: &mut Vec<u8>) -> Result<(), Refusal>
+    ensures { OnOk result ((float_is_finite (nearest binary64 negative numeral.now) ≡ true)
+        × IsLeafAdded uncarried out.old.items out.new.items) }
 {
     if !numeral.to_float::<f64>(negative).is_finite() {
         return Err(Refusal::Unclear);
     }
-    out.extend_from_slice(&FLOAT)?;
-    Ok(out)
+    put_all(&FLOAT, out)
 }
 
 /// A number with no sign.
-fn put_unsigned(numeral: &Numeral, out: Vec<u8>) -> Result<Vec<u8>, Refusal>
-    ensures { IfOk result (λ v. IsNumberAdded (number_from false numeral.now) out.items v.items) }
+fn put_unsigned(numeral: &Numeral, out: &mut Vec<u8>) -> Result<(), Refusal>
+    ensures { OnOk result
+        (IsNumberAdded (number_from false numeral.now) out.old.items out.new.items) }
 {
     match numeral.to_u64() {
         Some(number) => put_whole(i128::from(number), out),
@@ -106,8 +120,9 @@ fn put_unsigned(numeral: &Numeral, out: Vec<u8>) -> Result<Vec<u8>, Refusal>
 }
 
 /// A number behind a minus: -0 is a float.
-fn put_negative(numeral: &Numeral, out: Vec<u8>) -> Result<Vec<u8>, Refusal>
-    ensures { IfOk result (λ v. IsNumberAdded (number_from true numeral.now) out.items v.items) }
+fn put_negative(numeral: &Numeral, out: &mut Vec<u8>) -> Result<(), Refusal>
+    ensures { OnOk result
+        (IsNumberAdded (number_from true numeral.now) out.old.items out.new.items) }
 {
     match numeral.to_i64(true) {
         Some(number) if number < 0 => put_whole(i128::from(number), out),
@@ -123,12 +138,41 @@ fn has_minus(number: &[u8]) -> bool
     number.first() == Some(&b'-')
 }
 
-/// A number, by its text.
-#[tactic(auto, unfolding(serde_json::specs::Read::number_of))]
-fn put_number(text: &str, out: Vec<u8>) -> Result<Vec<u8>, Refusal>
-    ensures { IfOk result (λ v. IsNumberAdded (number_of text.now) out.items v.items) }
+/// The number that digits are, where there is nothing else and not too many, as mostly.
+#[inline(always)]
+fn few_digits(number: &[u8]) -> Option<u64>
+    ensures { IfSome result (λ n. number_of number.now ≡ Some (unsigned n)) }
 {
-    let number = text.as_bytes();
+    if number.is_empty() {
+        return None;
+    }
+    let mut value: u64 = 0;
+    'digits: for octet in number {
+        if *octet < b'0' || *octet > b'9' || value > 99_999_999_999_999_999 {
+            return None;
+        }
+        value = value * 10 + (*octet - b'0') as u64;
+    }
+    Some(value)
+}
+
+/// A number, by its text.
+#[inline(always)]
+fn put_number(number: &[u8], out: &mut Vec<u8>) -> Result<(), Refusal>
+    ensures { OnOk result (IsNumberAdded (number_of number.now) out.old.items out.new.items) }
+{
+    match few_digits(number) {
+        Some(natural) => put_whole(i128::from(natural), out),
+        None => put_any_number(number, out),
+    }
+}
+
+/// Any number, by its text.
+#[inline(never)]
+#[tactic(auto, unfolding(serde_json::specs::Read::number_of))]
+fn put_any_number(number: &[u8], out: &mut Vec<u8>) -> Result<(), Refusal>
+    ensures { OnOk result (IsNumberAdded (number_of number.now) out.old.items out.new.items) }
+{
     if has_minus(number) {
         put_negative(&Numeral::scan(&number[1..]), out)
     } else {
@@ -137,19 +181,30 @@ fn put_number(text: &str, out: Vec<u8>) -> Result<Vec<u8>, Refusal>
 }
 
 /// The value that a token is, where nothing is inside.
-pub(crate) fn put_token(alloc: Global, token: Token, out: Vec<u8>) -> Result<Vec<u8>, Refusal>
-    ensures { IfOk result (λ v. IsTokenAdded (token_of token.entry) out.items v.items) }
+#[inline(always)]
+pub(crate) fn put_leaf(alloc: Global, token: Token, out: &mut Vec<u8>) -> Result<(), Refusal>
+    ensures { OnOk result (IsTokenAdded (token_of token.entry) out.old.items out.new.items) }
 {
     match token {
         Token::Null => put_null(out),
-        Token::Bool(value) => put_flag(value, out),
-        Token::Number(text) => put_number(text, out),
-        Token::String(text) => put_string(alloc, text, out),
-        Token::BeginObject
-        | Token::EndObject
-        | Token::BeginArray
-        | Token::EndArray
-        | Token::Key(_)
-        | Token::Bad => Err(Refusal::Unclear),
+        Token::Flag(value) => put_flag(value, out),
+        Token::Number(number) => put_number(number, out),
+        Token::String(text) => put_string(alloc, text.as_str(), out),
+        Token::BeginArray | Token::BeginObject => Err(Refusal::Unclear),
+    }
+}
+
+/// The key that is next, and its colon.
+#[inline(always)]
+pub(crate) fn put_key(
+    alloc: Global,
+    lexer: &mut Lexer<'_>,
+    out: &mut Vec<u8>,
+) -> Result<(), Refusal>
+    ensures { OnOk result (IsKeyAdded lexer.old lexer.new out.old.items out.new.items) }
+{
+    match lexer.take_key(alloc) {
+        Ok(key) => put_text(key.as_str(), out),
+        Err(refusal) => Err(refusal),
     }
 }

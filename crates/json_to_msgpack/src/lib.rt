@@ -5,10 +5,16 @@
 //! It stands on `json_codec`, which says what a JSON text means, on `msgpack_codec`, which says what
 //! octets spell, and on `message_tree`. The contract says that the octets spell the tree that the text
 //! is read as.
-mod leaves;
-mod refusal;
-mod transliteration;
-mod values;
 
-pub use json::Scratch;
+mod leaves;
+mod lexer;
+mod refusal;
+mod scan;
+mod token;
+mod transliteration;
+mod unescape;
+mod values;
+mod words;
+mod writing;
+
 pub use transliteration::to_msgpack;

@@ -61,23 +61,19 @@ pub record IsDictAdded (room : ℕ) (old new : List Token) (before after : List 
   pub read : converted (λ ms. of_members ms json.no_members) (members (value (levels room)) (length old) old) ≡ Some (found, new)
   pub added : IsAdded (suc room) (tree.dict (members_tree found)) before after
 
--- the head of a list or dictionary whose count isn't known yet
-abbrev pub open_head : ℕ → List ℕ
-open_head mark = mark ∷ 0 ∷ 0 ∷ 0 ∷ 0 ∷ []
-
 -- some items, and then others
 abbrev pub items_behind : List json.Data → json.Items → json.Items
 items_behind [] rest = rest
 items_behind (d ∷ ds) rest = json.item d (items_behind ds rest)
 
--- a list is open: `now` are the tokens that are left of `old`, and so many members were written
+-- a list is open: `now` are the tokens that are left of `old`, and so many members were written behind an octet for the head
 pub record IsListOpen (room : ℕ) (old now : List Token) (before after : List ℕ) (count : ℕ) : Type 0 where
   pub found : List json.Data
   pub turns : ℕ
   pub enough : length now ≤ turns
   pub read : converted of_items (items (value (levels room)) (length old) old) ≡ parse_map (items_behind found) (converted of_items (items (value (levels room)) turns now))
   pub body : List ℕ
-  pub behind : after ≡ before ++ (open_head 221 ++ body)
+  pub behind : after ≡ before ++ (0 ∷ body)
   pub spelled : AreSpelled (Spells room) body (map tree_of found)
   pub counted : count ≡ length found
   pub shorter : length now ≤ length old
@@ -89,7 +85,7 @@ pub record IsDictOpen (room : ℕ) (old now : List Token) (before after : List �
   pub enough : length now ≤ turns
   pub read : converted (λ ms. of_members ms json.no_members) (members (value (levels room)) (length old) old) ≡ converted (λ ms. of_members ms found) (members (value (levels room)) turns now)
   pub body : List ℕ
-  pub behind : after ≡ before ++ (open_head 223 ++ body)
+  pub behind : after ≡ before ++ (0 ∷ body)
   pub pairs : List (tree.Data × tree.Data)
   pub spelled : ArePairsSpelled (Spells room) body pairs
   pub made : map_from tree.no_entries true pairs ≡ tree.dict (members_tree found)
@@ -107,3 +103,9 @@ pub record IsTextAdded (text octets : List ℕ) : Type 0 where
   pub found : json.Data
   pub value : read text ≡ Some found
   pub spelled : Spells 100 octets (tree_of found)
+
+-- of the tokens `old` the first is a key, which was written, and `new` the rest
+pub record IsKeyAdded (old new : List Token) (before after : List ℕ) : Type 0 where
+  pub key : List ℕ
+  pub read : old ≡ Token.key key ∷ new
+  pub added : IsLeafAdded (tree.text key) before after

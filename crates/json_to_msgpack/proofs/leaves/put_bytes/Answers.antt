@@ -1,17 +1,18 @@
-use Rattle.std.proofs.Common.{◌^◌, length, ap, sym, ◌∙◌}
-use Rattle.std.proofs.lemmas.Bool.{ltb-true}
+use Rattle.std.proofs.Common.{◌≡◌, ◌++◌, ◌<◌, ◌^◌, List, ℕ, length, refl, sym, ap, ◌∙◌, append_assoc, arith}
+use Rattle.std.proofs.lemmas.Result.{on_ok_weaker}
 use Rattle.message_tree.specs.Data.{bytes}
-use Rattle.message_tree.proofs.Constructors.{view-Bytes}
-use Rattle.msgpack_codec.specs.Short.{has_short}
-use Rattle.msgpack_codec.proofs.NestJudgements.{of-both}
+use Rattle.msgpack_codec.specs.Short.{bytes_head}
 use Rattle.msgpack_codec.proofs.ShortIsSpelled.{bytes_spelled}
 use Rattle.json_to_msgpack.proofs.LeafSpellings.{short_added}
 use Rattle.json_to_msgpack.proofs.leaves.put_bytes.Goals as goal
 
 pub returns : goal.returns
 returns c =
-    let b = c.args.bytes.items in
-    let is = view-Bytes c.args.bytes in
-    of-both c.put_leaf.result _ _ _
-    (λ v e fits. short_added _ (bytes b) c.args.out.items v.items is (λ room. bytes_spelled room b (ltb-true (length b) (2 ^ 32) (sym (ap has_short is) ∙ fits))) e)
-    c.put_leaf.ensures.ok c.put_leaf.ensures.fits
+    let s = c.args.bytes.now in
+    let before = c.args.out.now.items in
+    let middle = c.put_bytes_head.new.out.items in
+    let after = c.put_all.new.out.items in
+    let headed : middle ≡ before ++ bytes_head (length s) = c.in_ok-put_bytes_head.ensures in
+    let fits : length s < 2 ^ 32 = omega arith in
+    on_ok_weaker c.put_all.result
+    (λ e. short_added (bytes s) (bytes s) before after refl (λ room. bytes_spelled room s fits) (e ∙ ap (λ l. l ++ s) headed ∙ append_assoc before (bytes_head (length s)) s)) c.put_all.ensures

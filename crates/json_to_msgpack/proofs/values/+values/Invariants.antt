@@ -12,13 +12,13 @@ abbrev pub decreases-put_dict : goal.decreases-put_dict
 decreases-put_dict l = 2 * l.room + 1
 
 abbrev pub invariant-put_list-items : goal.invariant-put_list-items
-invariant-put_list-items l = IsListOpen l.room l.initial.reader l.reader l.fn.out.items l.out.items l.count
+invariant-put_list-items l = IsListOpen l.room l.initial.lexer l.lexer l.fn.out.items l.out.items l.count
 
 abbrev pub decreases-put_list-items : goal.decreases-put_list-items
-decreases-put_list-items l = length l.reader
+decreases-put_list-items l = length l.lexer
 
 abbrev pub invariant-put_dict-members : goal.invariant-put_dict-members
-invariant-put_dict-members l = IsDictOpen l.room l.initial.reader l.reader l.fn.out.items l.out.items l.count
+invariant-put_dict-members l = IsDictOpen l.room l.initial.lexer l.lexer l.fn.out.items l.out.items l.count
 
 abbrev pub decreases-put_dict-members : goal.decreases-put_dict-members
-decreases-put_dict-members l = length l.reader
+decreases-put_dict-members l = length l.lexer

@@ -1,0 +1,265 @@
+//! A JSON text, a token at a time.
+ghost use Rattle.std.specs.Prelude.{◌≡◌, ◌≤◌, ◌<◌, ◌+◌, ◌⊎◌, ◌∷◌, [], length, drop, true, IsTrue, IfSome, IfOk};
+ghost use Rattle.std.specs.Bool.{MatchBool};
+ghost use Rattle.std.specs.Str.{IsUtf8};
+ghost use Rattle.json.specs.Token as grammar;
+ghost use Rattle.json.specs.Lex.{tokens};
+ghost use Rattle.json_to_msgpack.specs.body.Lexing.{string_of, token_of, begins_at, closes_at, tokens_left, Begins, closing, IsAfterValue, IsStringAt};
+
+use crate::refusal::Refusal;
+use crate::scan::{octet_at, plain_end, spaces_end};
+use crate::token::{Place, Text, Token};
+use crate::unescape::unescape;
+use crate::words::word_at;
+use std::alloc::Global;
+use std::marker::Model;
+
+impl Place {
+    #[inline(always)]
+    fn may_begin(self) -> bool
+        ensures { result ≡ begins_at self }
+    {
+        matches!(self, Place::Fresh | Place::AfterComma)
+    }
+
+    #[inline(always)]
+    fn may_close(self) -> bool
+        ensures { result ≡ closes_at self }
+    {
+        matches!(self, Place::Fresh | Place::AfterValue)
+    }
+}
+
+/// The string whose quote stands before a place, and where the text goes on behind it.
+#[inline(always)]
+fn string_at<'a>(alloc: Global, text: &'a str, from: usize) -> Result<(Text<'a>, usize), Refusal>
+    requires { (from ≤ length text.now) × IsUtf8 (drop from text.now) }
+    ensures { IfOk result (λ r. IsStringAt text.now from (string_of r.0) r.1) }
+{
+    let stop = plain_end(text.as_bytes(), from);
+    if let Some(b'"') = octet_at(text.as_bytes(), stop) {
+        return Ok((Text::Plain(&text[from..stop]), stop + 1));
+    }
+    match unescape(alloc, text, from) {
+        Ok((unescaped, end)) => Ok((Text::Unescaped(unescaped), end)),
+        Err(refusal) => Err(refusal),
+    }
+}
+
+/// What follows a value: a comma, which is passed, a closing bracket, or the end.
+#[inline(always)]
+fn after_value(octets: &[u8], from: usize) -> Option<(Place, usize)>
+    requires { from ≤ length octets.now }
+    ensures { IfSome result (λ r. IsAfterValue octets.now from r.0 r.1) }
+{
+    let at = spaces_end(octets, from);
+    match octet_at(octets, at) {
+        Some(b',') => Some((Place::AfterComma, spaces_end(octets, at + 1))),
+        Some(b']') => Some((Place::AfterValue, at)),
+        Some(b'}') => Some((Place::AfterValue, at)),
+        None => Some((Place::AfterValue, at)),
+        _ => None,
+    }
+}
+
+/// What a value begins with that stands at a place, what may stand behind it, and where that is.
+#[inline(always)]
+fn token_at<'a>(
+    alloc: Global,
+    text: &'a str,
+    at: usize,
+) -> Result<(Token<'a>, Place, usize), Refusal>
+    ensures { IfOk result
+        (λ r. Begins (drop at text.now) (token_of r.0) r.1 (drop r.2 text.now)) }
+{
+    let octets = text.as_bytes();
+    let Some(first) = octet_at(octets, at) else {
+        return Err(Refusal::Unclear);
+    };
+    match first {
+        b'[' => Ok((Token::BeginArray, Place::Fresh, spaces_end(octets, at + 1))),
+        b'{' => Ok((Token::BeginObject, Place::Fresh, spaces_end(octets, at + 1))),
+        b'"' => string_token(alloc, text, at + 1),
+        _ => word_token(text, at),
+    }
+}
+
+/// The string whose quote stands before a place, as a value.
+#[inline(always)]
+fn string_token<'a>(
+    alloc: Global,
+    text: &'a str,
+    from: usize,
+) -> Result<(Token<'a>, Place, usize), Refusal>
+    requires { (from ≤ length text.now) × IsUtf8 (drop from text.now) }
+    ensures { IfOk result (λ r. Begins (34 ∷ drop from text.now) (token_of r.0) r.1
+        (drop r.2 text.now)) }
+{
+    match string_at(alloc, text, from) {
+        Ok((string, end)) => match after_value(text.as_bytes(), end) {
+            Some((place, next)) => Ok((Token::String(string), place, next)),
+            None => Err(Refusal::Unclear),
+        },
+        Err(refusal) => Err(refusal),
+    }
+}
+
+/// The number or literal at a place.
+#[inline(always)]
+fn word_token<'a>(text: &'a str, at: usize) -> Result<(Token<'a>, Place, usize), Refusal>
+    requires { at < length text.now }
+    ensures { IfOk result
+        (λ r. Begins (drop at text.now) (token_of r.0) r.1 (drop r.2 text.now)) }
+{
+    let Some((token, end)) = word_at(text, at) else {
+        return Err(Refusal::Unclear);
+    };
+    let Some((place, next)) = after_value(text.as_bytes(), end) else {
+        return Err(Refusal::Unclear);
+    };
+    Ok((token, place, next))
+}
+
+/// The key at a place, and where its value may begin.
+#[inline(always)]
+fn key_at<'a>(alloc: Global, text: &'a str, at: usize) -> Result<(Text<'a>, usize), Refusal>
+    ensures { IfOk result (λ r. Begins (drop at text.now) (grammar.key (string_of r.0)) Place.Fresh
+        (drop r.1 text.now)) }
+{
+    let octets = text.as_bytes();
+    let Some(b'"') = octet_at(octets, at) else {
+        return Err(Refusal::Unclear);
+    };
+    match string_at(alloc, text, at + 1) {
+        Ok((key, end)) => {
+            let colon = spaces_end(octets, end);
+            match octet_at(octets, colon) {
+                Some(b':') => Ok((key, spaces_end(octets, colon + 1))),
+                _ => Err(Refusal::Unclear),
+            }
+        }
+        Err(refusal) => Err(refusal),
+    }
+}
+
+/// What stands behind a closing bracket, if it stands at a place and may.
+#[inline(always)]
+fn end_at(octets: &[u8], at: usize, place: Place, bracket: u8) -> Option<(Place, usize)>
+    requires { (bracket ≡ 93) ⊎ (bracket ≡ 125) }
+    ensures { IfSome result (λ r. tokens_left place (drop at octets.now)
+        ≡ closing bracket ∷ tokens_left r.0 (drop r.1 octets.now)) }
+{
+    if octet_at(octets, at)? != bracket || !place.may_close() {
+        return None;
+    }
+    after_value(octets, at + 1)
+}
+
+/// A JSON text. A clause sees the tokens that are still to come.
+#[derive(Drop)]
+pub(crate) struct Lexer<'a> {
+    text: &'a str,
+    at: usize,
+    place: Place,
+}
+
+impl<'a> Model for Lexer<'a> {
+    ghost use Rattle.std.specs.Prelude.{List, drop};
+    ghost use Rattle.json.specs.Token.{Token as GrammarToken, tokens_code};
+
+    ghost Value = { List GrammarToken };
+
+    ghost coded = { tokens_code };
+
+    ghost use Rattle.json_to_msgpack.specs.body.Lexing.{tokens_left};
+
+    ghost view = { λ a. tokens_left a.place (drop a.at a.text.now) };
+}
+
+impl<'a> Lexer<'a> {
+    /// All of a text.
+    #[inline(always)]
+    pub(crate) fn new(text: &'a str) -> Lexer<'a>
+        ensures { result ≡ tokens text.now }
+    {
+        Lexer {
+            text,
+            at: spaces_end(text.as_bytes(), 0),
+            place: Place::Fresh,
+        }
+    }
+
+    /// Whether no token is left.
+    pub(crate) fn is_at_end(&self) -> bool
+        ensures { IsTrue result → self.now ≡ [] }
+    {
+        self.place.may_close() && self.at == self.text.len()
+    }
+
+    /// Takes what a value begins with.
+    #[inline(always)]
+    pub(crate) fn take_token(&mut self, alloc: Global) -> Result<Token<'a>, Refusal>
+        ensures { IfOk result (λ t. self.old ≡ token_of t ∷ self.new) }
+    {
+        if !self.place.may_begin() {
+            return Err(Refusal::Unclear);
+        }
+        match token_at(alloc, self.text, self.at) {
+            Ok((token, place, at)) => {
+                self.place = place;
+                self.at = at;
+                Ok(token)
+            }
+            Err(refusal) => Err(refusal),
+        }
+    }
+
+    /// Takes a key and its colon.
+    #[inline(always)]
+    pub(crate) fn take_key(&mut self, alloc: Global) -> Result<Text<'a>, Refusal>
+        ensures { IfOk result (λ k. self.old ≡ grammar.key (string_of k) ∷ self.new) }
+    {
+        if !self.place.may_begin() {
+            return Err(Refusal::Unclear);
+        }
+        match key_at(alloc, self.text, self.at) {
+            Ok((key, at)) => {
+                self.place = Place::Fresh;
+                self.at = at;
+                Ok(key)
+            }
+            Err(refusal) => Err(refusal),
+        }
+    }
+
+    /// Takes the bracket that closes a list, where it stands next.
+    #[inline(always)]
+    pub(crate) fn take_end_array(&mut self) -> bool
+        ensures { MatchBool result (self.old ≡ grammar.end_array ∷ self.new) (self.new ≡ self.old) }
+    {
+        match end_at(self.text.as_bytes(), self.at, self.place, b']') {
+            Some((place, at)) => {
+                self.place = place;
+                self.at = at;
+                true
+            }
+            None => false,
+        }
+    }
+
+    /// Takes the bracket that closes a dictionary, where it stands next.
+    #[inline(always)]
+    pub(crate) fn take_end_object(&mut self) -> bool
+        ensures { MatchBool result (self.old ≡ grammar.end_object ∷ self.new)
+            (self.new ≡ self.old) }
+    {
+        match end_at(self.text.as_bytes(), self.at, self.place, b'}') {
+            Some((place, at)) => {
+                self.place = place;
+                self.at = at;
+                true
+            }
+            None => false,
+        }
+    }
+}
