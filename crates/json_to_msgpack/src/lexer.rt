@@ -237,6 +237,9 @@ impl<'a> Lexer<'a> {
     pub(crate) fn take_end_array(&mut self) -> bool
         ensures { MatchBool result (self.old ≡ grammar.end_array ∷ self.new) (self.new ≡ self.old) }
     {
+        let Some(b']') = octet_at(self.text.as_bytes(), self.at) else {
+            return false;
+        };
         match end_at(self.text.as_bytes(), self.at, self.place, b']') {
             Some((place, at)) => {
                 self.place = place;
@@ -253,6 +256,9 @@ impl<'a> Lexer<'a> {
         ensures { MatchBool result (self.old ≡ grammar.end_object ∷ self.new)
             (self.new ≡ self.old) }
     {
+        let Some(b'}') = octet_at(self.text.as_bytes(), self.at) else {
+            return false;
+        };
         match end_at(self.text.as_bytes(), self.at, self.place, b'}') {
             Some((place, at)) => {
                 self.place = place;

@@ -43,8 +43,8 @@ pub(crate) fn spaces_end(octets: &[u8], from: usize) -> usize
     at
 }
 
-/// Whether an octet of a string stands for itself: all but quotes, backslashes and control octets do.
-/// What texts mostly have is looked at first.
+/// Whether an octet of a string stands for itself: all but quotes, backslashes and control octets
+/// do. What texts mostly have is looked at first.
 #[inline(always)]
 fn is_plain(octet: u8) -> bool
     ensures { result ≡ is_plain octet }

@@ -50,21 +50,22 @@ fn octets_of(alloc: Global, text: &str) -> Result<Vec<u8>, Refusal>
 /// Octets of MessagePack that spell the message that a JSON text is (RFC 8259), as
 /// [`json_codec::decode`] would read it; no tree is built.
 ///
-/// Heads, whole numbers, texts and byte strings are the shortest. Keys stand as they come, repeated
-/// ones too: of these the last counts, as in the text. A number that isn't whole, or outside -2^63 to
-/// 2^64 - 1, is written as the float 0, since a message doesn't carry it. So where keys ascend and all
-/// is carried, the octets are those that `msgpack_codec` writes.
+/// Heads, whole numbers, texts and byte strings are the shortest. Keys stand as they come,
+/// repeated ones too: of these the last counts, as in the text. A number that isn't whole, or
+/// outside -2^63 to 2^64 - 1, is written as the float 0, since a message doesn't carry it. So
+/// where keys ascend and all is carried, the octets are those that `msgpack_codec` writes.
 ///
-/// `None` where it isn't for this crate to say what the text means: it isn't UTF-8, it is no JSON, it
-/// nests more than 100 levels, a number in it is too large for a float, or a text, list or dictionary
-/// in it has 2^32 octets or members. `json_codec::decode` tells the fault.
+/// `None` where it isn't for this crate to say what the text means: it isn't UTF-8, it is no JSON,
+/// it nests more than 100 levels, a number in it is too large for a float, or a text, list or
+/// dictionary in it has 2^32 octets or members. `json_codec::decode` tells the fault.
 ///
 /// Memory: the buffer that is given has one octet for each octet of the text from the start, which
-/// most texts stay within; none becomes more than five octets for two (`-0`), so that the buffer is
-/// doubled twice at most, to four for each, with two more while it is copied. A string that has
-/// escapes is copied without them, and a byte string takes three octets for four while it is decoded.
-/// What is inside of a list or dictionary of 16 members or more is copied once when its head is
-/// written, and back: of a text that nests such lists in one another that is up to 200 copies.
+/// most texts stay within; none becomes more than five octets for two (`-0`), so that the buffer
+/// is doubled twice at most, to four for each, with two more while it is copied. A string that has
+/// escapes is copied without them, and a byte string takes three octets for four while it is
+/// decoded. What is inside of a list or dictionary of 16 members or more is copied once when its
+/// head is written, and back: of a text that nests such lists in one another that is up to 200
+/// copies.
 ///
 /// # Errors
 /// [`AllocError`] where a growth was refused.

@@ -44,7 +44,8 @@ fn unit_at(octets: &[u8], at: usize) -> Option<u32>
     }
 }
 
-/// The second half of a surrogate pair, behind the first: the character, and where the text goes on.
+/// The second half of a surrogate pair, behind the first: the character, and where the text goes
+/// on.
 fn low_half(octets: &[u8], at: usize, high: u32) -> Option<(char, usize)>
     requires { (at ≤ length octets.now) × (0xd800 ≤ high) × (high < 0xdc00) }
     ensures read { IfSome result

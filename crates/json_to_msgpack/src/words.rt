@@ -11,7 +11,8 @@ use crate::token::Token;
 #[inline(always)]
 fn some_digits(octets: &[u8], from: usize) -> Option<usize>
     requires { from ≤ length octets.now }
-    ensures { IfSome result (λ end. IsPart octets.now from (after_digits (drop from octets.now)) end) }
+    ensures { IfSome result
+        (λ end. IsPart octets.now from (after_digits (drop from octets.now)) end) }
 {
     let end = digits_end(octets, from);
     if end == from { None } else { Some(end) }
@@ -21,7 +22,8 @@ fn some_digits(octets: &[u8], from: usize) -> Option<usize>
 #[inline(always)]
 fn whole_end(octets: &[u8], from: usize) -> Option<usize>
     requires { from ≤ length octets.now }
-    ensures { IfSome result (λ end. IsPart octets.now from (after_whole (drop from octets.now)) end) }
+    ensures { IfSome result
+        (λ end. IsPart octets.now from (after_whole (drop from octets.now)) end) }
 {
     match octet_at(octets, from) {
         Some(b'0') => Some(from + 1),
@@ -95,7 +97,8 @@ fn minus_end(octets: &[u8], from: usize) -> usize
 #[inline(always)]
 fn number_end(octets: &[u8], from: usize) -> Option<usize>
     requires { from ≤ length octets.now }
-    ensures { IfSome result (λ end. IsPart octets.now from (after_number (drop from octets.now)) end) }
+    ensures { IfSome result
+        (λ end. IsPart octets.now from (after_number (drop from octets.now)) end) }
 {
     let point = whole_end(octets, minus_end(octets, from))?;
     let power = fraction_end(octets, point)?;
