@@ -1,15 +1,14 @@
 -- What the text gives, by what stands first in it.
-use Rattle.std.proofs.Common.{◌≡◌, ℕ, ◌+◌, ◌<◌, ◌≤◌, Bool, true, false, cond, ◌==◌, ◌⊎◌, inl, inr, List, [], ◌∷◌, length, drop, Option, Some, None, refl, sym, ap, ◌∙◌, subst, arith}
+use Rattle.std.proofs.Common.{◌≡◌, ℕ, ◌+◌, ◌<◌, ◌≤◌, Bool, true, ◌⊎◌, inl, inr, List, [], ◌∷◌, drop, refl, sym, ap, ◌∙◌, subst, arith}
 use Rattle.std.proofs.lemmas.Bool.{false≢true, cases_lt}
 use Rattle.json.specs.Token as spec
 use Rattle.json.specs.Token.{Token}
-use Rattle.json.specs.Text.{content, plain}
 use Rattle.json.specs.Word.{head, ends_word, word}
 use Rattle.json.specs.Cursor.{is_leaf}
-use Rattle.json.specs.Lex.{Lexeme, token, comma, colon, other, class, string_token, Mode, between, in_word, in_string, lex_byte, lex, Place, fresh, after_value, after_comma, after_key, begins_colon, may_begin, may_close, if_allowed, place_token, punctuate}
+use Rattle.json.specs.Lex.{token, comma, colon, other, class, string_token, between, in_word, in_string, lex_byte, lex, Place, fresh, after_value, after_comma, after_key, begins_colon, may_begin, may_close, if_allowed, place_token, punctuate}
 use Rattle.json_to_msgpack.specs.declared.token.Place as place
 use Rattle.json_to_msgpack.specs.declared.token.Place.TheVariants.{Fresh, AfterValue, AfterComma}
-use Rattle.json_to_msgpack.specs.body.Lexing.{place_of, begins_at, closes_at, tokens_left, Begins, closing, IsAfterValue, IsStringAt, IsWordAt}
+use Rattle.json_to_msgpack.specs.body.Lexing.{place_of, tokens_left, Begins, closing, IsAfterValue, IsStringAt, IsWordAt}
 use Rattle.json_to_msgpack.proofs.Octets.{word_over}
 
 allowed : (b : Bool) (t : Token) (k : Place → List Token) (next : Place) → b ≡ true → if_allowed b t k next ≡ t ∷ k next
@@ -107,12 +106,12 @@ end_after text from at same e ended =
 
 -- ---- from the lexer's places
 
-pub begun : (here after : place.Place) (old left : List ℕ) (t : Token) → begins_at here ≡ true → Begins old t after left → tokens_left here old ≡ t ∷ tokens_left after left
+pub begun : (here after : place.Place) (old left : List ℕ) (t : Token) → may_begin (place_of here) ≡ true → Begins old t after left → tokens_left here old ≡ t ∷ tokens_left after left
 begun Fresh after old left t may h = h fresh refl
 begun AfterValue after old left t may h = absurd (false≢true may)
 begun AfterComma after old left t may h = h after_comma refl
 
-pub closes : (here after : place.Place) (text : List ℕ) (at next bracket : ℕ) → closes_at here ≡ true → (bracket ≡ 93) ⊎ (bracket ≡ 125) → drop at text ≡ bracket ∷ drop (at + 1) text → IsAfterValue text (at + 1) after next
+pub closes : (here after : place.Place) (text : List ℕ) (at next bracket : ℕ) → may_close (place_of here) ≡ true → (bracket ≡ 93) ⊎ (bracket ≡ 125) → drop at text ≡ bracket ∷ drop (at + 1) text → IsAfterValue text (at + 1) after next
     → tokens_left here (drop at text) ≡ closing bracket ∷ tokens_left after (drop next text)
 unfolding lex punctuate
 closes here after text at next bracket may b e behind = close_place here may b
@@ -131,12 +130,12 @@ closes here after text at next bracket may b e behind = close_place here may b
     either p may (inl is) = list_end p may is
     either p may (inr is) = dict_end p may is
 
-    close_place : (h : place.Place) → closes_at h ≡ true → (bracket ≡ 93) ⊎ (bracket ≡ 125) → tokens_left h (drop at text) ≡ closing bracket ∷ tokens_left after (drop next text)
+    close_place : (h : place.Place) → may_close (place_of h) ≡ true → (bracket ≡ 93) ⊎ (bracket ≡ 125) → tokens_left h (drop at text) ≡ closing bracket ∷ tokens_left after (drop next text)
     close_place Fresh may b = either fresh refl b
     close_place AfterValue may b = either after_value refl b
     close_place AfterComma may b = absurd (false≢true may)
 
-pub no_tokens : (here : place.Place) (t : List ℕ) → closes_at here ≡ true → t ≡ [] → tokens_left here t ≡ []
+pub no_tokens : (here : place.Place) (t : List ℕ) → may_close (place_of here) ≡ true → t ≡ [] → tokens_left here t ≡ []
 unfolding lex punctuate
 no_tokens Fresh t may e = ap (λ l. punctuate fresh (lex between l)) e
 no_tokens AfterValue t may e = ap (λ l. punctuate after_value (lex between l)) e

@@ -4,11 +4,11 @@ use Rattle.std.proofs.lemmas.Bool.{true≢false, false≢true, ne_eqb, and_parts
 use Rattle.std.proofs.lemmas.Str.{IsUtf8-drop, IsCharBoundary-after_ascii}
 use Rattle.std.proofs.lemmas.List.{drop-drop}
 use Rattle.std.specs.Str.{IsUtf8}
-use Rattle.std.specs.Char.{is_digit, digit_value, encode_utf8, InScalarRange}
+use Rattle.std.specs.Char.{is_digit, encode_utf8, InScalarRange}
 use Rattle.std.specs.List.{prefix_len}
 use Rattle.json.specs.Text.{Within, plain, after_backslash, after_u, after_high, prepend, content, code_unit, short_escape, is_high_surrogate, is_low_surrogate, surrogate_pair}
 use Rattle.json.specs.Word.{is_operator, is_space}
-use Rattle.json.specs.Lex.{Lexeme, Class, quote, backslash, operator, space, other, class, Mode, between, in_string, in_escape, lex_byte, lex}
+use Rattle.json.specs.Lex.{Lexeme, quote, backslash, operator, space, other, Mode, between, in_string, in_escape, lex_byte, lex}
 use Rattle.json.specs.Run.{is_plain}
 use Rattle.json_to_msgpack.proofs.Octets.{octet_of}
 use Rattle.json_to_msgpack.specs.body.Lexing.{IsRead, IsStringAt, IsUnit, IsEscape}
@@ -186,15 +186,14 @@ escape_as w m old o c d new n e f g h = subst (λ x. IsEscape w m x c new) (sym 
 
 -- ---- halves of surrogate pairs
 
-and_false : (b : Bool) → (b && false) ≡ false
-and_false true = refl
-and_false false = refl
+never : (b : Bool) → (b && false) ≡ false
+never b = elim b as (λ x. (x && false) ≡ false) [ true ↦ refl | false ↦ refl ]
 
 pub no_halves : (u : ℕ) → InScalarRange u → (is_high_surrogate u ≡ false) × (is_low_surrogate u ≡ false)
 no_halves u (inl a) = ((λ i. lt-leb 0xd800 u a i && nat_lt u 0xdc00), (λ i. lt-leb 0xdc00 u (omega arith) i && nat_lt u 0xe000))
 no_halves u (inr b) =
     let low = b.0 in
-    ((λ i. nat_le 0xd800 u && le-ltb u 0xdc00 (omega arith) i) ∙ and_false (nat_le 0xd800 u), (λ i. nat_le 0xdc00 u && le-ltb u 0xe000 low i) ∙ and_false (nat_le 0xdc00 u))
+    ((λ i. nat_le 0xd800 u && le-ltb u 0xdc00 (omega arith) i) ∙ never (nat_le 0xd800 u), (λ i. nat_le 0xdc00 u && le-ltb u 0xe000 low i) ∙ never (nat_le 0xdc00 u))
 
 pub high_half : (u : ℕ) → 0xd800 ≤ u → u < 0xdc00 → is_high_surrogate u ≡ true
 high_half u a b = λ i. le-leb 0xd800 u a i && lt-ltb u 0xdc00 b i

@@ -3,8 +3,8 @@ ghost use Rattle.std.specs.Prelude.{◌≡◌, ◌≤◌, ◌<◌, ◌+◌, ◌�
 ghost use Rattle.std.specs.Bool.{MatchBool};
 ghost use Rattle.std.specs.Str.{IsUtf8};
 ghost use Rattle.json.specs.Token as grammar;
-ghost use Rattle.json.specs.Lex.{tokens};
-ghost use Rattle.json_to_msgpack.specs.body.Lexing.{string_of, token_of, begins_at, closes_at, tokens_left, Begins, closing, IsAfterValue, IsStringAt};
+ghost use Rattle.json.specs.Lex.{may_begin, may_close, tokens};
+ghost use Rattle.json_to_msgpack.specs.body.Lexing.{string_of, token_of, place_of, tokens_left, Begins, closing, IsAfterValue, IsStringAt};
 
 use crate::refusal::Refusal;
 use crate::scan::{octet_at, plain_end, spaces_end};
@@ -15,18 +15,26 @@ use std::alloc::Global;
 use std::marker::Model;
 
 impl Place {
+    /// Whether a value or a key may stand next.
     #[inline(always)]
-    fn may_begin(self) -> bool
-        ensures { result ≡ begins_at self }
+    fn is_open(self) -> bool
+        ensures { result ≡ may_begin (place_of self) }
     {
-        matches!(self, Place::Fresh | Place::AfterComma)
+        match self {
+            Place::AfterValue => false,
+            Place::Fresh | Place::AfterComma => true,
+        }
     }
 
+    /// Whether a closing bracket, or the end, may stand next.
     #[inline(always)]
-    fn may_close(self) -> bool
-        ensures { result ≡ closes_at self }
+    fn is_complete(self) -> bool
+        ensures { result ≡ may_close (place_of self) }
     {
-        matches!(self, Place::Fresh | Place::AfterValue)
+        match self {
+            Place::AfterComma => false,
+            Place::Fresh | Place::AfterValue => true,
+        }
     }
 }
 
@@ -149,7 +157,7 @@ fn end_at(octets: &[u8], at: usize, place: Place, bracket: u8) -> Option<(Place,
     ensures { IfSome result (λ r. tokens_left place (drop at octets.now)
         ≡ closing bracket ∷ tokens_left r.0 (drop r.1 octets.now)) }
 {
-    if octet_at(octets, at)? != bracket || !place.may_close() {
+    if octet_at(octets, at)? != bracket || !place.is_complete() {
         return None;
     }
     after_value(octets, at + 1)
@@ -193,7 +201,7 @@ impl<'a> Lexer<'a> {
     pub(crate) fn is_at_end(&self) -> bool
         ensures { IsTrue result → self.now ≡ [] }
     {
-        self.place.may_close() && self.at == self.text.len()
+        self.place.is_complete() && self.at == self.text.len()
     }
 
     /// Takes what a value begins with.
@@ -201,7 +209,7 @@ impl<'a> Lexer<'a> {
     pub(crate) fn take_token(&mut self, alloc: Global) -> Result<Token<'a>, Refusal>
         ensures { IfOk result (λ t. self.old ≡ token_of t ∷ self.new) }
     {
-        if !self.place.may_begin() {
+        if !self.place.is_open() {
             return Err(Refusal::Unclear);
         }
         match token_at(alloc, self.text, self.at) {
@@ -219,7 +227,7 @@ impl<'a> Lexer<'a> {
     pub(crate) fn take_key(&mut self, alloc: Global) -> Result<Text<'a>, Refusal>
         ensures { IfOk result (λ k. self.old ≡ grammar.key (string_of k) ∷ self.new) }
     {
-        if !self.place.may_begin() {
+        if !self.place.is_open() {
             return Err(Refusal::Unclear);
         }
         match key_at(alloc, self.text, self.at) {

@@ -37,11 +37,10 @@ fn unit_at(octets: &[u8], at: usize) -> Option<u32>
     let b = digit(octets[at + 1]);
     let c = digit(octets[at + 2]);
     let d = digit(octets[at + 3]);
-    if (a < 16) & (b < 16) & (c < 16) & (d < 16) {
-        Some(a * 4096 + b * 256 + c * 16 + d)
-    } else {
-        None
+    if a >= 16 || b >= 16 || c >= 16 || d >= 16 {
+        return None;
     }
+    Some(((a * 16 + b) * 16 + c) * 16 + d)
 }
 
 /// The second half of a surrogate pair, behind the first: the character, and where the text goes

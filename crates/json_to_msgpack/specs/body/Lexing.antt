@@ -1,5 +1,5 @@
 -- What the lexer's clauses speak of: what was read of a text, and what is left of it.
-use Rattle.std.specs.Prelude.{◌≡◌, ◌==◌, ℕ, ◌≤◌, Bool, true, false, cond, List, ◌∷◌, length, drop, Option, Some}
+use Rattle.std.specs.Prelude.{◌≡◌, ◌==◌, ℕ, ◌≤◌, true, false, cond, List, ◌∷◌, length, drop, Option, Some}
 use Rattle.std.specs.Char.{encode_utf8}
 use Rattle.std.specs.Str.{IsUtf8}
 use Rattle.std.specs.String.{string_bytes}
@@ -34,16 +34,6 @@ abbrev pub place_of : Place → lexing.Place
 place_of Fresh = lexing.fresh
 place_of AfterValue = lexing.after_value
 place_of AfterComma = lexing.after_comma
-
-abbrev pub closes_at : Place → Bool
-closes_at Fresh = true
-closes_at AfterValue = true
-closes_at AfterComma = false
-
-abbrev pub begins_at : Place → Bool
-begins_at Fresh = true
-begins_at AfterValue = false
-begins_at AfterComma = true
 
 -- the tokens of a text, from such a place on
 abbrev pub tokens_left : Place → List ℕ → List spec.Token

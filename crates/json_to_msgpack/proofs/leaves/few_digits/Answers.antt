@@ -10,13 +10,13 @@ some_digits (x ∷ s) e = omega arith
 
 pub digits-preserved : goal.digits-preserved
 digits-preserved c =
-    let l = c.digits in
-    let step = digit_more c.args.number.now l.octet-index l.value c.digits-test.true c.if-octet-lt48.false c.if-octet-gt57.false l.invariant.value l.invariant.all in
+    let turn = c.digits in
+    let step = digit_more c.args.number.now turn.octet-index turn.value c.digits-test.true c.if-octet-lt48.false c.if-octet-gt57.false turn.invariant.value turn.invariant.all in
     record { value = step.0; all = step.1 }
 
 pub returns : goal.returns
 returns c =
     let s = c.args.number.now in
-    let l = c.digits in
-    let whole : take l.octet-index s ≡ s = take_all l.octet-index s c.digits-test.false in
-    digits_number s l.value (some_digits s (sym c.is_empty.ensures ∙ c.if-is_empty.false)) (subst (AllDigits 10) whole l.invariant.all) (l.invariant.value ∙ ap (digits_value 10) whole) l.auto.value-fits.fits
+    let turn = c.digits in
+    let whole : take turn.octet-index s ≡ s = take_all turn.octet-index s c.digits-test.false in
+    digits_number s turn.value (some_digits s (sym c.is_empty.ensures ∙ c.if-is_empty.false)) (subst (AllDigits 10) whole turn.invariant.all) (turn.invariant.value ∙ ap (digits_value 10) whole) turn.auto.value-fits.fits

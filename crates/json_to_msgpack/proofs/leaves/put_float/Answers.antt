@@ -1,4 +1,4 @@
-use Rattle.std.proofs.Common.{◌≡◌, ◌++◌, ◌∷◌, [], true, arith}
+use Rattle.std.proofs.Common.{◌≡◌, ◌∷◌, [], true, arith}
 use Rattle.std.specs.Float.{binary64, float_is_finite}
 use Rattle.std.proofs.lemmas.Grind.{common_steps}
 use Rattle.std.proofs.lemmas.Result.{on_ok_weaker}

@@ -1,4 +1,4 @@
-use Rattle.std.proofs.Common.{◌≡◌, ◌+◌, ◌∷◌, refl, ap, ◌∙◌, arith, drop}
+use Rattle.std.proofs.Common.{◌+◌, ◌∷◌, refl, ap, ◌∙◌, arith, drop}
 use Rattle.std.proofs.lemmas.Bool.{ne_eqb}
 use Rattle.std.proofs.lemmas.Str.{encode_ascii}
 use Rattle.json.specs.Text.{after_backslash}

@@ -1,7 +1,7 @@
-use Rattle.std.proofs.Common.{◌≡◌, ℕ, ◌+◌, ◌<◌, ◌∷◌, List, Some, drop, cond, refl, ap, ◌∙◌, length, arith}
-use Rattle.json.specs.Word.{head, after_digits, after_minus, after_sign, after_whole, after_fraction, after_exponent}
+use Rattle.std.proofs.Common.{◌≡◌, ◌+◌, ◌∷◌, drop, refl, ap, ◌∙◌, arith}
+use Rattle.json.specs.Word.{after_digits, after_sign, after_exponent}
 use Rattle.json_to_msgpack.proofs.Found.{some_weaker}
-use Rattle.json_to_msgpack.proofs.WordParts.{part_octet, octet_then, digits_part, signed_part}
+use Rattle.json_to_msgpack.proofs.WordParts.{octet_then}
 use Rattle.json_to_msgpack.proofs.words.exponent_end.Goals as goal
 
 pub returns-in-Some-eq101 : goal.returns-in-Some-eq101

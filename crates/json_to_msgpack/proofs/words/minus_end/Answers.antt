@@ -1,7 +1,6 @@
-use Rattle.std.proofs.Common.{◌≡◌, ℕ, ◌+◌, ◌<◌, ◌∷◌, List, Some, drop, cond, refl, ap, ◌∙◌, length, arith}
-use Rattle.json.specs.Word.{head, after_digits, after_minus, after_sign, after_whole, after_fraction, after_exponent}
-use Rattle.json_to_msgpack.proofs.Found.{some_weaker}
-use Rattle.json_to_msgpack.proofs.WordParts.{part_octet, octet_then, digits_part, signed_part}
+use Rattle.std.proofs.Common.{◌≡◌, ◌+◌, ◌∷◌, Some, drop, refl, ap, ◌∙◌, arith}
+use Rattle.json.specs.Word.{after_minus}
+use Rattle.json_to_msgpack.proofs.WordParts.{part_octet}
 use Rattle.json_to_msgpack.proofs.words.minus_end.Goals as goal
 
 pub returns-in-Some-eq45 : goal.returns-in-Some-eq45

@@ -1,4 +1,4 @@
-use Rattle.std.proofs.Common.{◌≡◌, ◌-◌, take, drop, ap, subst}
+use Rattle.std.proofs.Common.{◌-◌, take, drop, ap}
 use Rattle.json.specs.Word.{after_number}
 use Rattle.json_to_msgpack.specs.body.Lexing.{IsPart}
 use Rattle.json_to_msgpack.proofs.WordParts.{number_word}

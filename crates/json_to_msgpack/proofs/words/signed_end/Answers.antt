@@ -1,7 +1,5 @@
-use Rattle.std.proofs.Common.{◌≡◌, ℕ, ◌+◌, ◌<◌, ◌∷◌, List, Some, drop, cond, refl, ap, ◌∙◌, length, arith}
-use Rattle.json.specs.Word.{head, after_digits, after_minus, after_sign, after_whole, after_fraction, after_exponent}
 use Rattle.json_to_msgpack.proofs.Found.{some_weaker}
-use Rattle.json_to_msgpack.proofs.WordParts.{part_octet, octet_then, digits_part, signed_part}
+use Rattle.json_to_msgpack.proofs.WordParts.{signed_part}
 use Rattle.json_to_msgpack.proofs.words.signed_end.Goals as goal
 
 pub returns : goal.returns
