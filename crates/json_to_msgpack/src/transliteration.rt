@@ -1,28 +1,18 @@
 //! From a JSON text to octets of MessagePack.
-ghost use Rattle.std.specs.Prelude.{◌≡◌, IfOk, IfSome, IsTrue, IsAscii};
+ghost use Rattle.std.specs.Prelude.{◌≡◌, IfOk, IfSome};
 ghost use Rattle.json_to_msgpack.specs.Transliteration.{SaysTheSame};
 ghost use Rattle.json_to_msgpack.specs.body.Values.{IsTextAdded};
 
 use crate::lexer::Lexer;
 use crate::refusal::Refusal;
 use crate::values::put_value;
+use msgpack_codec::is_ascii;
 use simdutf8::basic::from_utf8;
 use std::alloc::{AllocError, Global};
 use std::str::from_utf8_unchecked;
 
 /// How deep lists and dictionaries may nest.
 const ROOM: u8 = 100;
-
-/// Whether all octets are ASCII's, as mostly: it reads many at a time.
-fn is_ascii(octets: &[u8]) -> bool
-    ensures { IsTrue result → IsAscii octets.now }
-{
-    let mut ascii = true;
-    for octet in octets {
-        ascii = (*octet < 128) & ascii;
-    }
-    ascii
-}
 
 /// The text that octets are in UTF-8, if they are one.
 fn text_of(octets: &[u8]) -> Option<&str>

@@ -28,3 +28,4 @@ pub use encoder::{encode, encode_into, encode_number_into, encode_text_into};
 pub use fault::Fault;
 pub use passing::{Passed, Refusal, pass};
 pub use tokens::{Malformed, Token, first_token};
+pub use utf8::is_ascii;

@@ -6,8 +6,9 @@ ghost use Rattle.std.specs.Str.{IsAscii};
 #[derive(Clone, Copy, Debug, Drop)]
 pub(crate) struct NotUtf8;
 
-/// Whether each octet is one of ASCII. It stops nowhere before the end: so the octets are looked at many at once.
-fn is_ascii(octets: &[u8]) -> bool
+/// Whether each octet is one of ASCII, as in most texts. It stops nowhere before the end, so that many octets are looked at at once: it
+/// takes far less time than to tell UTF-8.
+pub fn is_ascii(octets: &[u8]) -> bool
     ensures { result ≡ true → IsAscii octets.now }
 {
     let mut bits = 0;
