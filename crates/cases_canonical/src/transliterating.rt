@@ -1,34 +1,41 @@
 //! What a JSON text is in MessagePack.
 use crate::canonical::shaped;
 use case_text::{line_of, spell};
-use json_to_msgpack::to_msgpack;
+use json_to_msgpack::{Transliteration, to_msgpack};
 use std::alloc::Global;
 use std::io;
 
-/// The octets of MessagePack that a JSON text becomes, and whether they are the message that it is read as; or `none`, and the
-/// fault of the text.
+/// The octets of MessagePack that a JSON text becomes, and whether they are the message that it is read as; or `no JSON` or
+/// `undecided`, and what the text is.
 pub fn transliterate(alloc: Global, json: &[u8]) -> io::Result<String> {
     match to_msgpack(alloc, json) {
-        Ok(Some(octets)) => compare(alloc, json, &octets),
-        Ok(None) => match json_codec::decode(alloc, json) {
-            Ok(_) => line_of(alloc, "none read"),
-            Err(fault) => Ok(format!(in alloc; "none {fault}\n")?),
-        },
+        Ok(Transliteration::Octets(octets)) => compare(alloc, json, &octets),
+        Ok(Transliteration::NoJson) => left(alloc, "no JSON", json),
+        Ok(Transliteration::Undecided) => left(alloc, "undecided", json),
         Err(_) => line_of(alloc, "E1 no memory"),
+    }
+}
+
+/// A word, and what a JSON text is that doesn't become octets: read, or its fault.
+fn left(alloc: Global, word: &str, json: &[u8]) -> io::Result<String> {
+    match json_codec::decode(alloc, json) {
+        Ok(_) => Ok(format!(in alloc; "{word}, read\n")?),
+        Err(fault) => Ok(format!(in alloc; "{word}, {fault}\n")?),
     }
 }
 
 /// The first octets of what the JSON text becomes that `N HEAD MEMBER END` stands for, and how many there are.
 pub fn transliterate_long(alloc: Global, text: &str) -> io::Result<String> {
     match to_msgpack(alloc, &shaped(alloc, text)?) {
-        Ok(Some(octets)) => {
+        Ok(Transliteration::Octets(octets)) => {
             let len = octets.len();
             let mut told = String::new(alloc);
             let first = if len < 8 { &octets[..] } else { &octets[..8] };
             spell(&mut told, first)?;
             Ok(format!(in alloc; "{told} {len} octets\n")?)
         }
-        Ok(None) => line_of(alloc, "none"),
+        Ok(Transliteration::NoJson) => line_of(alloc, "no JSON"),
+        Ok(Transliteration::Undecided) => line_of(alloc, "undecided"),
         Err(_) => line_of(alloc, "E1 no memory"),
     }
 }

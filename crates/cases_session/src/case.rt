@@ -6,6 +6,7 @@ use crate::saying::{payload, said};
 use crate::telling::{faults, reasons, replies};
 use crate::writing::{frame, frames};
 use case_text::{Table, line_of, number_of, octets_of};
+use rawsocket::Serializer;
 use std::alloc::Global;
 use std::io;
 
@@ -31,7 +32,7 @@ impl Table for Case {
                 line_of(alloc, line)
             }
             Some(("say", json)) => said(alloc, json),
-            Some(("payload", text)) => payload(alloc, &octets_of(alloc, text)?),
+            Some(("payload", text)) => payload(alloc, Serializer::MsgPack, &octets_of(alloc, text)?),
             Some(("event", text)) => event(alloc, text),
             Some(("carried", json)) => carried(alloc, json),
             Some(("args", text)) => args(alloc, &octets_of(alloc, text)?),

@@ -2,23 +2,20 @@
 use crate::asking::{publish_options, subscribe_options};
 use message_tree::{Message, Text, Tree};
 use rawsocket::Serializer;
-use session::{Args, Fault, Said, decode, read_payload, read_said};
+use session::{Args, AtOnce, Fault, Said, decode, read_payload, read_said};
 use std::alloc::Global;
 use std::io;
 use wamp_ids::Id;
 
-/// What a message in JSON says.
+/// What a message in JSON says, unless its tree says something else.
 pub fn said(alloc: Global, json: &str) -> io::Result<String> {
-    match json_codec::decode(alloc, json.as_bytes()) {
-        Ok(message) => answer(alloc, read_said(alloc, message)),
-        Err(fault) => Ok(format!(in alloc; "{fault}\n")?),
-    }
+    payload(alloc, Serializer::Json, json.as_bytes())
 }
 
-/// What the octets of a message in MessagePack say, unless its tree says something else.
-pub fn payload(alloc: Global, octets: &[u8]) -> io::Result<String> {
-    let words = answer(alloc, read_payload(alloc, Serializer::MsgPack, octets))?;
-    let by_tree = answer(alloc, said_by_tree(alloc, octets))?;
+/// What the octets of a message say, unless its tree says something else.
+pub fn payload(alloc: Global, serializer: Serializer, octets: &[u8]) -> io::Result<String> {
+    let words = answer(alloc, read_payload(alloc, serializer, octets, &AtOnce))?;
+    let by_tree = answer(alloc, said_by_tree(alloc, serializer, octets))?;
     if words == by_tree {
         Ok(words)
     } else {
@@ -26,8 +23,8 @@ pub fn payload(alloc: Global, octets: &[u8]) -> io::Result<String> {
     }
 }
 
-fn said_by_tree(alloc: Global, octets: &[u8]) -> Result<Said, Fault> {
-    read_said(alloc, decode(alloc, Serializer::MsgPack, octets)?)
+fn said_by_tree(alloc: Global, serializer: Serializer, octets: &[u8]) -> Result<Said, Fault> {
+    read_said(alloc, decode(alloc, serializer, octets)?)
 }
 
 fn answer(alloc: Global, said: Result<Said, Fault>) -> io::Result<String> {

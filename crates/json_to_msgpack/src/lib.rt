@@ -16,4 +16,4 @@ mod values;
 mod words;
 mod writing;
 
-pub use transliteration::to_msgpack;
+pub use transliteration::{Transliteration, to_msgpack};

@@ -1,11 +1,13 @@
 //! From a JSON text to octets of MessagePack.
-ghost use Rattle.std.specs.Prelude.{◌≡◌, IfOk, IfSome};
-ghost use Rattle.json_to_msgpack.specs.Transliteration.{SaysTheSame};
+ghost use Rattle.std.specs.Prelude.{◌≡◌, ⊥, IfOk, MatchOption, IsUtf8, Ok, false, true};
+ghost use Rattle.serde_json.specs.Read.{read};
+ghost use Rattle.json_to_msgpack.specs.Transliteration.{IsTransliterated, IsWellFormed};
 ghost use Rattle.json_to_msgpack.specs.body.Values.{IsTextAdded};
 
 use crate::lexer::Lexer;
 use crate::refusal::Refusal;
 use crate::values::put_value;
+use json::{Reader, Scratch};
 use msgpack_codec::is_ascii;
 use simdutf8::basic::from_utf8;
 use std::alloc::{AllocError, Global};
@@ -14,9 +16,26 @@ use std::str::from_utf8_unchecked;
 /// How deep lists and dictionaries may nest.
 const ROOM: u8 = 100;
 
+/// How deep they may nest in a text that is read at all, where the deeper ones stand under keys that come once more.
+const MOST_LEVELS: usize = 127;
+
+/// What a JSON text becomes.
+#[derive(Drop)]
+pub enum Transliteration {
+    /// Octets of MessagePack that spell the message that the text is.
+    Octets(Vec<u8>),
+    /// The text is no message: it isn't UTF-8, no JSON, or JSON of more than 127 levels.
+    NoJson,
+    /// The text is JSON of up to 127 levels, but for its tree to decide: it nests more than 100 levels, of which those may not count that
+    /// stand under a key that comes once more, or a number in it may be too large for a float, or a text, list or dictionary in it has
+    /// 2^32 octets or members.
+    Undecided,
+}
+
 /// The text that octets are in UTF-8, if they are one.
 fn text_of(octets: &[u8]) -> Option<&str>
-    ensures { IfSome result (λ text. text.now ≡ octets.now) }
+    ensures { MatchOption result (IsUtf8 octets.now → ⊥)
+        (λ text. (text.now ≡ octets.now) × IsUtf8 octets.now) }
 {
     if is_ascii(octets) {
         return Some(unsafe { from_utf8_unchecked(octets) });
@@ -37,6 +56,30 @@ fn octets_of(alloc: Global, text: &str) -> Result<Vec<u8>, Refusal>
     Ok(out)
 }
 
+/// Whether a text is JSON of up to 127 levels, whatever its numbers.
+fn is_well_formed(alloc: Global, text: &str) -> Result<bool, AllocError>
+    requires { IsUtf8 text.now }
+    ensures yes { result ≡ Ok true → IsWellFormed text.now }
+    ensures no { result ≡ Ok false → read text.now ≡ None }
+{
+    let mut scratch = Scratch::new(alloc);
+    let mut reader = Reader::new(text, &mut scratch)?;
+    Ok(reader.skip_value(MOST_LEVELS).is_ok() && reader.next().is_none())
+}
+
+/// What a text is whose octets weren't written.
+#[inline(never)]
+fn judge(alloc: Global, text: &str) -> Result<Transliteration, AllocError>
+    requires { IsUtf8 text.now }
+    ensures { IfOk result (IsTransliterated text.now) }
+{
+    if is_well_formed(alloc, text)? {
+        Ok(Transliteration::Undecided)
+    } else {
+        Ok(Transliteration::NoJson)
+    }
+}
+
 /// Octets of MessagePack that spell the message that a JSON text is (RFC 8259), as
 /// [`json_codec::decode`] would read it; no tree is built.
 ///
@@ -45,9 +88,8 @@ fn octets_of(alloc: Global, text: &str) -> Result<Vec<u8>, Refusal>
 /// outside -2^63 to 2^64 - 1, is written as the float 0, since a message doesn't carry it. So
 /// where keys ascend and all is carried, the octets are those that `msgpack_codec` writes.
 ///
-/// `None` where it isn't for this crate to say what the text means: it isn't UTF-8, it is no JSON,
-/// it nests more than 100 levels, a number in it is too large for a float, or a text, list or
-/// dictionary in it has 2^32 octets or members. `json_codec::decode` tells the fault.
+/// [`Transliteration::NoJson`] where `json_codec::decode` finds the text malformed, and
+/// [`Transliteration::Undecided`] where that is left to say what the text is.
 ///
 /// Memory: the buffer that is given has one octet for each octet of the text from the start, which
 /// most texts stay within; none becomes more than five octets for two (`-0`), so that the buffer
@@ -55,19 +97,19 @@ fn octets_of(alloc: Global, text: &str) -> Result<Vec<u8>, Refusal>
 /// escapes is copied without them, and a byte string takes three octets for four while it is
 /// decoded. What is inside of a list or dictionary of 16 members or more is copied once when its
 /// head is written, and back: of a text that nests such lists in one another that is up to 200
-/// copies.
+/// copies. A text that isn't written is looked at once more, with one octet for each of its own.
 ///
 /// # Errors
 /// [`AllocError`] where a growth was refused.
-pub fn to_msgpack(alloc: Global, json: &[u8]) -> Result<Option<Vec<u8>>, AllocError>
-    ensures { IfOk result (λ found. IfSome found (λ octets. SaysTheSame json.now octets.items)) }
+pub fn to_msgpack(alloc: Global, json: &[u8]) -> Result<Transliteration, AllocError>
+    ensures { IfOk result (IsTransliterated json.now) }
 {
     let Some(text) = text_of(json) else {
-        return Ok(None);
+        return Ok(Transliteration::NoJson);
     };
     match octets_of(alloc, text) {
-        Ok(octets) => Ok(Some(octets)),
-        Err(Refusal::Unclear) => Ok(None),
+        Ok(octets) => Ok(Transliteration::Octets(octets)),
+        Err(Refusal::Unclear) => judge(alloc, text),
         Err(Refusal::NoMemory) => Err(AllocError),
     }
 }

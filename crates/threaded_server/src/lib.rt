@@ -25,6 +25,7 @@ mod handover;
 mod herald;
 mod id_words;
 mod log;
+mod one_tree;
 mod plan;
 mod reader_thread;
 mod realm_handle;

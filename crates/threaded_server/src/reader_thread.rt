@@ -6,6 +6,7 @@ use crate::closing::Closing;
 use crate::farewell::FarewellPoster;
 use crate::fate::Fate;
 use crate::handover::{Posters, Slot};
+use crate::one_tree::OneTree;
 use crate::plan::Plan;
 use crate::told::tell_closed;
 use crate::work::start;
@@ -98,7 +99,11 @@ fn serve<
     posters: &mut Posters<S>,
 ) -> Reason {
     let realms = &broker.plan.realms;
-    let opened = match open_session(broker.alloc, &mut source, &mut sink, realms) {
+    let trees = OneTree {
+        rt: &rt,
+        turn: &broker.plan.tree_turn,
+    };
+    let opened = match open_session(broker.alloc, &mut source, &mut sink, realms, &trees) {
         Ok(opened) => opened,
         Err(fault) => return not_opened(broker.plan, fault),
     };
@@ -173,7 +178,11 @@ fn run_session<
         has_aborted: false,
     };
     let read = if has_asked {
-        read_posts(&rt, alloc, source, opened, &mut posting)
+        let trees = OneTree {
+            rt: &rt,
+            turn: &broker.plan.tree_turn,
+        };
+        read_posts(&rt, alloc, source, opened, &trees, &mut posting)
     } else {
         ReadEnd::ActorGone
     };
