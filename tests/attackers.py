@@ -198,6 +198,18 @@ def say_hello(these, count):
     these.at_once(these.connect(count), hello)
 
 
+def say_deep_hello(these, count):
+    """In JSON. What is deep doesn't count, as the key comes once more: only a tree tells."""
+    before, after = b'[1,"%s",{"x":' % REALM.encode(), b',"y":' + b"[" * 110 + b"]" * 110 + b',"y":0}]'
+    payload = before + dictionaries("json", OCTETS - len(before) - len(after)) + after
+
+    def hello(it):
+        it.send(talk.frame_of(talk.MESSAGE, payload))
+        it.hear(WELCOME)
+
+    these.at_once(these.connect(count), hello)
+
+
 def retain(these, count):
     (publisher,) = these.join(1)
     for number in range(1, count + 1):

@@ -32,6 +32,7 @@ impl Table for Case {
                 line_of(alloc, line)
             }
             Some(("say", json)) => said(alloc, json),
+            Some(("text", text)) => payload(alloc, Serializer::Json, &octets_of(alloc, text)?),
             Some(("payload", text)) => payload(alloc, Serializer::MsgPack, &octets_of(alloc, text)?),
             Some(("event", text)) => event(alloc, text),
             Some(("carried", json)) => carried(alloc, json),

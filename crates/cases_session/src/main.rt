@@ -1,8 +1,8 @@
 //! Cases of `session` and of `arguments`, as lines of standard input; what each is answered by is printed.
 //!
 //! - `# TEXT` begins a case, and is printed as it stands.
-//! - `say JSON`: what a client's message says, of options what they ask for, as `asking.rt` puts it; `payload OCTETS`: the same of one
-//!   in MessagePack; or `differs` where the tree that the text or the octets decode to says something else.
+//! - `say JSON`: what a client's message says, of options what they ask for, as `asking.rt` puts it; `text OCTETS` and `payload OCTETS`: the same
+//!   of one in JSON that may be anything, and of one in MessagePack; or `differs` where the tree that the text or the octets decode to says something else.
 //! - `event MARKS JSON`: the EVENT that a PUBLISH in JSON gives subscription 1; the
 //!   marks are letters of `dtr`: disclosed, with its topic, retained.
 //! - `carried JSON`: whether the arguments of a PUBLISH are carried, and whether they are taken so.
