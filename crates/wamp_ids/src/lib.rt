@@ -5,6 +5,7 @@
 //! those, and which topics a pattern matches.
 #![tactic(auto)]
 
+mod ascii;
 mod components;
 mod conn;
 mod fault;
