@@ -1,5 +1,5 @@
 //! From a JSON text to octets of MessagePack.
-ghost use Rattle.std.specs.Prelude.{◌≡◌, ⊥, IfOk, MatchOption, IsUtf8, Ok, false, true};
+ghost use Rattle.std.specs.Prelude.{◌≡◌, IfOk, MatchOption, IsUtf8, Ok, false, true};
 ghost use Rattle.serde_json.specs.Read.{read};
 ghost use Rattle.json_to_msgpack.specs.Transliteration.{IsTransliterated, IsWellFormed};
 ghost use Rattle.json_to_msgpack.specs.body.Values.{IsTextAdded};
