@@ -1,5 +1,5 @@
 -- What octets of MessagePack say that a JSON text became, the text says.
-use Rattle.std.proofs.Common.{◌≡◌, ℕ, List, [], refl, subst}
+use Rattle.std.proofs.Common.{◌≡◌, ◌≢◌, ℕ, List, [], Result, Ok, Err, IfOk, IfErr, refl, subst}
 use Rattle.message_tree.specs.Data.{Data}
 use Rattle.msgpack_codec.proofs.Lemmas.{one_spelling, spelled-not-deep}
 use Rattle.msgpack_codec.proofs.Depth.{depth_within}
@@ -17,13 +17,13 @@ decodes_too json octets same d spelled =
     subst (Decodes Json json) ((one_spelling 100 octets octets [] [] same.tree d same.spelled spelled refl).0)
         (same.read, depth_within 100 octets same.tree same.spelled)
 
-pub says_too : (json octets : List ℕ) → SaysTheSame json octets → (said : Said) → Says MsgPack octets said → Says Json json said
+says_too : (json octets : List ℕ) → SaysTheSame json octets → (said : Said) → Says MsgPack octets said → Says Json json said
 says_too json octets same said x = record { message = x.message; decodes = decodes_too json octets same x.message x.decodes; says = x.says; }
 
 shapeless_too : (json octets : List ℕ) → SaysTheSame json octets → HasNoShape MsgPack octets → HasNoShape Json json
 shapeless_too json octets same x = record { message = x.message; decodes = decodes_too json octets same x.message x.decodes; says = x.says; }
 
-pub nothing_too : (json octets : List ℕ) → SaysTheSame json octets → (f : Fault) → SaysNothing MsgPack octets f → SaysNothing Json json f
+nothing_too : (json octets : List ℕ) → SaysTheSame json octets → (f : Fault) → SaysNothing MsgPack octets f → SaysNothing Json json f
 nothing_too json octets same NoMemory x = absurd x
 nothing_too json octets same TooDeep x = absurd (spelled-not-deep 100 octets same.tree same.spelled x)
 nothing_too json octets same Malformed x = absurd (x.unspelled same.tree same.spelled)
@@ -39,3 +39,12 @@ nothing_too json octets same TooLongForClient x = absurd x
 nothing_too json octets same Ended x = absurd x
 nothing_too json octets same NoSuchRealm x = absurd x
 nothing_too json octets same TooManyTurns x = absurd x
+
+-- the same of what was answered
+pub ok_too : (json octets : List ℕ) → SaysTheSame json octets → (r : Result Said Fault) → IfOk r (λ said. Says MsgPack octets said) → IfOk r (λ said. Says Json json said)
+ok_too json octets same (Ok said) x = says_too json octets same said x
+ok_too json octets same (Err f) x = tt
+
+pub bad_too : (json octets : List ℕ) → SaysTheSame json octets → (r : Result Said Fault) → IfErr r (λ f. f ≢ NoMemory → SaysNothing MsgPack octets f) → IfErr r (λ f. f ≢ NoMemory → SaysNothing Json json f)
+bad_too json octets same (Ok said) x = tt
+bad_too json octets same (Err f) x = λ other. nothing_too json octets same f (x other)
