@@ -1,5 +1,6 @@
 pub mod Found
 pub mod Octets
+pub mod Pieces
 pub mod Strings
 pub mod WordParts
 pub mod Punctuated
@@ -10,3 +11,4 @@ pub mod ListSteps
 pub mod DictSteps
 pub mod Wholes
 pub mod Naturals
+pub mod NaturalWords

@@ -8,7 +8,7 @@ use Rattle.json.specs.Cursor.{is_leaf}
 use Rattle.json.specs.Lex.{token, comma, colon, other, class, string_token, between, in_word, in_string, lex_byte, lex, Place, fresh, after_value, after_comma, after_key, begins_colon, may_begin, may_close, if_allowed, place_token, punctuate}
 use Rattle.json_to_msgpack.specs.declared.token.Place as place
 use Rattle.json_to_msgpack.specs.declared.token.Place.TheVariants.{Fresh, AfterValue, AfterComma}
-use Rattle.json_to_msgpack.specs.body.Lexing.{place_of, tokens_left, Begins, closing, IsAfterValue, IsStringAt, IsWordAt}
+use Rattle.json_to_msgpack.specs.body.Lexing.{place_of, tokens_left, Begins, opening, closing, IsAfterValue, IsStringAt, IsWordAt}
 use Rattle.json_to_msgpack.proofs.Octets.{word_over}
 
 allowed : (b : Bool) (t : Token) (k : Place → List Token) (next : Place) → b ≡ true → if_allowed b t k next ≡ t ∷ k next
@@ -16,15 +16,19 @@ allowed b t k next e = ap (λ x. if_allowed x t k next) e
 
 -- ---- brackets that open
 
-pub opens_list : (old xs left : List ℕ) → old ≡ 91 ∷ xs → lex between left ≡ lex between xs → Begins old spec.begin_array Fresh left
+opens_list : (old xs left : List ℕ) → old ≡ 91 ∷ xs → lex between left ≡ lex between xs → Begins old spec.begin_array Fresh left
 unfolding lex punctuate
 opens_list old xs left e same p may =
     ap (λ t. punctuate p (lex between t)) e ∙ allowed (may_begin p) spec.begin_array (λ n. punctuate n (lex between xs)) fresh may ∙ ap (λ ls. spec.begin_array ∷ punctuate fresh ls) (sym same)
 
-pub opens_dict : (old xs left : List ℕ) → old ≡ 123 ∷ xs → lex between left ≡ lex between xs → Begins old spec.begin_object Fresh left
+opens_dict : (old xs left : List ℕ) → old ≡ 123 ∷ xs → lex between left ≡ lex between xs → Begins old spec.begin_object Fresh left
 unfolding lex punctuate
 opens_dict old xs left e same p may =
     ap (λ t. punctuate p (lex between t)) e ∙ allowed (may_begin p) spec.begin_object (λ n. punctuate n (lex between xs)) fresh may ∙ ap (λ ls. spec.begin_object ∷ punctuate fresh ls) (sym same)
+
+pub opens : (old xs left : List ℕ) (bracket : ℕ) → (bracket ≡ 91) ⊎ (bracket ≡ 123) → old ≡ bracket ∷ xs → lex between left ≡ lex between xs → Begins old (opening bracket) Fresh left
+opens old xs left bracket (inl b) e same = subst (λ t. Begins old t Fresh left) (ap opening (sym b)) (opens_list old xs left (e ∙ ap (λ x. x ∷ xs) b) same)
+opens old xs left bracket (inr b) e same = subst (λ t. Begins old t Fresh left) (ap opening (sym b)) (opens_dict old xs left (e ∙ ap (λ x. x ∷ xs) b) same)
 
 -- ---- strings
 

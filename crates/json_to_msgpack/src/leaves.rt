@@ -1,5 +1,5 @@
 //! Values with nothing inside, and keys.
-ghost use Rattle.std.specs.Prelude.{◌≡◌, ◌==◌, ◌<◌, ◌∷◌, length, slice_index, OnOk, IsTrue, true, false, Some, IfSome};
+ghost use Rattle.std.specs.Prelude.{◌≡◌, ◌==◌, ◌<◌, ◌∷◌, length, pos, slice_index, OnOk, IsTrue, true, false, Some, IfSome};
 ghost use Rattle.message_tree.specs.Data.{fits_codecs, null, flag, whole, uncarried, text as text_data, bytes as bytes_data};
 ghost use Rattle.std.specs.Float.{binary64, float_is_finite};
 ghost use Rattle.fast_float.specs.Text.{minus, nearest};
@@ -8,12 +8,12 @@ ghost use Rattle.serde_json.specs.Data.{unsigned};
 ghost use Rattle.serde_json.specs.Read.{number_of, number_from};
 ghost use Rattle.json_codec.specs.Decoder.{string_tree};
 ghost use Rattle.json_to_msgpack.specs.body.Lexing.{token_of};
-ghost use Rattle.json_to_msgpack.specs.body.Values.{IsLeafAdded, IsTokenAdded, IsNumberAdded, IsKeyAdded};
+ghost use Rattle.json_to_msgpack.specs.body.Values.{IsLeafAdded, IsTokenAdded, IsLeafTaken, IsNumberAdded, IsKeyAdded};
 
 use crate::lexer::Lexer;
 use crate::refusal::Refusal;
 use crate::token::Token;
-use crate::writing::{put, put_all, put_bytes_head, put_text_head, put_whole_short};
+use crate::writing::{put, put_all, put_bytes_head, put_from_zero, put_text_head, put_whole_short};
 use base64::DecodeAllocError;
 use base64::engine::general_purpose::STANDARD;
 use fast_float::Numeral;
@@ -48,6 +48,14 @@ fn put_bytes(bytes: &[u8], out: &mut Vec<u8>) -> Result<(), Refusal>
     put_all(bytes, out)
 }
 
+/// A whole number from 0.
+#[inline(always)]
+pub(crate) fn put_natural(number: u64, out: &mut Vec<u8>) -> Result<(), Refusal>
+    ensures { OnOk result (IsLeafAdded (whole (pos number)) out.old.items out.new.items) }
+{
+    put_from_zero(number, out)
+}
+
 /// A whole number.
 #[inline(always)]
 fn put_whole(number: i128, out: &mut Vec<u8>) -> Result<(), Refusal>
@@ -75,7 +83,7 @@ fn put_flag(value: bool, out: &mut Vec<u8>) -> Result<(), Refusal>
 
 /// A string: a byte string where it is the mark and then base64, otherwise a text.
 #[inline(always)]
-fn put_string(alloc: Global, text: &str, out: &mut Vec<u8>) -> Result<(), Refusal>
+pub(crate) fn put_string(alloc: Global, text: &str, out: &mut Vec<u8>) -> Result<(), Refusal>
     ensures { OnOk result (IsLeafAdded (string_tree text.now) out.old.items out.new.items) }
 {
     if let Some((0, rest)) = text.as_bytes().split_first() {
@@ -162,7 +170,7 @@ fn put_number(number: &[u8], out: &mut Vec<u8>) -> Result<(), Refusal>
     ensures { OnOk result (IsNumberAdded (number_of number.now) out.old.items out.new.items) }
 {
     match few_digits(number) {
-        Some(natural) => put_whole(i128::from(natural), out),
+        Some(natural) => put_natural(natural, out),
         None => put_any_number(number, out),
     }
 }
@@ -180,9 +188,9 @@ fn put_any_number(number: &[u8], out: &mut Vec<u8>) -> Result<(), Refusal>
     }
 }
 
-/// The value that a token is, where nothing is inside.
+/// The value that a token is.
 #[inline(always)]
-pub(crate) fn put_leaf(alloc: Global, token: Token, out: &mut Vec<u8>) -> Result<(), Refusal>
+fn put_leaf(alloc: Global, token: Token, out: &mut Vec<u8>) -> Result<(), Refusal>
     ensures { OnOk result (IsTokenAdded (token_of token.entry) out.old.items out.new.items) }
 {
     match token {
@@ -190,7 +198,21 @@ pub(crate) fn put_leaf(alloc: Global, token: Token, out: &mut Vec<u8>) -> Result
         Token::Flag(value) => put_flag(value, out),
         Token::Number(number) => put_number(number, out),
         Token::String(text) => put_string(alloc, text.as_str(), out),
-        Token::BeginArray | Token::BeginObject => Err(Refusal::Unclear),
+    }
+}
+
+/// A value with nothing inside, whatever it is.
+#[inline(never)]
+pub(crate) fn put_other(
+    alloc: Global,
+    lexer: &mut Lexer<'_>,
+    out: &mut Vec<u8>,
+) -> Result<(), Refusal>
+    ensures { OnOk result (IsLeafTaken lexer.old lexer.new out.old.items out.new.items) }
+{
+    match lexer.take_token(alloc) {
+        Ok(token) => put_leaf(alloc, token, out),
+        Err(refusal) => Err(refusal),
     }
 }
 
@@ -201,6 +223,17 @@ pub(crate) fn put_key(
     lexer: &mut Lexer<'_>,
     out: &mut Vec<u8>,
 ) -> Result<(), Refusal>
+    ensures { OnOk result (IsKeyAdded lexer.old lexer.new out.old.items out.new.items) }
+{
+    if let Some(key) = lexer.take_plain_key() {
+        return put_text(key, out);
+    }
+    put_other_key(alloc, lexer, out)
+}
+
+/// The same of any key.
+#[inline(never)]
+fn put_other_key(alloc: Global, lexer: &mut Lexer<'_>, out: &mut Vec<u8>) -> Result<(), Refusal>
     ensures { OnOk result (IsKeyAdded lexer.old lexer.new out.old.items out.new.items) }
 {
     match lexer.take_key(alloc) {

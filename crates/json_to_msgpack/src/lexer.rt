@@ -1,16 +1,15 @@
 //! A JSON text, a token at a time.
-ghost use Rattle.std.specs.Prelude.{◌≡◌, ◌≤◌, ◌<◌, ◌+◌, ◌⊎◌, ◌∷◌, [], length, drop, true, IsTrue, IfSome, IfOk};
+ghost use Rattle.std.specs.Prelude.{◌≡◌, ◌≤◌, ◌<◌, ◌+◌, ◌⊎◌, ◌∷◌, [], length, drop, true, IsTrue, IfSome, IfOk, MatchOption};
 ghost use Rattle.std.specs.Bool.{MatchBool};
-ghost use Rattle.std.specs.Str.{IsUtf8};
 ghost use Rattle.json.specs.Token as grammar;
 ghost use Rattle.json.specs.Lex.{may_begin, may_close, tokens};
-ghost use Rattle.json_to_msgpack.specs.body.Lexing.{string_of, token_of, place_of, tokens_left, Begins, closing, IsAfterValue, IsStringAt};
+ghost use Rattle.json_to_msgpack.specs.body.Lexing.{string_of, token_of, place_of, tokens_left, Begins, BeginsNatural, IsTaken, opening, closing, IsAfterValue, IsAfterKey, IsStringAt};
 
 use crate::refusal::Refusal;
 use crate::scan::{octet_at, plain_end, spaces_end};
 use crate::token::{Place, Text, Token};
 use crate::unescape::unescape;
-use crate::words::word_at;
+use crate::words::{natural_at, word_at};
 use std::alloc::Global;
 use std::marker::Model;
 
@@ -38,17 +37,36 @@ impl Place {
     }
 }
 
-/// The string whose quote stands before a place, and where the text goes on behind it.
+/// The string at a place, where it has no escapes, and where the text goes on behind it.
 #[inline(always)]
-fn string_at<'a>(alloc: Global, text: &'a str, from: usize) -> Result<(Text<'a>, usize), Refusal>
-    requires { (from ≤ length text.now) × IsUtf8 (drop from text.now) }
-    ensures { IfOk result (λ r. IsStringAt text.now from (string_of r.0) r.1) }
+fn plain_at<'a>(text: &'a str, at: usize) -> Option<(&'a str, usize)>
+    ensures { IfSome result (λ r. (drop at text.now ≡ 34 ∷ drop (at + 1) text.now)
+        × IsStringAt text.now (at + 1) r.0.now r.1) }
 {
-    let stop = plain_end(text.as_bytes(), from);
-    if let Some(b'"') = octet_at(text.as_bytes(), stop) {
-        return Ok((Text::Plain(&text[from..stop]), stop + 1));
+    let octets = text.as_bytes();
+    let Some(b'"') = octet_at(octets, at) else {
+        return None;
+    };
+    let stop = plain_end(octets, at + 1);
+    let Some(b'"') = octet_at(octets, stop) else {
+        return None;
+    };
+    Some((&text[at + 1..stop], stop + 1))
+}
+
+/// The string at a place, and where the text goes on behind it.
+#[inline(always)]
+fn string_at<'a>(alloc: Global, text: &'a str, at: usize) -> Result<(Text<'a>, usize), Refusal>
+    ensures { IfOk result (λ r. (drop at text.now ≡ 34 ∷ drop (at + 1) text.now)
+        × IsStringAt text.now (at + 1) (string_of r.0) r.1) }
+{
+    if let Some((plain, end)) = plain_at(text, at) {
+        return Ok((Text::Plain(plain), end));
     }
-    match unescape(alloc, text, from) {
+    let Some(b'"') = octet_at(text.as_bytes(), at) else {
+        return Err(Refusal::Unclear);
+    };
+    match unescape(alloc, text, at + 1) {
         Ok((unescaped, end)) => Ok((Text::Unescaped(unescaped), end)),
         Err(refusal) => Err(refusal),
     }
@@ -70,7 +88,21 @@ fn after_value(octets: &[u8], from: usize) -> Option<(Place, usize)>
     }
 }
 
-/// What a value begins with that stands at a place, what may stand behind it, and where that is.
+/// Where the value of a key may begin, behind the colon that follows the key.
+#[inline(always)]
+fn after_key(octets: &[u8], from: usize) -> Option<usize>
+    requires { from ≤ length octets.now }
+    ensures { IfSome result (λ to. IsAfterKey (drop from octets.now) (drop to octets.now)) }
+{
+    let colon = spaces_end(octets, from);
+    match octet_at(octets, colon) {
+        Some(b':') => Some(spaces_end(octets, colon + 1)),
+        _ => None,
+    }
+}
+
+/// The value with nothing inside that stands at a place, what may stand behind it, and where that
+/// is.
 #[inline(always)]
 fn token_at<'a>(
     alloc: Global,
@@ -80,30 +112,45 @@ fn token_at<'a>(
     ensures { IfOk result
         (λ r. Begins (drop at text.now) (token_of r.0) r.1 (drop r.2 text.now)) }
 {
-    let octets = text.as_bytes();
-    let Some(first) = octet_at(octets, at) else {
-        return Err(Refusal::Unclear);
-    };
-    match first {
-        b'[' => Ok((Token::BeginArray, Place::Fresh, spaces_end(octets, at + 1))),
-        b'{' => Ok((Token::BeginObject, Place::Fresh, spaces_end(octets, at + 1))),
-        b'"' => string_token(alloc, text, at + 1),
-        _ => word_token(text, at),
+    match octet_at(text.as_bytes(), at) {
+        Some(b'"') => string_token(alloc, text, at),
+        Some(_) => word_token(text, at),
+        None => Err(Refusal::Unclear),
     }
 }
 
-/// The string whose quote stands before a place, as a value.
+/// The string at a place that has no escapes, as a value.
+#[inline(always)]
+fn plain_token<'a>(text: &'a str, at: usize) -> Option<(&'a str, Place, usize)>
+    ensures { IfSome result
+        (λ r. Begins (drop at text.now) (grammar.string r.0.now) r.1 (drop r.2 text.now)) }
+{
+    let (string, end) = plain_at(text, at)?;
+    let (place, next) = after_value(text.as_bytes(), end)?;
+    Some((string, place, next))
+}
+
+/// The digits at a place, as a value.
+#[inline(always)]
+fn natural_token(octets: &[u8], at: usize) -> Option<(u64, Place, usize)>
+    ensures { IfSome result (λ r. BeginsNatural (drop at octets.now) r.0 r.1 (drop r.2 octets.now)) }
+{
+    let (natural, end) = natural_at(octets, at)?;
+    let (place, next) = after_value(octets, end)?;
+    Some((natural, place, next))
+}
+
+/// The string at a place, as a value.
 #[inline(always)]
 fn string_token<'a>(
     alloc: Global,
     text: &'a str,
-    from: usize,
+    at: usize,
 ) -> Result<(Token<'a>, Place, usize), Refusal>
-    requires { (from ≤ length text.now) × IsUtf8 (drop from text.now) }
-    ensures { IfOk result (λ r. Begins (34 ∷ drop from text.now) (token_of r.0) r.1
-        (drop r.2 text.now)) }
+    ensures { IfOk result
+        (λ r. Begins (drop at text.now) (token_of r.0) r.1 (drop r.2 text.now)) }
 {
-    match string_at(alloc, text, from) {
+    match string_at(alloc, text, at) {
         Ok((string, end)) => match after_value(text.as_bytes(), end) {
             Some((place, next)) => Ok((Token::String(string), place, next)),
             None => Err(Refusal::Unclear),
@@ -128,26 +175,43 @@ fn word_token<'a>(text: &'a str, at: usize) -> Result<(Token<'a>, Place, usize),
     Ok((token, place, next))
 }
 
+/// The key at a place that has no escapes, and where its value may begin.
+#[inline(always)]
+fn plain_key_at<'a>(text: &'a str, at: usize) -> Option<(&'a str, usize)>
+    ensures { IfSome result (λ r. Begins (drop at text.now) (grammar.key r.0.now) Place.Fresh
+        (drop r.1 text.now)) }
+{
+    let (key, end) = plain_at(text, at)?;
+    let next = after_key(text.as_bytes(), end)?;
+    Some((key, next))
+}
+
 /// The key at a place, and where its value may begin.
 #[inline(always)]
 fn key_at<'a>(alloc: Global, text: &'a str, at: usize) -> Result<(Text<'a>, usize), Refusal>
     ensures { IfOk result (λ r. Begins (drop at text.now) (grammar.key (string_of r.0)) Place.Fresh
         (drop r.1 text.now)) }
 {
-    let octets = text.as_bytes();
-    let Some(b'"') = octet_at(octets, at) else {
-        return Err(Refusal::Unclear);
-    };
-    match string_at(alloc, text, at + 1) {
-        Ok((key, end)) => {
-            let colon = spaces_end(octets, end);
-            match octet_at(octets, colon) {
-                Some(b':') => Ok((key, spaces_end(octets, colon + 1))),
-                _ => Err(Refusal::Unclear),
-            }
-        }
+    match string_at(alloc, text, at) {
+        Ok((key, end)) => match after_key(text.as_bytes(), end) {
+            Some(next) => Ok((key, next)),
+            None => Err(Refusal::Unclear),
+        },
         Err(refusal) => Err(refusal),
     }
+}
+
+/// What stands behind a bracket that opens, where it stands at a place.
+#[inline(always)]
+fn open_at(octets: &[u8], at: usize, bracket: u8) -> Option<usize>
+    requires { (bracket ≡ 91) ⊎ (bracket ≡ 123) }
+    ensures { IfSome result
+        (λ next. Begins (drop at octets.now) (opening bracket) Place.Fresh (drop next octets.now)) }
+{
+    if octet_at(octets, at)? != bracket {
+        return None;
+    }
+    Some(spaces_end(octets, at + 1))
 }
 
 /// What stands behind a closing bracket, if it stands at a place and may.
@@ -204,7 +268,100 @@ impl<'a> Lexer<'a> {
         self.place.is_complete() && self.at == self.text.len()
     }
 
-    /// Takes what a value begins with.
+    /// Takes a string that has no escapes, where one stands next.
+    #[inline(always)]
+    pub(crate) fn take_plain(&mut self) -> Option<&'a str>
+        ensures { MatchOption result (self.new ≡ self.old)
+            (λ s. self.old ≡ grammar.string s.now ∷ self.new) }
+    {
+        if !self.place.is_open() {
+            return None;
+        }
+        match plain_token(self.text, self.at) {
+            Some((string, place, at)) => {
+                self.place = place;
+                self.at = at;
+                Some(string)
+            }
+            None => None,
+        }
+    }
+
+    /// Takes a number, where digits stand next that are one by themselves.
+    #[inline(always)]
+    pub(crate) fn take_natural(&mut self) -> Option<u64>
+        ensures { MatchOption result (self.new ≡ self.old) (λ n. IsTaken n self.old self.new) }
+    {
+        if !self.place.is_open() {
+            return None;
+        }
+        match natural_token(self.text.as_bytes(), self.at) {
+            Some((natural, place, at)) => {
+                self.place = place;
+                self.at = at;
+                Some(natural)
+            }
+            None => None,
+        }
+    }
+
+    /// Takes a key that has no escapes, and its colon, where they stand next.
+    #[inline(always)]
+    pub(crate) fn take_plain_key(&mut self) -> Option<&'a str>
+        ensures { MatchOption result (self.new ≡ self.old)
+            (λ k. self.old ≡ grammar.key k.now ∷ self.new) }
+    {
+        if !self.place.is_open() {
+            return None;
+        }
+        match plain_key_at(self.text, self.at) {
+            Some((key, at)) => {
+                self.place = Place::Fresh;
+                self.at = at;
+                Some(key)
+            }
+            None => None,
+        }
+    }
+
+    /// Takes the bracket that opens a list, where it stands next.
+    #[inline(always)]
+    pub(crate) fn take_begin_array(&mut self) -> bool
+        ensures { MatchBool result (self.old ≡ grammar.begin_array ∷ self.new)
+            (self.new ≡ self.old) }
+    {
+        self.take_open(b'[')
+    }
+
+    /// Takes the bracket that opens a dictionary, where it stands next.
+    #[inline(always)]
+    pub(crate) fn take_begin_object(&mut self) -> bool
+        ensures { MatchBool result (self.old ≡ grammar.begin_object ∷ self.new)
+            (self.new ≡ self.old) }
+    {
+        self.take_open(b'{')
+    }
+
+    /// Takes a bracket that opens, where it stands next.
+    #[inline(always)]
+    fn take_open(&mut self, bracket: u8) -> bool
+        requires { (bracket ≡ 91) ⊎ (bracket ≡ 123) }
+        ensures { MatchBool result (self.old ≡ opening bracket ∷ self.new) (self.new ≡ self.old) }
+    {
+        if !self.place.is_open() {
+            return false;
+        }
+        match open_at(self.text.as_bytes(), self.at, bracket) {
+            Some(at) => {
+                self.place = Place::Fresh;
+                self.at = at;
+                true
+            }
+            None => false,
+        }
+    }
+
+    /// Takes a value with nothing inside.
     #[inline(always)]
     pub(crate) fn take_token(&mut self, alloc: Global) -> Result<Token<'a>, Refusal>
         ensures { IfOk result (λ t. self.old ≡ token_of t ∷ self.new) }

@@ -7,6 +7,11 @@ ghost use Rattle.json.specs.Lex.{class, between, lex};
 ghost use Rattle.json.specs.Align.{is_blank};
 ghost use Rattle.json.specs.Run.{is_plain};
 
+use std::simd::prelude::*;
+
+/// So many octets are looked at together.
+const PIECE: usize = 16;
+
 /// The octet at a place, where the text goes on so far.
 #[inline(always)]
 pub(crate) fn octet_at(octets: &[u8], at: usize) -> Option<u8>
@@ -58,10 +63,25 @@ fn is_plain(octet: u8) -> bool
     }
 }
 
-/// Where the octets of a string end that stand for themselves: at a quote, a backslash, a control
-/// octet, or the end of the text.
+/// How many octets of a piece stand for themselves before the first one that doesn't.
 #[inline(always)]
-pub(crate) fn plain_end(octets: &[u8], from: usize) -> usize
+fn plain_in(piece: u8x16) -> usize
+    ensures { result ≡ prefix_len is_plain piece }
+{
+    let quotes = piece.simd_eq(u8x16::splat(b'"'));
+    let backslashes = piece.simd_eq(u8x16::splat(b'\\'));
+    let controls = piece.simd_lt(u8x16::splat(b' '));
+    let stops = (quotes | backslashes | controls).to_bitmask();
+    if stops == 0 {
+        PIECE
+    } else {
+        stops.trailing_zeros() as usize
+    }
+}
+
+/// As [`plain_end`], an octet at a time: of the last few.
+#[inline(always)]
+fn last_plain_end(octets: &[u8], from: usize) -> usize
     requires { from ≤ length octets.now }
     ensures value { result ≡ from + prefix_len is_plain (drop from octets.now) }
     ensures bound { result ≤ length octets.now }
@@ -71,6 +91,25 @@ pub(crate) fn plain_end(octets: &[u8], from: usize) -> usize
         at += 1;
     }
     at
+}
+
+/// Where the octets of a string end that stand for themselves: at a quote, a backslash, a control
+/// octet, or the end of the text.
+#[inline(always)]
+pub(crate) fn plain_end(octets: &[u8], from: usize) -> usize
+    requires { from ≤ length octets.now }
+    ensures value { result ≡ from + prefix_len is_plain (drop from octets.now) }
+    ensures bound { result ≤ length octets.now }
+{
+    let mut at = from;
+    'pieces: while octets.len() - at >= PIECE {
+        let plain = plain_in(u8x16::from_slice(&octets[at..]));
+        if plain < PIECE {
+            return at + plain;
+        }
+        at += PIECE;
+    }
+    last_plain_end(octets, at)
 }
 
 /// Where the digits end that may stand at a place.

@@ -24,11 +24,9 @@ impl<'a> Text<'a> {
     }
 }
 
-/// What a value begins with.
+/// A value with nothing inside.
 #[derive(Drop)]
 pub(crate) enum Token<'a> {
-    BeginArray,
-    BeginObject,
     Null,
     Flag(bool),
     /// A number, as it stands in the text.

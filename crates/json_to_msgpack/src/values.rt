@@ -2,10 +2,9 @@
 ghost use Rattle.std.specs.Prelude.{◌≡◌, ◌<◌, ◌+◌, length, IfOk, OnOk};
 ghost use Rattle.json_to_msgpack.specs.body.Values.{IsValueAdded, IsListAdded, IsDictAdded};
 
-use crate::leaves::{put_key, put_leaf};
+use crate::leaves::{put_key, put_natural, put_other, put_string};
 use crate::lexer::Lexer;
 use crate::refusal::Refusal;
-use crate::token::Token;
 use crate::writing::{close_dict, close_list, put};
 use std::alloc::Global;
 
@@ -17,8 +16,10 @@ fn one_more(count: u32) -> Result<u32, Refusal>
     count.checked_add(1).ok_or(Refusal::Unclear)
 }
 
-/// The value that the next tokens are, nested no deeper than there is room.
+/// The value that the next tokens are, nested no deeper than there is room. What messages mostly
+/// have is looked at first; no token is made of it.
 #[cycle(values)]
+#[inline(always)]
 pub(crate) fn put_value(
     alloc: Global,
     lexer: &mut Lexer<'_>,
@@ -29,29 +30,30 @@ pub(crate) fn put_value(
         (IsValueAdded room lexer.old lexer.new out.old.items out.new.items) }
     ensures shorter { OnOk result (length lexer.new < length lexer.old) }
 {
-    let token = match lexer.take_token(alloc) {
-        Ok(token) => token,
-        Err(refusal) => return Err(refusal),
-    };
-    match token {
-        Token::BeginArray => {
-            if room == 0 {
-                return Err(Refusal::Unclear);
-            }
-            put_list(alloc, lexer, room - 1, out)
-        }
-        Token::BeginObject => {
-            if room == 0 {
-                return Err(Refusal::Unclear);
-            }
-            put_dict(alloc, lexer, room - 1, out)
-        }
-        _ => put_leaf(alloc, token, out),
+    if let Some(text) = lexer.take_plain() {
+        return put_string(alloc, text, out);
     }
+    if let Some(natural) = lexer.take_natural() {
+        return put_natural(natural, out);
+    }
+    if lexer.take_begin_array() {
+        if room == 0 {
+            return Err(Refusal::Unclear);
+        }
+        return put_list(alloc, lexer, room - 1, out);
+    }
+    if lexer.take_begin_object() {
+        if room == 0 {
+            return Err(Refusal::Unclear);
+        }
+        return put_dict(alloc, lexer, room - 1, out);
+    }
+    put_other(alloc, lexer, out)
 }
 
 /// A list behind its opening bracket. Its head is written once its members are.
 #[cycle(values)]
+#[inline(never)]
 fn put_list(
     alloc: Global,
     lexer: &mut Lexer<'_>,
@@ -74,6 +76,7 @@ fn put_list(
 
 /// A dictionary behind its opening bracket, repeated keys as they come: the last of them counts.
 #[cycle(values)]
+#[inline(never)]
 fn put_dict(
     alloc: Global,
     lexer: &mut Lexer<'_>,

@@ -2,7 +2,7 @@
 ghost use Rattle.std.specs.Prelude.{◌≡◌, ◌≤◌, ◌<◌, length, drop, Some, IfSome};
 ghost use Rattle.json.specs.Lex.{other, class};
 ghost use Rattle.json.specs.Word.{head, after_digits, after_minus, after_sign, after_whole, after_fraction, after_exponent, after_number};
-ghost use Rattle.json_to_msgpack.specs.body.Lexing.{IsPart, IsWordAt, token_of};
+ghost use Rattle.json_to_msgpack.specs.body.Lexing.{IsPart, IsWordAt, IsNaturalAt, token_of};
 
 use crate::scan::{digits_end, octet_at};
 use crate::token::Token;
@@ -103,6 +103,28 @@ fn number_end(octets: &[u8], from: usize) -> Option<usize>
     let point = whole_end(octets, minus_end(octets, from))?;
     let power = fraction_end(octets, point)?;
     exponent_end(octets, power)
+}
+
+/// The number that digits at a place are, and where they end: of those that begin with no 0, are
+/// all of a word, and are not too many, as mostly.
+#[inline(always)]
+pub(crate) fn natural_at(octets: &[u8], from: usize) -> Option<(u64, usize)>
+    ensures { IfSome result (λ found. IsNaturalAt octets.now from found.0 found.1) }
+{
+    let first = octet_at(octets, from)?;
+    if first < b'1' || first > b'9' {
+        return None;
+    }
+    let mut value = (first - b'0') as u64;
+    let mut at = from + 1;
+    'digits: while at < octets.len() && octets[at].is_ascii_digit() {
+        if value > 99_999_999_999_999_999 {
+            return None;
+        }
+        value = value * 10 + (octets[at] - b'0') as u64;
+        at += 1;
+    }
+    Some((value, at))
 }
 
 /// The number at a place.

@@ -80,7 +80,7 @@ pub(crate) fn put_bytes_head(len: usize, out: &mut Vec<u8>) -> Result<(), Refusa
 /// A number from 0.
 #[inline(always)]
 #[tactic(auto, unfolding(msgpack_codec::specs::Short::from_zero))]
-fn put_from_zero(number: u64, out: &mut Vec<u8>) -> Result<(), Refusal>
+pub(crate) fn put_from_zero(number: u64, out: &mut Vec<u8>) -> Result<(), Refusal>
     ensures { OnOk result (out.new.items ≡ out.old.items ++ from_zero number) }
 {
     if number < 0x80 {

@@ -1,5 +1,5 @@
 -- What the lexer's clauses speak of: what was read of a text, and what is left of it.
-use Rattle.std.specs.Prelude.{◌≡◌, ◌==◌, ℕ, ◌≤◌, true, false, cond, List, ◌∷◌, length, drop, Option, Some}
+use Rattle.std.specs.Prelude.{◌≡◌, ◌==◌, ℕ, ◌-◌, ◌≤◌, true, false, cond, List, ◌∷◌, length, take, drop, Option, Some}
 use Rattle.std.specs.Char.{encode_utf8}
 use Rattle.std.specs.Str.{IsUtf8}
 use Rattle.std.specs.String.{string_bytes}
@@ -9,10 +9,12 @@ use Rattle.json.specs.Word.{ends_word, head, word}
 use Rattle.json.specs.Lex.{class, other, Mode, between, in_word, in_string, lex, may_begin, begins_colon, punctuate}
 use Rattle.json.specs.Lex as lexing
 use Rattle.json.specs.Cursor.{is_leaf}
+use Rattle.serde_json.specs.Data.{unsigned}
+use Rattle.serde_json.specs.Read.{number_of}
 use Rattle.json_to_msgpack.specs.declared.token.Text.{Text}
 use Rattle.json_to_msgpack.specs.declared.token.Text.TheVariants.{Plain, Unescaped}
 use Rattle.json_to_msgpack.specs.declared.token.Token.{Token}
-use Rattle.json_to_msgpack.specs.declared.token.Token.TheVariants.{BeginArray, BeginObject, Null, Flag, Number, String}
+use Rattle.json_to_msgpack.specs.declared.token.Token.TheVariants.{Null, Flag, Number, String}
 use Rattle.json_to_msgpack.specs.declared.token.Place.{Place}
 use Rattle.json_to_msgpack.specs.declared.token.Place.TheVariants.{Fresh, AfterValue, AfterComma}
 
@@ -23,8 +25,6 @@ string_of (Unescaped s) = string_bytes s
 
 -- the token that it is in the grammar
 abbrev pub token_of : Token → spec.Token
-token_of BeginArray = spec.begin_array
-token_of BeginObject = spec.begin_object
 token_of Null = spec.null
 token_of (Flag b) = spec.boolean b
 token_of (Number s) = spec.number s.now
@@ -42,6 +42,22 @@ tokens_left place text = punctuate (place_of place) (lex between text)
 -- wherever a value may begin, the text gives this token, and then what is left
 abbrev pub Begins : List ℕ → spec.Token → Place → List ℕ → Type 0
 Begins text t place left = (p : lexing.Place) → may_begin p ≡ true → punctuate p (lex between text) ≡ t ∷ tokens_left place left
+
+-- the same of a number, whatever digits spell it
+pub record BeginsNatural (text : List ℕ) (n : ℕ) (place : Place) (left : List ℕ) : Type 0 where
+  pub digits : List ℕ
+  pub is : number_of digits ≡ Some (unsigned n)
+  pub begins : Begins text (spec.number digits) place left
+
+-- of the tokens `old` the first is this number, and `new` the rest
+pub record IsTaken (n : ℕ) (old new : List spec.Token) : Type 0 where
+  pub digits : List ℕ
+  pub is : number_of digits ≡ Some (unsigned n)
+  pub first : old ≡ spec.number digits ∷ new
+
+-- the bracket that opens a list, or else a dictionary
+abbrev pub opening : ℕ → spec.Token
+opening bracket = cond (bracket == 91) spec.begin_array spec.begin_object
 
 -- the bracket that closes a list, or else a dictionary
 abbrev pub closing : ℕ → spec.Token
@@ -67,6 +83,17 @@ pub record IsWordAt (text : List ℕ) (from : ℕ) (t : spec.Token) (to : ℕ) :
   pub begun : class (head (drop from text)) ≡ other
   pub passed : lex in_word (drop from text) ≡ lex in_word (drop to text)
   pub within : to ≤ length text
+
+-- digits go from one place to another, a whole word if the second ends one, and are this number
+pub record IsNaturalAt (text : List ℕ) (from n to : ℕ) : Type 0 where
+  pub word : IsWordAt text from (spec.number (take (to - from) (drop from text))) to
+  pub is : number_of (take (to - from) (drop from text)) ≡ Some (unsigned n)
+
+-- the text begins with a colon, wherever a key was, and then is left
+pub record IsAfterKey (old left : List ℕ) : Type 0 where
+  pub behind : List ℕ
+  pub colon : lex between old ≡ lex between (58 ∷ behind)
+  pub rest : lex between left ≡ lex between behind
 
 -- between these places of a string this much was read
 pub record IsRead (old new written : List ℕ) : Type 0 where

@@ -43,6 +43,12 @@ pub record IsTokenAdded (t : Token) (before after : List ℕ) : Type 0 where
   pub read : leaf_of t ≡ Some leaf
   pub added : IsLeafAdded (tree_of leaf) before after
 
+-- of the tokens `old` the first is a value with nothing inside, which was written, and `new` the rest
+pub record IsLeafTaken (old new : List Token) (before after : List ℕ) : Type 0 where
+  pub token : Token
+  pub read : old ≡ token ∷ new
+  pub added : IsTokenAdded token before after
+
 -- of the tokens `old` the first are a value, which was written, and `new` the rest
 pub record IsValueAdded (room : ℕ) (old new : List Token) (before after : List ℕ) : Type 0 where
   pub found : json.Data

@@ -1,8 +1,9 @@
-use Rattle.std.proofs.Common.{◌≡◌, ℕ, suc, ◌-◌, List, ◌∷◌, length, sym, ap, ◌∙◌, subst, arith}
+use Rattle.std.proofs.Common.{◌≡◌, ℕ, suc, ◌-◌, List, ◌∷◌, length, option_map, refl, sym, ap, ◌∙◌, subst, arith}
 use Rattle.std.proofs.lemmas.Grind.{common_steps}
 use Rattle.std.proofs.lemmas.Result.{on_ok_weaker}
 use Rattle.json.specs.Token as grammar
-use Rattle.json_to_msgpack.specs.body.Lexing.{token_of}
+use Rattle.serde_json.specs.Data as json
+use Rattle.json_to_msgpack.specs.body.Lexing.{IsTaken}
 use Rattle.json_to_msgpack.specs.body.Values.{IsValueAdded}
 use Rattle.json_to_msgpack.proofs.ListSteps.{list_begun, list_step, list_done}
 use Rattle.json_to_msgpack.proofs.DictSteps.{dict_begun, dict_step, dict_done}
@@ -51,33 +52,52 @@ put_list-returns-clause-ok t c =
     on_ok_weaker c.close_list.result
     (λ e. list_done c.args.room l.count c.len-head.result c.args.lexer.now l.lexer c.take_end_array.new.self c.args.out.now.items l.out.items c.close_list.new.out.items l.invariant over c.close_list.ensures.fits at e) c.close_list.ensures.items
 
-pub put_value-returns-else-room-eq0-clause-ok : goal.put_value-returns-else-room-eq0-clause-ok
-put_value-returns-else-room-eq0-clause-ok t c =
-    let ts = c.take_token.new.self in
-    let first : c.args.lexer.now ≡ token_of c.in-Ok.token ∷ ts = c.in-Ok.ensures in
-    let is : c.args.lexer.now ≡ grammar.begin_array ∷ ts = first ∙ ap (λ k. token_of k ∷ ts) c.in-BeginArray.is in
+pub put_value-returns-in-Some-clause-ok : goal.put_value-returns-in-Some-clause-ok
+put_value-returns-in-Some-clause-ok t c =
+    let ts = c.take_plain.new.self in
+    let text = c.in-Some.text.now in
+    let before = c.args.out.now.items in
+    let after = c.put_string.new.out.items in
+    on_ok_weaker c.put_string.result
+    (λ h. of_tokens c.args.room _ _ ts before after c.in-Some.ensures
+    (leaf_is_value c.args.room (grammar.string text) ts before after (record { leaf = json.string text; read = refl; added = h }))) c.put_string.ensures
+
+pub put_value-returns-in-Some-take_natural-clause-ok : goal.put_value-returns-in-Some-take_natural-clause-ok
+put_value-returns-in-Some-take_natural-clause-ok t c =
+    let ts = c.take_natural.new.self in
+    let n = c.in-Some-take_natural.natural in
+    let taken : IsTaken n c.args.lexer.now ts = subst (λ old. IsTaken n old ts) c.in_default.ensures c.in-Some-take_natural.ensures in
+    let before = c.args.out.now.items in
+    let after = c.put_natural.new.out.items in
+    on_ok_weaker c.put_natural.result
+    (λ h. of_tokens c.args.room _ _ ts before after taken.first
+    (leaf_is_value c.args.room (grammar.number taken.digits) ts before after (record { leaf = json.number (json.unsigned n); read = ap (option_map json.number) taken.is; added = h }))) c.put_natural.ensures
+
+pub put_value-returns-then-take_begin_array-clause-ok : goal.put_value-returns-then-take_begin_array-clause-ok
+put_value-returns-then-take_begin_array-clause-ok t c =
+    let ts = c.take_begin_array.new.self in
+    let is : c.args.lexer.now ≡ grammar.begin_array ∷ ts = grind arith in
     let room : c.args.room ≡ suc (c.args.room - 1) = omega arith in
     let before = c.args.out.now.items in
     let after = c.put_list.new.out.items in
     on_ok_weaker c.put_list.result
     (λ h. of_tokens c.args.room _ _ c.put_list.new.lexer before after is (list_is_value c.args.room (c.args.room - 1) ts c.put_list.new.lexer before after room h)) c.put_list.ensures.ok
 
-pub put_value-returns-else-room-eq0-2-clause-ok : goal.put_value-returns-else-room-eq0-2-clause-ok
-put_value-returns-else-room-eq0-2-clause-ok t c =
-    let ts = c.take_token.new.self in
-    let first : c.args.lexer.now ≡ token_of c.in-Ok.token ∷ ts = c.in-Ok.ensures in
-    let is : c.args.lexer.now ≡ grammar.begin_object ∷ ts = first ∙ ap (λ k. token_of k ∷ ts) c.in-BeginObject.is in
+pub put_value-returns-then-take_begin_object-clause-ok : goal.put_value-returns-then-take_begin_object-clause-ok
+put_value-returns-then-take_begin_object-clause-ok t c =
+    let ts = c.take_begin_object.new.self in
+    let is : c.args.lexer.now ≡ grammar.begin_object ∷ ts = grind arith in
     let room : c.args.room ≡ suc (c.args.room - 1) = omega arith in
     let before = c.args.out.now.items in
     let after = c.put_dict.new.out.items in
     on_ok_weaker c.put_dict.result
     (λ h. of_tokens c.args.room _ _ c.put_dict.new.lexer before after is (dict_is_value c.args.room (c.args.room - 1) ts c.put_dict.new.lexer before after room h)) c.put_dict.ensures.ok
 
-pub put_value-returns-in_default-clause-ok : goal.put_value-returns-in_default-clause-ok
-put_value-returns-in_default-clause-ok t c =
-    let ts = c.take_token.new.self in
-    let first : c.args.lexer.now ≡ token_of c.in-Ok.token ∷ ts = c.in-Ok.ensures in
+pub put_value-returns-clause-ok : goal.put_value-returns-clause-ok
+put_value-returns-clause-ok t c =
+    let same : c.take_begin_object.new.self ≡ c.args.lexer.now = grind arith in
+    let ts = c.put_other.new.lexer in
     let before = c.args.out.now.items in
-    let after = c.put_leaf.new.out.items in
-    on_ok_weaker c.put_leaf.result
-    (λ h. of_tokens c.args.room _ _ ts before after first (leaf_is_value c.args.room (token_of c.in-Ok.token) ts before after h)) c.put_leaf.ensures
+    let after = c.put_other.new.out.items in
+    on_ok_weaker c.put_other.result
+    (λ h. of_tokens c.args.room c.args.lexer.now (h.token ∷ ts) ts before after (sym same ∙ h.read) (leaf_is_value c.args.room h.token ts before after h.added)) c.put_other.ensures
