@@ -1,13 +1,14 @@
 //! A JSON text, a token at a time.
 ghost use Rattle.std.specs.Prelude.{◌≡◌, ◌≤◌, ◌<◌, ◌+◌, ◌⊎◌, ◌∷◌, [], length, drop, true, IsTrue, IfSome, IfOk, MatchOption};
 ghost use Rattle.std.specs.Bool.{MatchBool};
+ghost use Rattle.std.specs.String.{string_bytes};
 ghost use Rattle.json.specs.Token as grammar;
 ghost use Rattle.json.specs.Lex.{may_begin, may_close, tokens};
-ghost use Rattle.json_to_msgpack.specs.body.Lexing.{string_of, token_of, place_of, tokens_left, Begins, BeginsNatural, IsTaken, opening, closing, IsAfterValue, IsAfterKey, IsStringAt};
+ghost use Rattle.json_to_msgpack.specs.body.Lexing.{token_of, place_of, tokens_left, Begins, BeginsNatural, IsTaken, opening, closing, IsAfterValue, IsAfterKey, IsStringAt};
 
 use crate::refusal::Refusal;
 use crate::scan::{octet_at, plain_end, spaces_end};
-use crate::token::{Place, Text, Token};
+use crate::token::{Place, Token};
 use crate::unescape::unescape;
 use crate::words::{natural_at, word_at};
 use std::alloc::Global;
@@ -54,22 +55,16 @@ fn plain_at<'a>(text: &'a str, at: usize) -> Option<(&'a str, usize)>
     Some((&text[at + 1..stop], stop + 1))
 }
 
-/// The string at a place, and where the text goes on behind it.
+/// The string at a place, without its escapes, and where the text goes on behind it.
 #[inline(always)]
-fn string_at<'a>(alloc: Global, text: &'a str, at: usize) -> Result<(Text<'a>, usize), Refusal>
+fn string_at(alloc: Global, text: &str, at: usize) -> Result<(String, usize), Refusal>
     ensures { IfOk result (λ r. (drop at text.now ≡ 34 ∷ drop (at + 1) text.now)
-        × IsStringAt text.now (at + 1) (string_of r.0) r.1) }
+        × IsStringAt text.now (at + 1) (string_bytes r.0) r.1) }
 {
-    if let Some((plain, end)) = plain_at(text, at) {
-        return Ok((Text::Plain(plain), end));
-    }
     let Some(b'"') = octet_at(text.as_bytes(), at) else {
         return Err(Refusal::Unclear);
     };
-    match unescape(alloc, text, at + 1) {
-        Ok((unescaped, end)) => Ok((Text::Unescaped(unescaped), end)),
-        Err(refusal) => Err(refusal),
-    }
+    unescape(alloc, text, at + 1)
 }
 
 /// What follows a value: a comma, which is passed, a closing bracket, or the end.
@@ -188,8 +183,8 @@ fn plain_key_at<'a>(text: &'a str, at: usize) -> Option<(&'a str, usize)>
 
 /// The key at a place, and where its value may begin.
 #[inline(always)]
-fn key_at<'a>(alloc: Global, text: &'a str, at: usize) -> Result<(Text<'a>, usize), Refusal>
-    ensures { IfOk result (λ r. Begins (drop at text.now) (grammar.key (string_of r.0)) Place.Fresh
+fn key_at(alloc: Global, text: &str, at: usize) -> Result<(String, usize), Refusal>
+    ensures { IfOk result (λ r. Begins (drop at text.now) (grammar.key (string_bytes r.0)) Place.Fresh
         (drop r.1 text.now)) }
 {
     match string_at(alloc, text, at) {
@@ -381,8 +376,8 @@ impl<'a> Lexer<'a> {
 
     /// Takes a key and its colon.
     #[inline(always)]
-    pub(crate) fn take_key(&mut self, alloc: Global) -> Result<Text<'a>, Refusal>
-        ensures { IfOk result (λ k. self.old ≡ grammar.key (string_of k) ∷ self.new) }
+    pub(crate) fn take_key(&mut self, alloc: Global) -> Result<String, Refusal>
+        ensures { IfOk result (λ k. self.old ≡ grammar.key (string_bytes k) ∷ self.new) }
     {
         if !self.place.is_open() {
             return Err(Refusal::Unclear);

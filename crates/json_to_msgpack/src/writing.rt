@@ -1,5 +1,6 @@
 //! Heads of values, each the shortest.
 ghost use Rattle.std.specs.Prelude.{◌≡◌, ◌<◌, ◌^◌, ◌≤◌, ◌+◌, ◌∷◌, [], ◌++◌, length, take, drop, true, OnOk, IfOk};
+ghost use Rattle.std.specs.Int.{w32, to_be_bytes};
 ghost use Rattle.message_tree.specs.Data.{fits_codecs};
 ghost use Rattle.msgpack_codec.specs.Short.{text_head, bytes_head, list_head, dict_head, whole_short, from_zero, below_zero};
 
@@ -26,6 +27,21 @@ pub(crate) fn put_all(octets: &[u8], out: &mut Vec<u8>) -> Result<(), Refusal>
         Ok(()) => Ok(()),
         Err(_) => Err(Refusal::NoMemory),
     }
+}
+
+/// Writes an octet and the four of a number at the end, with one look at the room.
+#[inline(always)]
+fn put_five(first: u8, number: u32, out: &mut Vec<u8>) -> Result<(), Refusal>
+    ensures { OnOk result (out.new.items ≡ out.old.items ++ (first ∷ to_be_bytes w32 number)) }
+{
+    let octets = number.to_be_bytes();
+    out.reserve(5)?;
+    out.push_reserved(first);
+    out.push_reserved(octets[0]);
+    out.push_reserved(octets[1]);
+    out.push_reserved(octets[2]);
+    out.push_reserved(octets[3]);
+    Ok(())
 }
 
 /// The head of a text of so many octets.
@@ -103,8 +119,7 @@ fn put_from_128(number: u64, out: &mut Vec<u8>) -> Result<(), Refusal>
         put(0xcd, out)?;
         put_all(&(number as u16).to_be_bytes(), out)
     } else if number < 0x1_0000_0000 {
-        put(0xce, out)?;
-        put_all(&(number as u32).to_be_bytes(), out)
+        put_five(0xce, number as u32, out)
     } else {
         put(0xcf, out)?;
         put_all(&number.to_be_bytes(), out)

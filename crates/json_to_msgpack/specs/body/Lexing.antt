@@ -11,24 +11,17 @@ use Rattle.json.specs.Lex as lexing
 use Rattle.json.specs.Cursor.{is_leaf}
 use Rattle.serde_json.specs.Data.{unsigned}
 use Rattle.serde_json.specs.Read.{number_of}
-use Rattle.json_to_msgpack.specs.declared.token.Text.{Text}
-use Rattle.json_to_msgpack.specs.declared.token.Text.TheVariants.{Plain, Unescaped}
 use Rattle.json_to_msgpack.specs.declared.token.Token.{Token}
 use Rattle.json_to_msgpack.specs.declared.token.Token.TheVariants.{Null, Flag, Number, String}
 use Rattle.json_to_msgpack.specs.declared.token.Place.{Place}
 use Rattle.json_to_msgpack.specs.declared.token.Place.TheVariants.{Fresh, AfterValue, AfterComma}
-
--- the string
-abbrev pub string_of : Text → List ℕ
-string_of (Plain s) = s.now
-string_of (Unescaped s) = string_bytes s
 
 -- the token that it is in the grammar
 abbrev pub token_of : Token → spec.Token
 token_of Null = spec.null
 token_of (Flag b) = spec.boolean b
 token_of (Number s) = spec.number s.now
-token_of (String s) = spec.string (string_of s)
+token_of (String s) = spec.string (string_bytes s)
 
 abbrev pub place_of : Place → lexing.Place
 place_of Fresh = lexing.fresh

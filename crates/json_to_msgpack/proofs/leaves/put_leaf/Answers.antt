@@ -3,7 +3,8 @@ use Rattle.std.proofs.lemmas.Result.{on_ok_weaker}
 use Rattle.json_codec.specs.Decoder.{string_tree}
 use Rattle.serde_json.specs.Data.{null, boolean, string}
 use Rattle.json_to_msgpack.specs.declared.token.Token.{Token}
-use Rattle.json_to_msgpack.specs.body.Lexing.{token_of, string_of}
+use Rattle.std.specs.String.{string_bytes}
+use Rattle.json_to_msgpack.specs.body.Lexing.{token_of}
 use Rattle.json_to_msgpack.specs.body.Values.{IsLeafAdded, IsTokenAdded}
 use Rattle.json_to_msgpack.proofs.LeafSpellings.{number_added}
 use Rattle.json_to_msgpack.proofs.leaves.put_leaf.Goals as goal
@@ -29,4 +30,4 @@ returns-in-String c =
     let after = c.put_string.new.out.items in
     on_ok_weaker c.put_string.result
     (λ h. as_token _ _ before after c.in-String.is
-    (record { leaf = string (string_of c.in-String.text); read = refl; added = subst (λ s. IsLeafAdded (string_tree s) before after) c.as_str.ensures h })) c.put_string.ensures
+    (record { leaf = string (string_bytes c.in-String.text); read = refl; added = subst (λ s. IsLeafAdded (string_tree s) before after) c.as_str.ensures.value h })) c.put_string.ensures

@@ -1,5 +1,6 @@
 use Rattle.std.proofs.Common.{◌+◌, drop}
-use Rattle.json_to_msgpack.specs.body.Lexing.{string_of, IsAfterKey}
+use Rattle.std.specs.String.{string_bytes}
+use Rattle.json_to_msgpack.specs.body.Lexing.{IsAfterKey}
 use Rattle.json_to_msgpack.proofs.Punctuated.{string_key}
 use Rattle.json_to_msgpack.proofs.lexer.key_at.Goals as goal
 
@@ -10,4 +11,4 @@ returns-in-Some c p may =
     let end = c.in-Ok.end in
     let next = c.in-Some.next in
     let behind : IsAfterKey (drop end t) (drop next t) = rw (← c.as_bytes.ensures.value) c.in-Some.ensures in
-    string_key t (drop at t) (string_of c.in-Ok.key) behind.behind (drop next t) (at + 1) end c.in-Ok.ensures.0 c.in-Ok.ensures.1 behind.colon behind.rest p may
+    string_key t (drop at t) (string_bytes c.in-Ok.key) behind.behind (drop next t) (at + 1) end c.in-Ok.ensures.0 c.in-Ok.ensures.1 behind.colon behind.rest p may

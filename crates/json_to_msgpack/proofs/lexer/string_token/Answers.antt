@@ -1,5 +1,6 @@
 use Rattle.std.proofs.Common.{◌+◌, drop}
-use Rattle.json_to_msgpack.specs.body.Lexing.{string_of, IsAfterValue}
+use Rattle.std.specs.String.{string_bytes}
+use Rattle.json_to_msgpack.specs.body.Lexing.{IsAfterValue}
 use Rattle.json_to_msgpack.proofs.Punctuated.{string_value}
 use Rattle.json_to_msgpack.proofs.lexer.string_token.Goals as goal
 
@@ -9,4 +10,4 @@ returns-in-Some c p may =
     let at = c.args.at in
     let end = c.in-Ok.end in
     let behind : IsAfterValue t end c.in-Some.place c.in-Some.next = rw (← c.as_bytes.ensures.value) c.in-Some.ensures in
-    string_value t (drop at t) (string_of c.in-Ok.string) (at + 1) end c.in-Some.next c.in-Some.place c.in-Ok.ensures.0 c.in-Ok.ensures.1 behind p may
+    string_value t (drop at t) (string_bytes c.in-Ok.string) (at + 1) end c.in-Some.next c.in-Some.place c.in-Ok.ensures.0 c.in-Ok.ensures.1 behind p may

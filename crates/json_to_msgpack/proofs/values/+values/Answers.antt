@@ -1,4 +1,4 @@
-use Rattle.std.proofs.Common.{◌≡◌, ℕ, suc, ◌-◌, List, ◌∷◌, length, option_map, refl, sym, ap, ◌∙◌, subst, arith}
+use Rattle.std.proofs.Common.{◌≡◌, ℕ, suc, ◌-◌, List, ◌∷◌, length, option_map, refl, sym, ap, subst, arith}
 use Rattle.std.proofs.lemmas.Grind.{common_steps}
 use Rattle.std.proofs.lemmas.Result.{on_ok_weaker}
 use Rattle.json.specs.Token as grammar
@@ -100,4 +100,4 @@ put_value-returns-clause-ok t c =
     let before = c.args.out.now.items in
     let after = c.put_other.new.out.items in
     on_ok_weaker c.put_other.result
-    (λ h. of_tokens c.args.room c.args.lexer.now (h.token ∷ ts) ts before after (sym same ∙ h.read) (leaf_is_value c.args.room h.token ts before after h.added)) c.put_other.ensures
+    (λ h. let first = subst (λ old. old ≡ h.token ∷ ts) same h.read in of_tokens c.args.room c.args.lexer.now (h.token ∷ ts) ts before after first (leaf_is_value c.args.room h.token ts before after h.added)) c.put_other.ensures
