@@ -1,5 +1,5 @@
 //! Numbers, `true`, `false` and `null` (RFC 8259, sections 3 and 6).
-ghost use Rattle.std.specs.Prelude.{◌≡◌, ◌≤◌, ◌<◌, length, drop, Some, IfSome};
+ghost use Rattle.std.specs.Prelude.{◌≡◌, ◌≤◌, ◌<◌, ◌+◌, ◌∷◌, length, drop, Some, IfSome, IsTrue};
 ghost use Rattle.json.specs.Lex.{other, class};
 ghost use Rattle.json.specs.Word.{head, after_digits, after_minus, after_sign, after_whole, after_fraction, after_exponent, after_number};
 ghost use Rattle.json_to_msgpack.specs.body.Lexing.{IsPart, IsWordAt, IsNaturalAt, token_of};
@@ -139,6 +139,15 @@ fn number_at<'a>(text: &'a str, at: usize) -> Option<(Token<'a>, usize)>
     Some((Token::Number(&octets[at..end]), end))
 }
 
+/// Whether three octets follow the one at a place.
+#[inline(always)]
+fn has_behind(octets: &[u8], at: usize, b: u8, c: u8, d: u8) -> bool
+    requires { at < length octets.now }
+    ensures { IsTrue result → drop (at + 1) octets.now ≡ b ∷ c ∷ d ∷ drop (at + 4) octets.now }
+{
+    octets.len() - at >= 4 && octets[at + 1] == b && octets[at + 2] == c && octets[at + 3] == d
+}
+
 /// The word at a place, and where it ends, if what is behind it ends a word.
 #[inline(always)]
 pub(crate) fn word_at<'a>(text: &'a str, at: usize) -> Option<(Token<'a>, usize)>
@@ -148,9 +157,9 @@ pub(crate) fn word_at<'a>(text: &'a str, at: usize) -> Option<(Token<'a>, usize)
     let octets = text.as_bytes();
     let rest = &octets[at..];
     match octets[at] {
-        b't' if rest.starts_with(b"true") => Some((Token::Flag(true), at + 4)),
+        b't' if has_behind(octets, at, b'r', b'u', b'e') => Some((Token::Flag(true), at + 4)),
         b'f' if rest.starts_with(b"false") => Some((Token::Flag(false), at + 5)),
-        b'n' if rest.starts_with(b"null") => Some((Token::Null, at + 4)),
+        b'n' if has_behind(octets, at, b'u', b'l', b'l') => Some((Token::Null, at + 4)),
         b'-' => number_at(text, at),
         b'0'..=b'9' => number_at(text, at),
         _ => None,
