@@ -33,7 +33,11 @@ impl Table for Case {
             }
             Some(("say", json)) => said(alloc, json),
             Some(("text", text)) => payload(alloc, Serializer::Json, &octets_of(alloc, text)?),
-            Some(("payload", text)) => payload(alloc, Serializer::MsgPack, &octets_of(alloc, text)?),
+            Some(("payload", text)) => payload(
+                alloc,
+                Serializer::MsgPack,
+                &octets_of(alloc, text)?,
+            ),
             Some(("event", text)) => event(alloc, text),
             Some(("carried", json)) => carried(alloc, json),
             Some(("args", text)) => args(alloc, &octets_of(alloc, text)?),

@@ -15,13 +15,13 @@ use Rattle.session.specs.declared.messages.said.Said.{Said}
 decodes_too : (json octets : List ℕ) → SaysTheSame json octets → (d : Data) → Decodes MsgPack octets d → Decodes Json json d
 decodes_too json octets same d spelled =
     subst (Decodes Json json) ((one_spelling 100 octets octets [] [] same.tree d same.spelled spelled refl).0)
-        (same.read, depth_within 100 octets same.tree same.spelled)
+    (same.read, depth_within 100 octets same.tree same.spelled)
 
 says_too : (json octets : List ℕ) → SaysTheSame json octets → (said : Said) → Says MsgPack octets said → Says Json json said
-says_too json octets same said x = record { message = x.message; decodes = decodes_too json octets same x.message x.decodes; says = x.says; }
+says_too json octets same said x = record { message = x.message; decodes = decodes_too json octets same x.message x.decodes; says = x.says }
 
 shapeless_too : (json octets : List ℕ) → SaysTheSame json octets → HasNoShape MsgPack octets → HasNoShape Json json
-shapeless_too json octets same x = record { message = x.message; decodes = decodes_too json octets same x.message x.decodes; says = x.says; }
+shapeless_too json octets same x = record { message = x.message; decodes = decodes_too json octets same x.message x.decodes; says = x.says }
 
 nothing_too : (json octets : List ℕ) → SaysTheSame json octets → (f : Fault) → SaysNothing MsgPack octets f → SaysNothing Json json f
 nothing_too json octets same NoMemory x = absurd x

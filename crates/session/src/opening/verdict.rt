@@ -178,7 +178,15 @@ pub(crate) fn judge<T: TreeReader>(
                 Err(fault) => return Err(fault),
             },
             Kind::Message => {
-                return decide(alloc, client, realms, &frame.payload, left.into_vec(), trees, out);
+                return decide(
+                    alloc,
+                    client,
+                    realms,
+                    &frame.payload,
+                    left.into_vec(),
+                    trees,
+                    out,
+                );
             }
         }
     }
