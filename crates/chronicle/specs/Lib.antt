@@ -1,0 +1,3 @@
+pub mod Recorded
+-- What only the body and its proofs speak of.
+pub mod body
