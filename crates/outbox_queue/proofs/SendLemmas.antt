@@ -1,4 +1,4 @@
--- The two ends of an outbox may go to other threads where the items may.
+-- The two ends of an outbox may go to other threads where the items and the histories may.
 use denote.RattleType.{RattleType}
 use denote.Struct.Field.{row_field}
 use denote.Param.Send.{IsSend, IsSync, view_send, sendable}
@@ -46,30 +46,30 @@ module _ (T H : RattleType) (owed : Ghosts H.Denot T.Denot) where
   view = View.the_row T H
 
   abbrev queue : RattleType
-  queue = Slotted.the_row (Option.the_row item) (Doing.the_row item view) (Turns.the_row InStep.the_row) Global.the_row (turns.ghosts item view InStep.the_row (in_step.ghosts T H owed in_step.no_dict) turns.no_dict) global.ghosts
+  queue = Slotted.the_row (Option.the_row item) (Doing.the_row item view) (Turns.the_row InStep.the_row) Global.the_row (turns.ghosts item view InStep.the_row (in_step.ghosts T H owed in_step.no_dict in_step.no_dict) turns.no_dict) global.ghosts
 
-  stamped_send : IsSend T → IsSend item
-  stamped_send t = view_send _ _ _ _ _ (declared_send (stamped.the_type T H owed) (as_row_send (row_field T) t, (search (crosses, sendable) depth 60, (search (count_send, crosses, sendable) depth 60, (search (crosses, sendable) depth 60, tt)))))
+  stamped_send : IsSend T → IsSend H → IsSend item
+  stamped_send t h = view_send _ _ _ _ _ (declared_send (stamped.the_type T H owed) (as_row_send (row_field T) t, (search (crosses, sendable) depth 60, (search (count_send, crosses, sendable) depth 60, (as_row_send (row_field H) h, tt)))))
 
-  queue_send : IsSend T → IsSend queue
-  queue_send t = slotted.the_send _ _ _ _ (turns.ghosts item view InStep.the_row (in_step.ghosts T H owed in_step.no_dict) turns.no_dict) global.ghosts (option_send _ (stamped_send t)) heap.send heap.frees
+  queue_send : IsSend T → IsSend H → IsSend queue
+  queue_send t h = slotted.the_send _ _ _ _ (turns.ghosts item view InStep.the_row (in_step.ghosts T H owed in_step.no_dict in_step.no_dict) turns.no_dict) global.ghosts (option_send _ (stamped_send t h)) heap.send heap.frees
 
-  queue_sync : IsSend T → IsSync queue
-  queue_sync t = slotted.the_sync _ _ _ _ (turns.ghosts item view InStep.the_row (in_step.ghosts T H owed in_step.no_dict) turns.no_dict) global.ghosts (option_send _ (stamped_send t)) heap.send heap.sync heap.frees
+  queue_sync : IsSend T → IsSend H → IsSync queue
+  queue_sync t h = slotted.the_sync _ _ _ _ (turns.ghosts item view InStep.the_row (in_step.ghosts T H owed in_step.no_dict in_step.no_dict) turns.no_dict) global.ghosts (option_send _ (stamped_send t h)) heap.send heap.sync heap.frees
 
-  counted_send : IsSend T → IsSend (CountedPass.the_row item view)
-  counted_send t = declared_send (CountedPass.the_type item view) (as_row_send (Seat.the_field (Option.the_row item) (Doing.the_row item view)) (seat.the_send (Option.the_row item) (Doing.the_row item view) (option_send item (stamped_send t))), (search (count_send, crosses, sendable) depth 60, tt))
+  counted_send : IsSend T → IsSend H → IsSend (CountedPass.the_row item view)
+  counted_send t h = declared_send (CountedPass.the_type item view) (as_row_send (Seat.the_field (Option.the_row item) (Doing.the_row item view)) (seat.the_send (Option.the_row item) (Doing.the_row item view) (option_send item (stamped_send t h))), (search (count_send, crosses, sendable) depth 60, tt))
 
-  adding_send : IsSend T → IsSend (Producer.the_row T H owed)
-  adding_send t =
-      view_send _ _ _ _ _ (declared_send (adding.the_type T H owed) (as_row_send (Arc.the_field queue Global.the_row global.ghosts) (heap.Arc-send queue (queue_send t) (queue_sync t)), (as_row_send (row_field (CountedPass.the_row item view)) (counted_send t), (search sendable, (search (count_send, crosses, sendable) depth 60, (search (count_send, crosses, sendable) depth 60, tt))))))
+  adding_send : IsSend T → IsSend H → IsSend (Producer.the_row T H owed)
+  adding_send t h =
+      view_send _ _ _ _ _ (declared_send (adding.the_type T H owed) (as_row_send (Arc.the_field queue Global.the_row global.ghosts) (heap.Arc-send queue (queue_send t h) (queue_sync t h)), (as_row_send (row_field (CountedPass.the_row item view)) (counted_send t h), (search sendable, (search (count_send, crosses, sendable) depth 60, (search (count_send, crosses, sendable) depth 60, tt))))))
 
-  taking_send : IsSend T → IsSend (Consumer.the_row T H owed)
-  taking_send t =
-      view_send _ _ _ _ _ (declared_send (taking.the_type T H owed) (as_row_send (Arc.the_field queue Global.the_row global.ghosts) (heap.Arc-send queue (queue_send t) (queue_sync t)), (as_row_send (row_field (CountedPass.the_row item view)) (counted_send t), (search sendable, tt))))
+  taking_send : IsSend T → IsSend H → IsSend (Consumer.the_row T H owed)
+  taking_send t h =
+      view_send _ _ _ _ _ (declared_send (taking.the_type T H owed) (as_row_send (Arc.the_field queue Global.the_row global.ghosts) (heap.Arc-send queue (queue_send t h) (queue_sync t h)), (as_row_send (row_field (CountedPass.the_row item view)) (counted_send t h), (search sendable, tt))))
 
-  pub outbox_send : IsSend T → IsSend (Outbox.the_row T H owed)
-  outbox_send t = view_send _ _ _ _ _ (declared_send (outbox.the_type T H owed) (as_row_send (Producer.the_field T H owed) (adding_send t), (search sendable, (search (crosses, sendable) depth 60, (search (unparker.the_field_send, unparker.the_send, crosses, heap.send, heap.sync, heap.frees, sendable) depth 60, tt)))))
+  pub outbox_send : IsSend T → IsSend H → IsSend (Outbox.the_row T H owed)
+  outbox_send t h = view_send _ _ _ _ _ (declared_send (outbox.the_type T H owed) (as_row_send (Producer.the_field T H owed) (adding_send t h), (search sendable, (search (crosses, sendable) depth 60, (search (unparker.the_field_send, unparker.the_send, crosses, heap.send, heap.sync, heap.frees, sendable) depth 60, tt)))))
 
-  pub drain_send : IsSend T → IsSend (Drain.the_row T H owed)
-  drain_send t = view_send _ _ _ _ _ (declared_send (drain.the_type T H owed) (as_row_send (Consumer.the_field T H owed) (taking_send t), (search (crosses, sendable) depth 60, (search (parker.the_field_send, parker.the_send, crosses, heap.send, heap.sync, heap.frees, sendable) depth 60, tt))))
+  pub drain_send : IsSend T → IsSend H → IsSend (Drain.the_row T H owed)
+  drain_send t h = view_send _ _ _ _ _ (declared_send (drain.the_type T H owed) (as_row_send (Consumer.the_field T H owed) (taking_send t h), (option_send H h, (search (crosses, sendable) depth 60, (search (parker.the_field_send, parker.the_send, crosses, heap.send, heap.sync, heap.frees, sendable) depth 60, tt)))))

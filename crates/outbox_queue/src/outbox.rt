@@ -132,14 +132,14 @@ impl<T: Drop, H: Owed<T>> Outbox<T, H> {
     }
 
     /// Stamps the next item that a history owes the connection: the one at the place after the last that was added.
-    pub fn stamp(&self, item: T, history: &H) -> Stamped<T, H>
-        requires { slice_get (H.owed history.now self.now.conn) (length self.now.added)
+    pub fn stamp(&self, item: T, history: H) -> Stamped<T, H>
+        requires { slice_get (H.owed history self.now.conn) (length self.now.added)
             ≡ Some item }
         ensures { result ≡ record {
           item = item;
           conn = self.now.conn;
           place = length self.now.added;
-          history = history.now;
+          history = history;
         } }
     {
         self.end.stamp(item, history)
