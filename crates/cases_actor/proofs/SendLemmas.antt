@@ -21,7 +21,7 @@ poster_send : IsSend (Poster.the_row Wire.the_row shut.ghosts)
 poster_send = ends.poster_send Wire.the_row shut.ghosts wire_send
 
 items_send : IsSend (Drain.the_row Item.the_row RealmHistory.the_row owed.ghosts)
-items_send = drain_send Item.the_row RealmHistory.the_row owed.ghosts item_send
+items_send = drain_send Item.the_row RealmHistory.the_row owed.ghosts item_send ends.history_send
 
 pub publisher_send : IsSend Publisher.the_row
 publisher_send = declared_send Publisher.the_type (poster_send, (search sendable, (search (crosses, sendable) depth 60, tt)))

@@ -15,7 +15,31 @@ pub struct Listed {
     items: Snapshot<Vec<Item>>,
 }
 
-impl Owed<Item> for Listed {
+/// The history that owes these items, for a stamp. It takes no bytes.
+#[derive(Drop)]
+pub struct ListHistory {
+    of: Snapshot<Listed>,
+}
+
+impl Model for ListHistory {
+    ghost use Rattle.cases_connection.specs.declared.owed.Listed.{Listed};
+
+    ghost Value = { Listed };
+
+    ghost view = { λ h. h.of.value };
+}
+
+impl ListHistory {
+    fn of(listed: &Listed) -> ListHistory
+        ensures { result ≡ listed.now }
+    {
+        ListHistory {
+            of: Snapshot::of(listed),
+        }
+    }
+}
+
+impl Owed<Item> for ListHistory {
     ghost use Rattle.std.proofs.Common.{refl, ◌∙◌};
     ghost use Rattle.cases_connection.specs.Listing.{Same, owed, owes_on};
 
@@ -33,7 +57,7 @@ impl Owed<Item> for Listed {
 /// Adds what is owed, item by item, and then closes the outbox.
 #[derive(Drop)]
 pub struct Adder {
-    outbox: Outbox<Item, Listed>,
+    outbox: Outbox<Item, ListHistory>,
     left: VecDeque<Item>,
     listed: Listed,
 }
@@ -52,11 +76,11 @@ impl Model for Adder {
 }
 
 // Lets go of an item that found no room.
-fn let_go(_back: Full<Stamped<Item, Listed>>) {}
+fn let_go(_back: Full<Stamped<Item, ListHistory>>) {}
 
 impl Adder {
     // Adds the items of an outbox to which nothing was added.
-    fn new(outbox: Outbox<Item, Listed>, items: Vec<Item>) -> Adder
+    fn new(outbox: Outbox<Item, ListHistory>, items: Vec<Item>) -> Adder
         requires added { outbox.added ≡ [] }
         requires history { outbox.history ≡ None }
     {
@@ -79,7 +103,7 @@ impl Adder {
             self.outbox.close();
             return false;
         };
-        let stamped = self.outbox.stamp(item, &self.listed);
+        let stamped = self.outbox.stamp(item, ListHistory::of(&self.listed));
         if let Err(back) = self.outbox.add(rt, stamped) {
             let_go(back);
             self.left.clear();
@@ -102,14 +126,14 @@ impl Adder {
 #[derive(Drop)]
 pub struct Owing {
     pub adder: Adder,
-    pub drain: Drain<Item, Listed>,
+    pub drain: Drain<Item, ListHistory>,
 }
 
 impl Owing {
     /// These items are owed.
     pub fn of(alloc: Global, items: Vec<Item>) -> Result<Owing, AllocError> {
         let cap = items.len().max(1).min(MOST_ITEMS);
-        let (outbox, drain) = pair::<Item, Listed>(alloc, 1, cap)?;
+        let (outbox, drain) = pair::<Item, ListHistory>(alloc, 1, cap)?;
         Ok(Owing {
             adder: Adder::new(outbox, items),
             drain,

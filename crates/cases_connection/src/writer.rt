@@ -2,7 +2,7 @@
 use crate::client::{Client, Devices, Manner};
 use crate::fed::Fed;
 use crate::items::{event_of, item_of, publication};
-use crate::owed::{Listed, Owing};
+use crate::owed::{ListHistory, Owing};
 use case_text::{line_of, spelled};
 use connection::{WriteEnd, write_items};
 use message_tree::Shared;
@@ -153,7 +153,7 @@ fn write_to<R: Wait, O: Sink>(
     rt: &R,
     alloc: Global,
     client: Client,
-    drain: Drain<Item, Listed>,
+    drain: Drain<Item, ListHistory>,
     sink: &mut O,
 ) -> WriteEnd {
     let (_, end) = write_items(rt, alloc, drain, sink, client.serializer, client.limit);

@@ -64,7 +64,7 @@ impl Adder {
         let Some(number) = self.numbers.first.checked_add(self.added) else {
             return Added::No;
         };
-        let item = self.outbox.stamp(number, &self.numbers);
+        let item = self.outbox.stamp(number, self.numbers);
         match self.outbox.add(rt, item) {
             Ok(()) => {
                 self.added += 1;

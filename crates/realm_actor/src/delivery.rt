@@ -6,7 +6,8 @@ ghost use Rattle.realm_actor.specs.Rows.{Ascending, EachDue, EachGoes, NoneRose}
 use crate::row::Row;
 use crate::row_search::find_by_seat;
 use crate::seat_guesses::SeatGuesses;
-use realm_inbox::{RealmHistory, Shut};
+use realm::Realm;
+use realm_inbox::Shut;
 use session::Item;
 use std::sync::Wait;
 use wamp_ids::Conn;
@@ -33,12 +34,12 @@ fn offer_one<S: Shut, R: Wait>(
     pass: Pass,
     conn: Conn,
     item: Item,
-    history: &RealmHistory,
+    realm: &Realm,
 ) -> Pass
     requires ascending { Ascending rows.old }
-    requires due { (rest : List (ℕ × AnItem)) × EachDue history.now ((conn, item) ∷ rest) rows.old }
-    ensures due { (rest : List (ℕ × AnItem)) → EachDue history.now ((conn, item) ∷ rest) rows.old
-        → EachDue history.now rest rows.new }
+    requires due { (rest : List (ℕ × AnItem)) × EachDue realm.now ((conn, item) ∷ rest) rows.old }
+    ensures due { (rest : List (ℕ × AnItem)) → EachDue realm.now ((conn, item) ∷ rest) rows.old
+        → EachDue realm.now rest rows.new }
     ensures goes { EachGoes rows.old rows.new }
     ensures none { result.is_full ≡ false → (pass.is_full ≡ false) × NoneRose rows.old rows.new }
 {
@@ -49,7 +50,7 @@ fn offer_one<S: Shut, R: Wait>(
         leave(rows, pass.place);
     }
     let row = &mut rows[place];
-    let is_full = row.offer(rt, item, history);
+    let is_full = row.offer(rt, item, realm);
     Pass {
         place,
         is_full: either(pass.is_full, is_full),
@@ -69,11 +70,11 @@ pub fn offer_all<S: Shut, R: Wait>(
     rows: &mut [Row<S>],
     guesses: &mut SeatGuesses,
     given: &mut Vec<(Conn, Item)>,
-    history: &RealmHistory,
+    realm: &Realm,
 ) -> bool
     requires ascending { Ascending rows.old }
-    requires due { EachDue history.now given.old.items rows.old }
-    ensures due { EachDue history.now [] rows.new }
+    requires due { EachDue realm.now given.old.items rows.old }
+    ensures due { EachDue realm.now [] rows.new }
     ensures goes { EachGoes rows.old rows.new }
     ensures none { result ≡ false → NoneRose rows.old rows.new }
 {
@@ -82,7 +83,7 @@ pub fn offer_all<S: Shut, R: Wait>(
         is_full: false,
     };
     for (conn, item) in given.drain(..) {
-        pass = offer_one(rt, rows, guesses, pass, conn, item, history);
+        pass = offer_one(rt, rows, guesses, pass, conn, item, realm);
     }
     leave(rows, pass.place);
     pass.is_full

@@ -1,15 +1,34 @@
 //! A session's row in the actor's table: its outbox and its transport, as long as they are held.
-ghost use Rattle.std.specs.Prelude.{◌≡◌, ◌<◌, false, true, ◌∷◌, List, Some};
+ghost use Rattle.std.specs.Prelude.{◌≡◌, ◌<◌, false, true, ◌∷◌, List, Some, length, slice_get};
 ghost use Rattle.std.specs.Option.{ForSome};
 ghost use Rattle.session.specs.declared.messages.item.Item.{Item as AnItem};
+ghost use Rattle.realm.specs.Yield.{owed};
 ghost use Rattle.realm_actor.specs.OutboxHistory.{Follows, Goes};
 
-use outbox_queue::{Full, Outbox};
+use outbox_queue::{Full, Outbox, Stamped};
+use realm::Realm;
 use realm_inbox::{RealmHistory, Shut};
 use session::Item;
 use std::cell::Cell;
 use std::sync::Wait;
 use wamp_ids::Conn;
+
+// Stamps the item, which is the next that the realm's history owes the outbox's session, by that history.
+fn stamp(
+    outbox: &Outbox<Item, RealmHistory>,
+    item: Item,
+    realm: &Realm,
+) -> Stamped<Item, RealmHistory>
+    requires { slice_get (owed realm.now outbox.now.conn) (length outbox.now.added) ≡ Some item }
+    ensures { result ≡ record {
+      item = item;
+      conn = outbox.now.conn;
+      place = length outbox.now.added;
+      history = realm.now;
+    } }
+{
+    outbox.stamp(item, RealmHistory::of(realm))
+}
 
 /// The outbox of a session, its transport, and whether a step found the outbox full.
 #[derive(Drop)]
@@ -24,12 +43,12 @@ pub struct Held<S: Shut> {
 }
 
 impl<S: Shut> Held<S> {
-    /// Adds the item, which is the next that is due, unless the outbox was found full before or is now. True where it
-    /// is now.
-    pub fn offer<R: Wait>(&mut self, rt: &R, item: Item, history: &RealmHistory) -> bool
-        requires { (due : List AnItem) × Follows history.now (item ∷ due) self.old.outbox }
-        ensures follows { (due : List AnItem) → Follows history.now (item ∷ due) self.old.outbox
-            → Follows history.now due self.new.outbox }
+    /// Adds the item, which is the next that the realm's history owes, unless the outbox was found full before or is now. True
+    /// where it is now.
+    pub fn offer<R: Wait>(&mut self, rt: &R, item: Item, realm: &Realm) -> bool
+        requires { (due : List AnItem) × Follows realm.now (item ∷ due) self.old.outbox }
+        ensures follows { (due : List AnItem) → Follows realm.now (item ∷ due) self.old.outbox
+            → Follows realm.now due self.new.outbox }
         ensures goes { Goes self.old.outbox self.new.outbox }
         ensures rose { result ≡ true → self.old.outbox.full_finds < self.new.outbox.full_finds }
         ensures same { result ≡ false → self.new.outbox.full_finds ≡ self.old.outbox.full_finds }
@@ -38,7 +57,7 @@ impl<S: Shut> Held<S> {
         if self.is_full {
             return false;
         }
-        let stamped = self.outbox.stamp(item, history);
+        let stamped = stamp(&self.outbox, item, realm);
         if let Err(Full(_)) = self.outbox.add(rt, stamped) {
             self.is_full = true;
             self.transport.note_full();
@@ -87,18 +106,19 @@ impl<S: Shut> Row<S> {
     ghost use Rattle.realm_actor.specs.Rows.{Rose, RowDue, RowGoes, box_in};
     ghost use Rattle.realm_actor.specs.Tables.{BoxEnds};
 
-    /// Offers the item, which is the next that is due, to the row's outbox, if it is held. True where that is found full.
-    pub fn offer<R: Wait>(&mut self, rt: &R, item: Item, history: &RealmHistory) -> bool
-        requires { (due : List AnItem) × RowDue history.now (item ∷ due) self.old }
-        ensures due { (due : List AnItem) → RowDue history.now (item ∷ due) self.old
-            → RowDue history.now due self.new }
+    /// Offers the item, which is the next that the realm's history owes, to the row's outbox, if it is held. True where that is
+    /// found full.
+    pub fn offer<R: Wait>(&mut self, rt: &R, item: Item, realm: &Realm) -> bool
+        requires { (due : List AnItem) × RowDue realm.now (item ∷ due) self.old }
+        ensures due { (due : List AnItem) → RowDue realm.now (item ∷ due) self.old
+            → RowDue realm.now due self.new }
         ensures goes { RowGoes self.old self.new }
         ensures same { result ≡ false → Rose (box_in self.old) (box_in self.new) → ⊥ }
     {
         let Some(held) = &mut self.held else {
             return false;
         };
-        if held.offer(rt, item, history) {
+        if held.offer(rt, item, realm) {
             self.is_cut = true;
             return true;
         }

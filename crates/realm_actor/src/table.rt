@@ -15,7 +15,7 @@ use crate::row::Row;
 use crate::row_search::{find, place_in};
 use crate::seat_guesses::SeatGuesses;
 use realm::{Entry, Fault, Realm};
-use realm_inbox::{RealmHistory, Shut};
+use realm_inbox::Shut;
 use session::Item;
 use std::alloc::Global;
 use std::sync::Wait;
@@ -55,18 +55,18 @@ fn deliver<S: Shut, R: Wait>(
     rows: &mut Vec<Row<S>>,
     guesses: &mut SeatGuesses,
     given: &mut Vec<(Conn, Item)>,
-    history: &RealmHistory,
+    realm: &Realm,
     conn: Conn,
     is_live: bool,
 ) -> bool
     requires ascending { Ascending rows.old.items }
-    requires due { EachDue history.now given.old.items rows.old.items }
-    ensures rows { (mid : List (ARow _)) × EachGoes rows.old.items mid × EachDue history.now [] mid
+    requires due { EachDue realm.now given.old.items rows.old.items }
+    ensures rows { (mid : List (ARow _)) × EachGoes rows.old.items mid × EachDue realm.now [] mid
         × EachEnds conn is_live mid rows.new.items }
     ensures none { result ≡ false → NoneRose rows.old.items rows.new.items }
 {
     let rows = rows.as_mut_slice();
-    let is_full = offer_all(rt, rows, guesses, given, history);
+    let is_full = offer_all(rt, rows, guesses, given, realm);
     close_ended(rows, conn, is_live);
     is_full
 }
@@ -94,14 +94,13 @@ impl<S: Shut> Table<S> {
         ensures silent { is_silent entry ≡ true → IsOk result }
     {
         let mut given = self.realm.apply(alloc, entry)?;
-        let history = RealmHistory::of(&self.realm);
         let is_live = self.realm.is_live(conn);
         let is_full = deliver(
             rt,
             &mut self.rows,
             &mut self.guesses,
             &mut given,
-            &history,
+            &self.realm,
             conn,
             is_live,
         );
@@ -140,7 +139,6 @@ impl<S: Shut> Table<S> {
         let Ok(mut given) = self.realm.apply(alloc, entry) else {
             return Err(row);
         };
-        let history = RealmHistory::of(&self.realm);
         let is_live = self.realm.is_live(conn);
         let place = place_in(self.rows.as_slice(), conn);
         put(&mut self.rows, place, row);
@@ -149,7 +147,7 @@ impl<S: Shut> Table<S> {
             &mut self.rows,
             &mut self.guesses,
             &mut given,
-            &history,
+            &self.realm,
             conn,
             is_live,
         );

@@ -1,7 +1,7 @@
 -- What an inbox carries, and its ends, may go to other threads where the transport may.
 use denote.RattleType.{RattleType}
 use denote.Struct.Field.{row_field}
-use denote.Param.Send.{IsSend, IsSync, sendable}
+use denote.Param.Send.{IsSend, IsSync, view_send, sendable}
 use denote.Param.SendFields.{declared_send, variants_send, as_row_send}
 use Rattle.std.proofs.Crossing.{crosses}
 use Rattle.std.proofs.Crossing as heap
@@ -44,6 +44,7 @@ use Rattle.realm_inbox.specs.contracts.ends.Inbox as Inbox
 use Rattle.realm_inbox.specs.contracts.ends.Poster as Poster
 use Rattle.realm_inbox.specs.contracts.ends.Seat as Seat
 use Rattle.realm_inbox.specs.contracts.history.RealmHistory as RealmHistory
+use Rattle.realm_inbox.specs.contracts.history.RealmHistory.TheInside as history
 use Rattle.realm_inbox.specs.contracts.history.RealmHistoryOwedItem.TheImpl as owed
 use Rattle.realm_inbox.specs.contracts.joining.Joining as Joining
 use Rattle.realm_inbox.specs.contracts.letter.Halt as Halt
@@ -90,8 +91,11 @@ weight_send = declared_send Weight.the_type (held_send, tt)
 bells_send : IsSend Bells.the_row
 bells_send = declared_send Bells.the_type (as_row_send (Arc.the_field RoomBell.the_row Global.the_row global.ghosts) room_send, (search (unparker.the_field_send, unparker.the_send, crosses, heap.send, heap.sync, heap.frees, sendable) depth 60, tt))
 
+pub history_send : IsSend RealmHistory.the_row
+history_send = view_send _ _ _ _ _ (declared_send history.the_type (search (crosses, sendable) depth 60, tt))
+
 items_send : IsSend (Outbox.the_row Item.the_row RealmHistory.the_row owed.ghosts)
-items_send = outbox_send Item.the_row RealmHistory.the_row owed.ghosts item_send
+items_send = outbox_send Item.the_row RealmHistory.the_row owed.ghosts item_send history_send
 
 module _ (S : RattleType) where
   joining_send : IsSend S → IsSend (Joining.the_row S)

@@ -20,7 +20,7 @@ use Rattle.outbox_queue.specs.contracts.drain.Drain as Drain
 use Rattle.rawsocket.proofs.handshake.Serializer.TheSendSync as serializer
 use Rattle.rawsocket.specs.contracts.handshake.Serializer as Serializer
 use Rattle.connection.specs.contracts.pongs.OwedPongs as OwedPongs
-use Rattle.realm_inbox.proofs.SendLemmas.{backlog_send, backlog_sync, inbox_send, poster_send}
+use Rattle.realm_inbox.proofs.SendLemmas.{backlog_send, backlog_sync, history_send, inbox_send, poster_send}
 use Rattle.realm_inbox.specs.contracts.ends.Poster as Poster
 use Rattle.realm_inbox.specs.contracts.history.RealmHistory as RealmHistory
 use Rattle.realm_inbox.specs.contracts.history.RealmHistoryOwedItem.TheImpl as owed
@@ -60,7 +60,7 @@ fate_sync : IsSync Fate.the_row
 fate_sync = search (maps, crosses, sendable) depth 60 fits 20000
 
 items_send : IsSend (Drain.the_row Item.the_row RealmHistory.the_row owed.ghosts)
-items_send = drain_send Item.the_row RealmHistory.the_row owed.ghosts item_send
+items_send = drain_send Item.the_row RealmHistory.the_row owed.ghosts item_send history_send
 
 pongs_send : IsSend OwedPongs.the_row
 pongs_send = search (backlog_send, backlog_sync, crosses, sendable) depth 60

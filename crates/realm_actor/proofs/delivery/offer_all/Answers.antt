@@ -13,14 +13,14 @@ whole v = let from_begin : v.len - 0 ≡ v.len = omega arith in ap (λ n. take n
 pub loop-conn-init : goal.loop-conn-init
 loop-conn-init g c = record {
   up = c.requires.ascending;
-  due = subst (λ l. EachDue c.args.history.now l c.args.rows.now) (sym (ap drain_items c.into_iter-conn-iterator.ensures.into_iter_gives ∙ (c.drain-conn-items.ensures.rest ∙ whole c.args.given.now))) c.requires.due;
+  due = subst (λ l. EachDue c.args.realm.now l c.args.rows.now) (sym (ap drain_items c.into_iter-conn-iterator.ensures.into_iter_gives ∙ (c.drain-conn-items.ensures.rest ∙ whole c.args.given.now))) c.requires.due;
   goes = EachGoes-same c.args.rows.now;
   none = λ _. none_same c.args.rows.now;
 }
 
 pub offer_one-pass-requires-clause-due : goal.offer_one-pass-requires-clause-due
 offer_one-pass-requires-clause-due g c =
-    (drain_items c.next.new.self, subst (λ l. EachDue c.args.history.now l c.loop-conn.rows) c.in-Some.ensures.steps.0 c.loop-conn.invariant.due)
+    (drain_items c.next.new.self, subst (λ l. EachDue c.args.realm.now l c.loop-conn.rows) c.in-Some.ensures.steps.0 c.loop-conn.invariant.due)
 
 pub loop-conn-preserved : goal.loop-conn-preserved
 loop-conn-preserved g c =
@@ -28,10 +28,10 @@ loop-conn-preserved g c =
     let step = c.offer_one-pass.ensures in
     record {
       up = Ascending-goes c.loop-conn.rows c.offer_one-pass.new.rows step.goes i.up;
-      due = step.due (drain_items c.next.new.self) (subst (λ l. EachDue c.args.history.now l c.loop-conn.rows) c.in-Some.ensures.steps.0 i.due);
+      due = step.due (drain_items c.next.new.self) (subst (λ l. EachDue c.args.realm.now l c.loop-conn.rows) c.in-Some.ensures.steps.0 i.due);
       goes = EachGoes-on c.args.rows.now c.loop-conn.rows c.offer_one-pass.new.rows i.goes step.goes;
       none = λ quiet. let t = step.none quiet in none_on c.args.rows.now c.loop-conn.rows c.offer_one-pass.new.rows i.goes step.goes (i.none t.0) t.1;
     }
 
 pub returns-clause-due : goal.returns-clause-due
-returns-clause-due g c = subst (λ l. EachDue c.args.history.now l c.loop-conn.rows) c.in-None.ensures.steps.0 c.loop-conn.invariant.due
+returns-clause-due g c = subst (λ l. EachDue c.args.realm.now l c.loop-conn.rows) c.in-None.ensures.steps.0 c.loop-conn.invariant.due

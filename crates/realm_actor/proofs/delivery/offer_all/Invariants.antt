@@ -6,7 +6,7 @@ use Rattle.realm_actor.proofs.delivery.offer_all.Given as goal
 abbrev pub invariant-loop-conn : goal.invariant-loop-conn
 invariant-loop-conn g l = record {
   up : Ascending l.rows;
-  due : EachDue l.history (drain_items l.conn-iterator) l.rows;
+  due : EachDue l.realm (drain_items l.conn-iterator) l.rows;
   goes : EachGoes l.initial.rows l.rows;
   none : l.pass.is_full ≡ false → NoneRose l.initial.rows l.rows;
 }

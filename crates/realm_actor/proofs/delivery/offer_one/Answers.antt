@@ -5,22 +5,22 @@ use Rattle.realm_actor.proofs.RowDelivery.{due_here, due_next, due_nowhere, goes
 use Rattle.realm_actor.proofs.delivery.offer_one.Goals as goal
 
 pub returns-in_default-clause-due : goal.returns-in_default-clause-due
-returns-in_default-clause-due g c = λ rest due. due_nowhere c.args.history.now c.args.rows.now c.args.conn c.args.item rest c.in_default.ensures due
+returns-in_default-clause-due g c = λ rest due. due_nowhere c.args.realm.now c.args.rows.now c.args.conn c.args.item rest c.in_default.ensures due
 
 pub offer-is_full-requires : goal.offer-is_full-requires
 offer-is_full-requires g c =
     let s = c.in-Some.ensures in
     let row = row_at c.args.rows.now c.in-Some.place c.index-rows-place.result s.1 s.0 s.2 in
     let due = c.requires.due in
-    (items_for c.args.conn due.0, due_here c.args.history.now c.args.rows.now c.args.conn c.args.item due.0 c.in-Some.place _ row.0 (ap (λ x. x.conn) row.1 ∙ s.3) due.1)
+    (items_for c.args.conn due.0, due_here c.args.realm.now c.args.rows.now c.args.conn c.args.item due.0 c.in-Some.place _ row.0 (ap (λ x. x.conn) row.1 ∙ s.3) due.1)
 
 pub returns-clause-due : goal.returns-clause-due
 returns-clause-due g c = λ rest due.
     let s = c.in-Some.ensures in
     let row = row_at c.args.rows.now c.in-Some.place c.index-rows-place.result s.1 s.0 s.2 in
     let own = ap (λ x. x.conn) row.1 ∙ s.3 in
-    let told = due_here c.args.history.now c.args.rows.now c.args.conn c.args.item rest c.in-Some.place _ row.0 own due in
-    due_next c.args.history.now c.args.rows.now c.args.conn c.args.item rest c.in-Some.place _ c.offer-is_full.new.self c.requires.ascending row.0 own c.offer-is_full.ensures.goes.conn
+    let told = due_here c.args.realm.now c.args.rows.now c.args.conn c.args.item rest c.in-Some.place _ row.0 own due in
+    due_next c.args.realm.now c.args.rows.now c.args.conn c.args.item rest c.in-Some.place _ c.offer-is_full.new.self c.requires.ascending row.0 own c.offer-is_full.ensures.goes.conn
     (c.offer-is_full.ensures.due (items_for c.args.conn rest) told) due
 
 pub returns-clause-goes : goal.returns-clause-goes

@@ -34,7 +34,7 @@ deliver-is_full-requires-clause-due g c =
     let parts = subst (λ l. PartsAt l c.args.conn i) seen c.place_in-place.ensures in
     let put : c.put.new.rows.items ≡ insert table.rows.items i c.args.row = c.put.ensures in
     let ready = ready_join table.realm c.args.entry c.args.conn table.rows.items i c.args.row new.outbox c.requires.own c.requires.may c.requires.sound parts new.conn new.box new.of_conn new.empty new.unseen new.fresh new.never in
-    subst (λ h. EachDue h c.in-Ok.given.items c.put.new.rows.items) (sym (c.of-history.ensures ∙ c.in-Ok.ensures.history))
+    subst (λ h. EachDue h c.in-Ok.given.items c.put.new.rows.items) (sym (c.in-Ok.ensures.history))
     (due_all table.realm c.args.entry c.put.new.rows.items c.in-Ok.given.items (subst (λ l. Ready c.args.entry table.realm l) (sym put) ready) c.in-Ok.ensures.given)
 
 pub returns-clause-rows : goal.returns-clause-rows
@@ -51,7 +51,7 @@ returns-clause-rows g c =
       i,
       subst (λ l. EachWent l c.deliver-is_full.new.rows.items) put
           (went_all table.realm c.args.entry c.args.conn c.put.new.rows.items d.0 c.deliver-is_full.new.rows.items c.requires.own c.requires.comes (subst (λ l. Ready c.args.entry table.realm l) (sym put) ready) d.1
-          (subst (λ h. EachDue h [] d.0) (c.of-history.ensures ∙ is) d.2)
+          (subst (λ h. EachDue h [] d.0) is d.2)
           (subst (λ b. EachEnds c.args.conn b d.0 c.deliver-is_full.new.rows.items) (c.is_live-is_live.ensures ∙ ap (λ h. live h c.args.conn) is) d.3)),
     )
 
@@ -68,7 +68,7 @@ returns-clause-sound g c =
     let is = c.in-Ok.ensures.history in
     subst (λ h. Sound h c.deliver-is_full.new.rows.items) (sym (c.give_back.ensures ∙ is))
     (sound_after table.realm c.args.entry c.args.conn c.put.new.rows.items d.0 c.deliver-is_full.new.rows.items c.requires.own c.requires.comes (subst (λ l. Ready c.args.entry table.realm l) (sym put) ready) d.1
-    (subst (λ h. EachDue h [] d.0) (c.of-history.ensures ∙ is) d.2)
+    (subst (λ h. EachDue h [] d.0) is d.2)
     (subst (λ b. EachEnds c.args.conn b d.0 c.deliver-is_full.new.rows.items) (c.is_live-is_live.ensures ∙ ap (λ h. live h c.args.conn) is) d.3))
 
 pub returns-clause-none : goal.returns-clause-none
@@ -83,7 +83,7 @@ returns-clause-none g c = λ quiet none.
     let d = c.deliver-is_full.ensures.rows in
     let is = c.in-Ok.ensures.history in
     let went = went_all table.realm c.args.entry c.args.conn c.put.new.rows.items d.0 c.deliver-is_full.new.rows.items c.requires.own c.requires.comes (subst (λ l. Ready c.args.entry table.realm l) (sym put) ready) d.1
-    (subst (λ h. EachDue h [] d.0) (c.of-history.ensures ∙ is) d.2)
+    (subst (λ h. EachDue h [] d.0) is d.2)
     (subst (λ b. EachEnds c.args.conn b d.0 c.deliver-is_full.new.rows.items) (c.is_live-is_live.ensures ∙ ap (λ h. live h c.args.conn) is) d.3) in
     still_none c.put.new.rows.items c.deliver-is_full.new.rows.items went (c.deliver-is_full.ensures.none quiet) (subst (λ l. NoneFull l) (sym put) (none_inserted table.rows.items i c.args.row new.outbox new.box new.never none))
 
@@ -100,7 +100,7 @@ returns-clause-knows g c =
     let is = c.in-Ok.ensures.history in
     let lives = c.is_live-is_live.ensures ∙ ap (λ h. live h c.args.conn) is in
     let went = went_all table.realm c.args.entry c.args.conn c.put.new.rows.items d.0 c.deliver-is_full.new.rows.items c.requires.own c.requires.comes (subst (λ l. Ready c.args.entry table.realm l) (sym put) ready) d.1
-    (subst (λ h. EachDue h [] d.0) (c.of-history.ensures ∙ is) d.2)
+    (subst (λ h. EachDue h [] d.0) is d.2)
     (subst (λ b. EachEnds c.args.conn b d.0 c.deliver-is_full.new.rows.items) lives d.3) in
     knows_join table _ table.realm c.args.entry c.args.conn i c.args.row c.deliver-is_full.result c.is_live-is_live.result c.requires.own (c.give_back.ensures ∙ is) refl lives new.conn new.is_cut new.is_lost
     (subst (λ l. EachWent l c.deliver-is_full.new.rows.items) put went)

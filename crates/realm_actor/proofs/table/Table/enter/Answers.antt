@@ -9,7 +9,7 @@ use Rattle.realm_actor.proofs.table.Table.enter.Goals as goal
 pub deliver-is_full-requires-clause-due : goal.deliver-is_full-requires-clause-due
 deliver-is_full-requires-clause-due g c =
     let table = c.args.self.now in
-    subst (λ h. EachDue h c.in_ok-given.given.items table.rows.items) (sym (c.of-history.ensures ∙ c.in_ok-given.ensures.history))
+    subst (λ h. EachDue h c.in_ok-given.given.items table.rows.items) (sym (c.in_ok-given.ensures.history))
     (due_all table.realm c.args.entry table.rows.items c.in_ok-given.given.items c.requires.ready c.in_ok-given.ensures.given)
 
 pub returns-clause-rows : goal.returns-clause-rows
@@ -18,7 +18,7 @@ returns-clause-rows g c =
     let d = c.deliver-is_full.ensures.rows in
     let is = c.in_ok-given.ensures.history in
     went_all table.realm c.args.entry c.args.conn table.rows.items d.0 c.deliver-is_full.new.rows.items c.requires.own c.requires.comes c.requires.ready d.1
-    (subst (λ h. EachDue h [] d.0) (c.of-history.ensures ∙ is) d.2)
+    (subst (λ h. EachDue h [] d.0) is d.2)
     (subst (λ b. EachEnds c.args.conn b d.0 c.deliver-is_full.new.rows.items) (c.is_live-is_live.ensures ∙ ap (λ h. live h c.args.conn) is) d.3)
 
 pub returns-clause-sound : goal.returns-clause-sound
@@ -28,7 +28,7 @@ returns-clause-sound g c =
     let is = c.in_ok-given.ensures.history in
     subst (λ h. Sound h c.deliver-is_full.new.rows.items) (sym (c.give_back.ensures ∙ is))
     (sound_after table.realm c.args.entry c.args.conn table.rows.items d.0 c.deliver-is_full.new.rows.items c.requires.own c.requires.comes c.requires.ready d.1
-    (subst (λ h. EachDue h [] d.0) (c.of-history.ensures ∙ is) d.2)
+    (subst (λ h. EachDue h [] d.0) is d.2)
     (subst (λ b. EachEnds c.args.conn b d.0 c.deliver-is_full.new.rows.items) (c.is_live-is_live.ensures ∙ ap (λ h. live h c.args.conn) is) d.3))
 
 pub returns-clause-none : goal.returns-clause-none
@@ -37,7 +37,7 @@ returns-clause-none g c = λ quiet none.
     let d = c.deliver-is_full.ensures.rows in
     let is = c.in_ok-given.ensures.history in
     let went = went_all table.realm c.args.entry c.args.conn table.rows.items d.0 c.deliver-is_full.new.rows.items c.requires.own c.requires.comes c.requires.ready d.1
-    (subst (λ h. EachDue h [] d.0) (c.of-history.ensures ∙ is) d.2)
+    (subst (λ h. EachDue h [] d.0) is d.2)
     (subst (λ b. EachEnds c.args.conn b d.0 c.deliver-is_full.new.rows.items) (c.is_live-is_live.ensures ∙ ap (λ h. live h c.args.conn) is) d.3) in
     still_none table.rows.items c.deliver-is_full.new.rows.items went (c.deliver-is_full.ensures.none quiet) none
 
@@ -48,6 +48,6 @@ returns-clause-knows g c =
     let is = c.in_ok-given.ensures.history in
     let lives = c.is_live-is_live.ensures ∙ ap (λ h. live h c.args.conn) is in
     let went = went_all table.realm c.args.entry c.args.conn table.rows.items d.0 c.deliver-is_full.new.rows.items c.requires.own c.requires.comes c.requires.ready d.1
-    (subst (λ h. EachDue h [] d.0) (c.of-history.ensures ∙ is) d.2)
+    (subst (λ h. EachDue h [] d.0) is d.2)
     (subst (λ b. EachEnds c.args.conn b d.0 c.deliver-is_full.new.rows.items) lives d.3) in
     knows_entry table _ table.realm c.args.entry c.args.conn c.deliver-is_full.result c.is_live-is_live.result c.requires.own (c.give_back.ensures ∙ is) refl lives went c.deliver-is_full.ensures.none c.either-self.ensures c.either-self-2.ensures
