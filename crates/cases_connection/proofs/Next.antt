@@ -4,13 +4,15 @@ use Rattle.std.specs.Prelude.{slice_get}
 use Rattle.session.specs.declared.messages.item.Item.{Item}
 use Rattle.cases_connection.specs.Listing.{owed, Owes}
 use Rattle.cases_connection.specs.declared.owed.Listed.{Listed}
+use Rattle.cases_connection.specs.declared.owed.ListHistory.{ListHistory}
 
 behind : (added more : List Item) (item : Item) → slice_get (added ++ item ∷ more) (length added) ≡ Some item
 behind [] more item = refl
 behind (x ∷ xs) more item = behind xs more item
 
-pub next_is_owed : (h : Listed) (conn : ℕ) (added more : List Item) (item : Item) → Owes h added (item ∷ more) → slice_get (owed h conn) (length added) ≡ Some item
-next_is_owed h conn added more item w = ap (λ l. slice_get l (length added)) w.all ∙ behind added (more ++ w.rest) item
+pub next_is_owed : (h : ListHistory) (l : Listed) (conn : ℕ) (added more : List Item) (item : Item) → h.of.value ≡ l → Owes l added (item ∷ more) → slice_get (owed h conn) (length added) ≡ Some item
+next_is_owed h l conn added more item same w =
+    ap (λ (k : Listed). slice_get k.items.value.items (length added)) same ∙ ap (λ xs. slice_get xs (length added)) w.all ∙ behind added (more ++ w.rest) item
 
 pub one_is_added : (h : Listed) (added more : List Item) (item : Item) → Owes h added (item ∷ more) → Owes h (added ++ item ∷ []) more
 one_is_added h added more item w = record { rest = w.rest; all = w.all ∙ sym (append_assoc added (item ∷ []) (more ++ w.rest)) }

@@ -21,17 +21,9 @@ pub struct ListHistory {
     of: Snapshot<Listed>,
 }
 
-impl Model for ListHistory {
-    ghost use Rattle.cases_connection.specs.declared.owed.Listed.{Listed};
-
-    ghost Value = { Listed };
-
-    ghost view = { λ h. h.of.value };
-}
-
 impl ListHistory {
     fn of(listed: &Listed) -> ListHistory
-        ensures { result ≡ listed.now }
+        ensures { result.of.value ≡ listed.now }
     {
         ListHistory {
             of: Snapshot::of(listed),
@@ -63,16 +55,15 @@ pub struct Adder {
 }
 
 impl Model for Adder {
-    ghost use Rattle.std.specs.Prelude.{Bool, Some};
-    ghost use Rattle.outbox_queue.specs.Rule.{Grows};
-    ghost use Rattle.cases_connection.specs.Listing.{Same, Owes};
+    ghost use Rattle.std.specs.Prelude.{Bool};
+    ghost use Rattle.cases_connection.specs.Listing.{Names, Owes};
 
     ghost Value = { Bool };
 
     ghost view = { λ a. a.outbox.is_closed };
 
     ghost invariant = { λ a. Owes a.listed a.outbox.added a.left.items
-        × Grows Same a.outbox.history (Some a.listed) };
+        × Names a.listed a.outbox.history };
 }
 
 // Lets go of an item that found no room.
