@@ -7,12 +7,16 @@ ghost use Rattle.arguments.specs.Endings.{IsEnding, further, items_have_spelling
 ghost use Rattle.arguments.specs.body.Held.{AreWritten, IsGiven, arguments_in, written_in};
 ghost use Rattle.arguments.specs.body.Parts.{HasStanding, IsJsonPut, further_if_any, further_one, has_spelling_if_any, has_spelling_one};
 
+use crate::buffer::buffer;
 use crate::fault::Fault;
 use crate::held::Given;
 use message_tree::{Appender, Content, Octets};
 use rawsocket::Serializer;
 use std::alloc::{AllocError, Global};
 use transcoder::write_json;
+
+/// What JSON mostly takes beside the octets of MessagePack.
+const ROOM: usize = 32;
 
 /// Writes the value at the front in JSON, behind a comma, and gives the octets after it.
 fn put_one_json<'a>(
@@ -156,7 +160,10 @@ pub(crate) fn json_ending(alloc: Global, given: &Given) -> Option<Octets>
     if !given.is_carried() {
         return None;
     }
-    let mut out = Appender::new(Vec::new(alloc));
+    let len = given.octets().map_or(0, |octets| octets.len());
+    let Ok(mut out) = buffer(alloc, len.saturating_add(ROOM)) else {
+        return None;
+    };
     match given.put(alloc, Serializer::Json, &mut out) {
         Ok(()) => Some(Octets::from_vec(out.into_vec())),
         Err(_) => None,

@@ -9,6 +9,7 @@ ghost use Rattle.json_codec.specs.Decoder.{Reads};
 ghost use Rattle.json_codec.specs.Encoder.{value_of, items_value, entries_value, json_text, has_plain_texts};
 
 use crate::fault::Fault;
+use crate::quoting::put_short;
 use base64::engine::general_purpose::STANDARD;
 use itoa::Buffer;
 use json::Writer;
@@ -93,6 +94,9 @@ pub fn encode_text_into(alloc: Global, of: &str, out: &mut Appender) -> Result<(
     ensures err { OnErr result (out.new.since ≡ out.old.since) }
     ensures before { out.new.before ≡ out.old.before }
 {
+    if put_short(of.as_bytes(), out)? {
+        return Ok(());
+    }
     let string = string_of(alloc, of)?;
     out.put_all(&string)
 }

@@ -10,6 +10,7 @@
 mod decoder;
 mod encoder;
 mod fault;
+mod quoting;
 
 pub use decoder::decode;
 pub use encoder::{encode, encode_into, encode_number_into, encode_text_into};
