@@ -67,7 +67,10 @@ class Session:
         return message[1], message[3], *(message[4:] + [[], {}][len(message) - 4:])
 
     def leave(self):
+        """Ends the session: what was sent before is handled once the broker answers."""
         self.send([GOODBYE, {}, "wamp.close.close_realm"])
+        while self.receive()[0] != GOODBYE:
+            pass
         self.socket.close()
 
 

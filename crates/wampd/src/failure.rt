@@ -7,6 +7,10 @@ use broker_server::{Fault, explain, help, shown_line};
 use std::alloc::{AllocError, Global};
 use std::io;
 
+/// What an argument of an event has to be.
+const ARGUMENTS: &str =
+    "a number has to be whole, and lists and dictionaries nest no more than 98 levels";
+
 /// A fault, and what is told behind its line.
 #[derive(Drop)]
 pub struct Failure {
@@ -112,6 +116,12 @@ fn reason_of(alloc: Global, of: &client_commands::Fault) -> Option<String> {
         client_commands::Fault::ForeignEvent => {
             format!(in alloc; "an event of no subscription came").ok()
         }
+        client_commands::Fault::BadLine(_) => {
+            format!(in alloc;
+                "a line is a JSON value or a text, of at most 1048576 octets in UTF-8; {ARGUMENTS}"
+            ).ok()
+        }
+        client_commands::Fault::Usage => format!(in alloc; "{ARGUMENTS}").ok(),
         _ => None,
     }
 }
