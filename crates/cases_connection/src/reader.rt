@@ -5,7 +5,7 @@ use connection::{EncodingPoster, InUse, ReadEnd, read_posts};
 use rawsocket::Deframer;
 use rawsocket::devices::testing::{FailsAt, OneByOne};
 use rawsocket::devices::{MemorySource, Source};
-use session::{AtOnce, CarriedArgs, Opened};
+use session::{CarriedArgs, Opened};
 use std::alloc::{AllocError, Global};
 use std::io;
 use std::sync::Wait;
@@ -146,12 +146,11 @@ fn post_all<R: Wait, I: Source>(
     poster: EncodingPoster<'_, Log>,
 ) -> (Log, ReadEnd) {
     let mut poster = poster;
-    let end = read_posts::<R, Nowhere, I, EncodingPoster<'_, Log>, AtOnce>(
+    let end = read_posts::<R, Nowhere, I, EncodingPoster<'_, Log>>(
         rt,
         alloc,
         source,
         opened,
-        &AtOnce,
         &mut poster,
     );
     (poster.poster, end)

@@ -3,7 +3,7 @@ use case_text::{is_refused, spelled};
 use rawsocket::devices::testing::{FailsAt, OneByOne};
 use rawsocket::devices::{MemorySource, Sink, Source, WriteSink};
 use rawsocket::{Deframer, Frame, Kind, Serializer};
-use session::{AtOnce, Fault, Opened, open_session};
+use session::{Fault, Opened, open_session};
 use std::alloc::Global;
 use std::io;
 use wamp_ids::Topic;
@@ -120,7 +120,7 @@ impl Stream {
         source: &mut I,
         sink: &mut O,
     ) -> io::Result<String> {
-        match open_session(alloc, source, sink, self.realms.as_slice(), &AtOnce) {
+        match open_session(alloc, source, sink, self.realms.as_slice()) {
             Ok(session) => session_in_words(alloc, session, self.behind.as_slice()),
             Err(fault) => fault_line(alloc, fault),
         }

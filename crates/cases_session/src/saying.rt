@@ -2,7 +2,7 @@
 use crate::asking::{publish_options, subscribe_options};
 use message_tree::{Message, Text, Tree};
 use rawsocket::Serializer;
-use session::{Args, AtOnce, Fault, Said, decode, read_payload, read_said};
+use session::{Args, Fault, Said, decode, read_payload, read_said};
 use std::alloc::Global;
 use std::io;
 use wamp_ids::Id;
@@ -14,7 +14,7 @@ pub fn said(alloc: Global, json: &str) -> io::Result<String> {
 
 /// What the octets of a message say, unless its tree says something else.
 pub fn payload(alloc: Global, serializer: Serializer, octets: &[u8]) -> io::Result<String> {
-    let words = answer(alloc, read_payload(alloc, serializer, octets, &AtOnce))?;
+    let words = answer(alloc, read_payload(alloc, serializer, octets))?;
     let by_tree = answer(alloc, said_by_tree(alloc, serializer, octets))?;
     if words == by_tree {
         Ok(words)

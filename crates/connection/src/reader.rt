@@ -12,7 +12,7 @@ use message_tree::Octets;
 use rawsocket::devices::{NoOctets, PIECE, Source, Turns, read_piece};
 use rawsocket::{Deframer, Frame, Kind, Serializer, next_frame};
 use realm_inbox::{Act, Posting, Shut};
-use session::{Fault, Opened, Said, SaidKind, TreeReader, read_payload};
+use session::{Fault, Opened, Said, SaidKind, read_payload};
 use std::alloc::Global;
 use std::collections::VecDeque;
 use std::sync::Wait;
@@ -83,11 +83,10 @@ fn post<R: Wait, S: Shut, P: Posting<S>>(
 }
 
 // Posts what a payload says.
-fn post_message<R: Wait, S: Shut, P: Posting<S>, T: TreeReader>(
+fn post_message<R: Wait, S: Shut, P: Posting<S>>(
     rt: &R,
     alloc: Global,
     serializer: Serializer,
-    trees: &T,
     payload: &[u8],
     poster: &mut P,
 ) -> Result<(), ReadEnd>
@@ -95,7 +94,7 @@ fn post_message<R: Wait, S: Shut, P: Posting<S>, T: TreeReader>(
         (batch (record { kind = Kind.Message; payload = payload.now } ∷ []) None)
         (P.posted poster.old) (P.posted poster.new) result }
 {
-    let said = match read_payload(alloc, serializer, payload, trees) {
+    let said = match read_payload(alloc, serializer, payload) {
         Ok(said) => said,
         Err(Fault::NoMemory) => return Err(ReadEnd::NoMemory),
         Err(fault) => {
@@ -130,11 +129,10 @@ fn post_ping<R: Wait, S: Shut, P: Posting<S>>(
 }
 
 // Posts what a frame is, whose payload is read where it lies.
-fn post_lying<R: Wait, S: Shut, P: Posting<S>, T: TreeReader>(
+fn post_lying<R: Wait, S: Shut, P: Posting<S>>(
     rt: &R,
     alloc: Global,
     serializer: Serializer,
-    trees: &T,
     kind: Kind,
     payload: &[u8],
     poster: &mut P,
@@ -143,7 +141,7 @@ fn post_lying<R: Wait, S: Shut, P: Posting<S>, T: TreeReader>(
         (P.posted poster.old) (P.posted poster.new) result }
 {
     match kind {
-        Kind::Message => post_message(rt, alloc, serializer, trees, payload, poster),
+        Kind::Message => post_message(rt, alloc, serializer, payload, poster),
         Kind::Ping => match Octets::of(alloc, payload) {
             Ok(payload) => post_ping(rt, payload, poster),
             Err(_) => Err(ReadEnd::NoMemory),
@@ -153,11 +151,10 @@ fn post_lying<R: Wait, S: Shut, P: Posting<S>, T: TreeReader>(
 }
 
 // Posts what a frame is.
-fn post_frame<R: Wait, S: Shut, P: Posting<S>, T: TreeReader>(
+fn post_frame<R: Wait, S: Shut, P: Posting<S>>(
     rt: &R,
     alloc: Global,
     serializer: Serializer,
-    trees: &T,
     frame: Frame,
     poster: &mut P,
 ) -> Result<(), ReadEnd>
@@ -166,16 +163,15 @@ fn post_frame<R: Wait, S: Shut, P: Posting<S>, T: TreeReader>(
 {
     match frame.kind {
         Kind::Ping => post_ping(rt, Octets::from_vec(frame.payload), poster),
-        kind => post_lying(rt, alloc, serializer, trees, kind, &frame.payload, poster),
+        kind => post_lying(rt, alloc, serializer, kind, &frame.payload, poster),
     }
 }
 
 // Posts the frame that a piece completed, if it did.
-fn post_completed<R: Wait, S: Shut, P: Posting<S>, T: TreeReader>(
+fn post_completed<R: Wait, S: Shut, P: Posting<S>>(
     rt: &R,
     alloc: Global,
     serializer: Serializer,
-    trees: &T,
     frame: Option<Frame>,
     poster: &mut P,
 ) -> Result<(), ReadEnd>
@@ -183,7 +179,7 @@ fn post_completed<R: Wait, S: Shut, P: Posting<S>, T: TreeReader>(
         (P.posted poster.new) result }
 {
     match frame {
-        Some(frame) => post_frame(rt, alloc, serializer, trees, frame, poster),
+        Some(frame) => post_frame(rt, alloc, serializer, frame, poster),
         None => Ok(()),
     }
 }
@@ -207,11 +203,10 @@ fn post_fault<R: Wait, S: Shut, P: Posting<S>>(
 }
 
 // Posts what frames are.
-fn post_frames<R: Wait, S: Shut, P: Posting<S>, T: TreeReader>(
+fn post_frames<R: Wait, S: Shut, P: Posting<S>>(
     rt: &R,
     alloc: Global,
     serializer: Serializer,
-    trees: &T,
     frames: Vec<Frame>,
     poster: &mut P,
 ) -> Result<(), ReadEnd>
@@ -220,7 +215,7 @@ fn post_frames<R: Wait, S: Shut, P: Posting<S>, T: TreeReader>(
 {
     let mut left = VecDeque::from_vec(frames);
     'frames: while let Some(frame) = left.pop_front() {
-        if let Err(end) = post_frame(rt, alloc, serializer, trees, frame, poster) {
+        if let Err(end) = post_frame(rt, alloc, serializer, frame, poster) {
             return Err(end);
         }
     }
@@ -228,11 +223,10 @@ fn post_frames<R: Wait, S: Shut, P: Posting<S>, T: TreeReader>(
 }
 
 // Posts what the frames are that lie whole at the front of octets, each from where it lies, and gives what stands behind them.
-fn post_whole<'p, R: Wait, S: Shut, P: Posting<S>, T: TreeReader>(
+fn post_whole<'p, R: Wait, S: Shut, P: Posting<S>>(
     rt: &R,
     alloc: Global,
     serializer: Serializer,
-    trees: &T,
     octets: &'p [u8],
     poster: &mut P,
 ) -> Result<&'p [u8], ReadEnd>
@@ -244,7 +238,7 @@ fn post_whole<'p, R: Wait, S: Shut, P: Posting<S>, T: TreeReader>(
 {
     let mut rest = octets;
     'frames: while let Some((kind, payload, after)) = next_frame(rest) {
-        if let Err(end) = post_lying(rt, alloc, serializer, trees, kind, payload, poster) {
+        if let Err(end) = post_lying(rt, alloc, serializer, kind, payload, poster) {
             return Err(end);
         }
         rest = after;
@@ -253,11 +247,10 @@ fn post_whole<'p, R: Wait, S: Shut, P: Posting<S>, T: TreeReader>(
 }
 
 // Takes the next octets of the stream, and posts the frames that they complete.
-fn advance<R: Wait, S: Shut, P: Posting<S>, T: TreeReader>(
+fn advance<R: Wait, S: Shut, P: Posting<S>>(
     rt: &R,
     alloc: Global,
     serializer: Serializer,
-    trees: &T,
     deframer: &mut Deframer,
     piece: &[u8],
     poster: &mut P,
@@ -269,10 +262,10 @@ fn advance<R: Wait, S: Shut, P: Posting<S>, T: TreeReader>(
         Ok(resumed) => resumed,
         Err(_) => return Err(ReadEnd::NoMemory),
     };
-    if let Err(end) = post_completed(rt, alloc, serializer, trees, frame, poster) {
+    if let Err(end) = post_completed(rt, alloc, serializer, frame, poster) {
         return Err(end);
     }
-    let rest = match post_whole(rt, alloc, serializer, trees, rest, poster) {
+    let rest = match post_whole(rt, alloc, serializer, rest, poster) {
         Ok(rest) => rest,
         Err(end) => return Err(end),
     };
@@ -283,11 +276,10 @@ fn advance<R: Wait, S: Shut, P: Posting<S>, T: TreeReader>(
 }
 
 // Posts the early frames, and what the deframer holds behind them.
-fn begin<R: Wait, S: Shut, P: Posting<S>, T: TreeReader>(
+fn begin<R: Wait, S: Shut, P: Posting<S>>(
     rt: &R,
     alloc: Global,
     serializer: Serializer,
-    trees: &T,
     early: Vec<Frame>,
     deframer: &mut Deframer,
     poster: &mut P,
@@ -295,19 +287,18 @@ fn begin<R: Wait, S: Shut, P: Posting<S>, T: TreeReader>(
     ensures { IsAdvance (start serializer (contents early.items) deframer.old)
         (taking [] deframer.new) (P.posted poster.old) (P.posted poster.new) result }
 {
-    if let Err(end) = post_frames(rt, alloc, serializer, trees, early, poster) {
+    if let Err(end) = post_frames(rt, alloc, serializer, early, poster) {
         return Err(end);
     }
-    advance(rt, alloc, serializer, trees, deframer, &[], poster)
+    advance(rt, alloc, serializer, deframer, &[], poster)
 }
 
 // Posts the early frames and those that the deframer holds, and then reads and posts until something ends it.
-fn read_on<R: Wait, S: Shut, I: Source, P: Posting<S>, T: TreeReader>(
+fn read_on<R: Wait, S: Shut, I: Source, P: Posting<S>>(
     rt: &R,
     alloc: Global,
     source: &mut I,
     serializer: Serializer,
-    trees: &T,
     early: Vec<Frame>,
     deframer: Deframer,
     buffer: &mut [u8],
@@ -324,7 +315,7 @@ fn read_on<R: Wait, S: Shut, I: Source, P: Posting<S>, T: TreeReader>(
 {
     let mut deframer = deframer;
     let mut turns = Turns::new();
-    if let Err(end) = begin(rt, alloc, serializer, trees, early, &mut deframer, poster) {
+    if let Err(end) = begin(rt, alloc, serializer, early, &mut deframer, poster) {
         return end;
     }
     'pieces: loop {
@@ -333,7 +324,7 @@ fn read_on<R: Wait, S: Shut, I: Source, P: Posting<S>, T: TreeReader>(
             Err(none) => return ReadEnd::from(none),
         };
         let piece = &buffer[..count];
-        if let Err(end) = advance(rt, alloc, serializer, trees, &mut deframer, piece, poster) {
+        if let Err(end) = advance(rt, alloc, serializer, &mut deframer, piece, poster) {
             return end;
         }
     }
@@ -356,12 +347,11 @@ fn leave<R: Wait, S: Shut, P: Posting<S>>(rt: &R, poster: &mut P, end: ReadEnd) 
 }
 
 // The same as `read_on`, with a buffer of its own.
-fn read_up_to<R: Wait, S: Shut, I: Source, P: Posting<S>, T: TreeReader>(
+fn read_up_to<R: Wait, S: Shut, I: Source, P: Posting<S>>(
     rt: &R,
     alloc: Global,
     source: &mut I,
     opened: Opened,
-    trees: &T,
     poster: &mut P,
 ) -> ReadEnd
     ensures posted { ReadsSince (I.given source.old) (I.given source.new) (P.posted poster.old)
@@ -380,7 +370,6 @@ fn read_up_to<R: Wait, S: Shut, I: Source, P: Posting<S>, T: TreeReader>(
         alloc,
         source,
         opened.serializer,
-        trees,
         opened.early,
         opened.deframer,
         &mut buffer,
@@ -391,17 +380,15 @@ fn read_up_to<R: Wait, S: Shut, I: Source, P: Posting<S>, T: TreeReader>(
 /// Posts what a client does after its HELLO: first what the opening of the session read already, then what is read from here on, until
 /// the client leaves or breaks the protocol, or something fails. A PING is posted, a PONG is passed over. A read takes up to 65,536
 /// octets, and gives as many posts as it completes frames. Nothing is read or posted after what ends it, but that the client is gone:
-/// what the client ends it by is complete within the last 65,536 octets that were read, and not before them. What nothing but its tree
-/// decides, `trees` reads.
+/// what the client ends it by is complete within the last 65,536 octets that were read, and not before them.
 ///
 /// A failed read is told by [`ReadEnd::Device`], unless nobody receives any more that the client is gone: then by
 /// [`ReadEnd::ActorGone`].
-pub fn read_posts<R: Wait, S: Shut, I: Source, P: Posting<S>, T: TreeReader>(
+pub fn read_posts<R: Wait, S: Shut, I: Source, P: Posting<S>>(
     rt: &R,
     alloc: Global,
     source: &mut I,
     opened: Opened,
-    trees: &T,
     poster: &mut P,
 ) -> ReadEnd
     ensures posted { ReadsSince (I.given source.old) (I.given source.new) (P.posted poster.old)
@@ -412,6 +399,6 @@ pub fn read_posts<R: Wait, S: Shut, I: Source, P: Posting<S>, T: TreeReader>(
     ensures reads { ReadsUntil (meter (I.calls source.old) (I.failures source.old))
         (meter (I.calls source.new) (I.failures source.new)) result }
 {
-    let end = read_up_to(rt, alloc, source, opened, trees, poster);
+    let end = read_up_to(rt, alloc, source, opened, poster);
     leave(rt, poster, end)
 }

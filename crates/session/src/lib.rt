@@ -14,7 +14,6 @@ mod wire;
 pub use arguments::{Args, CarriedArgs, Decoded};
 pub use eligibility::{Lists, Who};
 pub use fault::Fault;
-pub use messages::by_tree::{AtOnce, TreeReader, read_by_tree};
 pub use messages::from_client::{read_payload, read_said};
 pub use messages::item::{Item, Publication, Reason, Request};
 pub use messages::said::{Said, SaidKind};

@@ -1,6 +1,5 @@
 //! The messages of a session, as types and as trees.
 
-pub(crate) mod by_tree;
 pub(crate) mod details;
 pub(crate) mod elements;
 pub(crate) mod from_client;

@@ -25,7 +25,6 @@ mod handover;
 mod herald;
 mod id_words;
 mod log;
-mod one_tree;
 mod plan;
 mod reader_thread;
 mod realm_handle;

@@ -6,7 +6,6 @@ use crate::closing::Closing;
 use crate::farewell::FarewellPoster;
 use crate::fate::Fate;
 use crate::handover::{Posters, Slot};
-use crate::one_tree::OneTree;
 use crate::plan::Plan;
 use crate::told::tell_closed;
 use crate::work::start;
@@ -99,11 +98,7 @@ fn serve<
     posters: &mut Posters<S>,
 ) -> Reason {
     let realms = &broker.plan.realms;
-    let trees = OneTree {
-        rt: &rt,
-        turn: &broker.plan.tree_turn,
-    };
-    let opened = match open_session(broker.alloc, &mut source, &mut sink, realms, &trees) {
+    let opened = match open_session(broker.alloc, &mut source, &mut sink, realms) {
         Ok(opened) => opened,
         Err(fault) => return not_opened(broker.plan, fault),
     };
@@ -178,11 +173,7 @@ fn run_session<
         has_aborted: false,
     };
     let read = if has_asked {
-        let trees = OneTree {
-            rt: &rt,
-            turn: &broker.plan.tree_turn,
-        };
-        read_posts(&rt, alloc, source, opened, &trees, &mut posting)
+        read_posts(&rt, alloc, source, opened, &mut posting)
     } else {
         ReadEnd::ActorGone
     };

@@ -25,7 +25,7 @@ use realm_inbox::opening::inbox;
 use std::alloc::{AllocError, Global};
 use std::random::RandomSource;
 use std::sync::atomic::{AtomicBool, Ordering};
-use std::sync::{Arc, Mutex, Wait};
+use std::sync::{Arc, Wait};
 use std::thread::Threads;
 use wamp_ids::Topic;
 
@@ -125,7 +125,6 @@ fn plan_of(alloc: Global, config: &Config, log: Option<Log>) -> Result<Plan, All
         in_use,
         outbox: config.outbox,
         log,
-        tree_turn: Mutex::new(()),
         is_stopping: AtomicBool::new(false),
     })
 }

@@ -8,11 +8,11 @@ ghost use Rattle.session.specs.body.Octets.{IsFaultOf};
 ghost use Rattle.session.specs.declared.messages.said.Said.{Said};
 
 use crate::fault::Fault;
-use crate::messages::by_tree::TreeReader;
 use crate::messages::elements::Elements;
 use crate::messages::octet_elements::OctetElements;
 use crate::messages::said::Said;
 use crate::messages::tree_elements::TreeElements;
+use crate::wire::serializer::decode;
 use json_to_msgpack::{Transliteration, to_msgpack};
 use message_tree::{Message, Tree};
 use msgpack_codec::Refusal;
@@ -37,35 +37,32 @@ pub fn read_said(alloc: Global, message: Message) -> Result<Said, Fault>
     }
 }
 
-/// What a payload says: [`read_said`] of what [`decode`] makes of it. No tree is made but of JSON
-/// that [`json_to_msgpack::to_msgpack`] leaves undecided, which `trees` reads.
+/// What a payload says: [`read_said`] of what [`decode`] makes of it. No tree is made: JSON is
+/// written as MessagePack first. Only of JSON with 2^32 octets or members in one value, which no
+/// frame has room for, a tree is made.
 ///
 /// # Errors
 /// As of [`decode`] and [`read_said`].
-pub fn read_payload<T: TreeReader>(
-    alloc: Global,
-    serializer: Serializer,
-    payload: &[u8],
-    trees: &T,
-) -> Result<Said, Fault>
+pub fn read_payload(alloc: Global, serializer: Serializer, payload: &[u8]) -> Result<Said, Fault>
     ensures ok { IfOk result (λ said. Says serializer payload.now said) }
     ensures bad { IfErr result (λ f. f ≢ Fault.NoMemory → SaysNothing serializer payload.now f) }
 {
     match serializer {
-        Serializer::Json => read_json(alloc, payload, trees),
+        Serializer::Json => read_json(alloc, payload),
         Serializer::MsgPack => read_octets(alloc, payload),
     }
 }
 
 /// What a message in JSON says.
-fn read_json<T: TreeReader>(alloc: Global, json: &[u8], trees: &T) -> Result<Said, Fault>
+fn read_json(alloc: Global, json: &[u8]) -> Result<Said, Fault>
     ensures ok { IfOk result (λ said. Says Serializer.Json json.now said) }
     ensures bad { IfErr result (λ f. f ≢ Fault.NoMemory → SaysNothing Serializer.Json json.now f) }
 {
     match to_msgpack(alloc, json) {
         Ok(Transliteration::Octets(octets)) => read_octets(alloc, &octets),
         Ok(Transliteration::NoJson) => Err(Fault::Malformed),
-        Ok(Transliteration::Undecided) => trees.read(alloc, json),
+        Ok(Transliteration::TooDeep) => Err(Fault::TooDeep),
+        Ok(Transliteration::Undecided) => read_said(alloc, decode(alloc, Serializer::Json, json)?),
         Err(_) => Err(Fault::NoMemory),
     }
 }

@@ -5,7 +5,6 @@ ghost use Rattle.session.specs.Opened.{Asks, IsRefused, Leads, abort_frame, pong
 ghost use Rattle.session.specs.FrameWalk.{Adds, AddsFor, verdict_of};
 
 use crate::fault::Fault;
-use crate::messages::by_tree::TreeReader;
 use crate::messages::from_client::read_payload;
 use crate::messages::item::Reason;
 use crate::messages::to_client::farewell;
@@ -38,19 +37,18 @@ pub(crate) enum Verdict {
 }
 
 /// What the payload of a first message asks for.
-fn ask<T: TreeReader>(
+fn ask(
     alloc: Global,
     serializer: Serializer,
     realms: &[Topic],
     payload: &[u8],
-    trees: &T,
 ) -> Result<First, Fault>
     ensures ok { IfOk result (λ f. Asks serializer realms.now
         payload.now (f.realm, option_map string_bytes f.authid)) }
     ensures refused { IfErr result (λ f. f ≢ Fault.NoMemory
         → IsRefused serializer realms.now payload.now f) }
 {
-    let said = match read_payload(alloc, serializer, payload, trees) {
+    let said = match read_payload(alloc, serializer, payload) {
         Ok(said) => said,
         Err(fault) => return Err(fault),
     };
@@ -92,13 +90,12 @@ pub(crate) fn refuse(
 }
 
 /// What a first message decides, with the frames behind it.
-fn decide<T: TreeReader>(
+fn decide(
     alloc: Global,
     client: Client,
     realms: &[Topic],
     payload: &[u8],
     early: Vec<Frame>,
-    trees: &T,
     out: &mut Vec<u8>,
 ) -> Result<Verdict, AllocError>
     ensures decided { IfOk result (λ v. AddsFor
@@ -106,7 +103,7 @@ fn decide<T: TreeReader>(
         (record { kind = Kind.Message; payload = payload.now } ∷ contents early.items)
         out.old.items out.new.items (verdict_of v)) }
 {
-    match ask(alloc, client.serializer, realms, payload, trees) {
+    match ask(alloc, client.serializer, realms, payload) {
         Ok(first) => Ok(Verdict::Opens(first, early)),
         Err(Fault::NoMemory) => Err(AllocError),
         Err(fault) => refuse(alloc, client.serializer, fault, out),
@@ -154,13 +151,12 @@ fn judge_rest(
 
 /// What frames decide, and the fault of what stands behind them; what is to be written is added to
 /// the output.
-pub(crate) fn judge<T: TreeReader>(
+pub(crate) fn judge(
     alloc: Global,
     client: Client,
     realms: &[Topic],
     frames: Vec<Frame>,
     fault: Option<rawsocket::Fault>,
-    trees: &T,
     out: &mut Vec<u8>,
 ) -> Result<Verdict, AllocError>
     requires { client.limit ≤ 16777215 }
@@ -178,15 +174,7 @@ pub(crate) fn judge<T: TreeReader>(
                 Err(fault) => return Err(fault),
             },
             Kind::Message => {
-                return decide(
-                    alloc,
-                    client,
-                    realms,
-                    &frame.payload,
-                    left.into_vec(),
-                    trees,
-                    out,
-                );
+                return decide(alloc, client, realms, &frame.payload, left.into_vec(), out);
             }
         }
     }

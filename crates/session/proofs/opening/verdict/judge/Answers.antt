@@ -13,7 +13,7 @@ none_left [] e = refl
 none_left (f ∷ fs) e = absurd (omega (arith, e))
 
 pub returns-in-Ok-false : goal.returns-in-Ok-false
-returns-in-Ok-false g c =
+returns-in-Ok-false c =
     let here = subst (λ (xs : List Frame). Walking c.args.client.serializer c.args.client.limit c.args.realms.now c.args.fault (contents c.args.frames.items) (contents xs) c.args.out.now.items c.loop-frame.out.items) c.in-Some.ensures.items c.loop-frame.invariant in
     let long = c.in-Ok-false.ensures.long (ap Ok c.in-Ok-false.field-0-test) in
     record {
@@ -22,7 +22,7 @@ returns-in-Ok-false g c =
     }
 
 pub returns-in-Message : goal.returns-in-Message
-returns-in-Message g c =
+returns-in-Message c =
     let here = subst (λ (xs : List Frame). Walking c.args.client.serializer c.args.client.limit c.args.realms.now c.args.fault (contents c.args.frames.items) (contents xs) c.args.out.now.items c.loop-frame.out.items) c.in-Some.ensures.items c.loop-frame.invariant in
     record {
       decided = if_ok c.decide.result _ _
@@ -35,7 +35,7 @@ returns-in-Message g c =
     }
 
 pub loop-frame-preserved : goal.loop-frame-preserved
-loop-frame-preserved g c =
+loop-frame-preserved c =
     let here = subst (λ (xs : List Frame). Walking c.args.client.serializer c.args.client.limit c.args.realms.now c.args.fault (contents c.args.frames.items) (contents xs) c.args.out.now.items c.loop-frame.out.items) c.in-Some.ensures.items c.loop-frame.invariant in
     elim c.match-frame.branch [
       | in-Pong w ↦ subst (λ o. Walking c.args.client.serializer c.args.client.limit c.args.realms.now c.args.fault (contents c.args.frames.items) (contents c.pop_front.new.self.items) c.args.out.now.items o.items) (sym w.out-is)
@@ -49,7 +49,7 @@ loop-frame-preserved g c =
     ]
 
 pub returns : goal.returns
-returns g c =
+returns c =
     let none = subst (λ (xs : List Frame). Walking c.args.client.serializer c.args.client.limit c.args.realms.now c.args.fault (contents c.args.frames.items) (contents xs) c.args.out.now.items c.loop-frame.out.items) c.in_default.ensures.items c.loop-frame.invariant in
     record {
       decided = if_ok c.judge_rest.result _ _
