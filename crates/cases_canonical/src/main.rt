@@ -21,7 +21,7 @@
 //! - `take KINDS OCTETS`: the next element by each letter: `w` a whole number, `t` a text, `v` any value; behind them the same of what
 //!   is left; or `none` where such an element isn't there, and nothing behind that; or `no list`.
 //! - `transliterate OCTETS`: the octets of MessagePack that a JSON text becomes, and whether they are the message that it is read as
-//!   (`same`, or `differs`); or `no JSON` or `undecided`, and then `read` or the fault of the text.
+//!   (`same`, or `differs`); or `no JSON`, `too deep` or `undecided`, and then `read` or the fault of the text.
 //! - `long N HEAD MEMBER END`: the first eight octets of what the JSON text becomes that HEAD, so many times MEMBER, and END are, and
 //!   how many octets there are.
 #![tactic(auto)]

@@ -5,12 +5,13 @@ use json_to_msgpack::{Transliteration, to_msgpack};
 use std::alloc::Global;
 use std::io;
 
-/// The octets of MessagePack that a JSON text becomes, and whether they are the message that it is read as; or `no JSON` or
-/// `undecided`, and what the text is.
+/// The octets of MessagePack that a JSON text becomes, and whether they are the message that it is read as; or `no JSON`, `too deep`
+/// or `undecided`, and what the text is.
 pub fn transliterate(alloc: Global, json: &[u8]) -> io::Result<String> {
     match to_msgpack(alloc, json) {
         Ok(Transliteration::Octets(octets)) => compare(alloc, json, &octets),
         Ok(Transliteration::NoJson) => left(alloc, "no JSON", json),
+        Ok(Transliteration::TooDeep) => left(alloc, "too deep", json),
         Ok(Transliteration::Undecided) => left(alloc, "undecided", json),
         Err(_) => line_of(alloc, "E1 no memory"),
     }
@@ -35,6 +36,7 @@ pub fn transliterate_long(alloc: Global, text: &str) -> io::Result<String> {
             Ok(format!(in alloc; "{told} {len} octets\n")?)
         }
         Ok(Transliteration::NoJson) => line_of(alloc, "no JSON"),
+        Ok(Transliteration::TooDeep) => line_of(alloc, "too deep"),
         Ok(Transliteration::Undecided) => line_of(alloc, "undecided"),
         Err(_) => line_of(alloc, "E1 no memory"),
     }

@@ -1,5 +1,6 @@
 -- Lists and maps whose head was written behind what is inside.
 use Rattle.std.proofs.Common.{◌≡◌, ℕ, suc, ◌+◌, ◌^◌, ◌<◌, true, List, [], ◌∷◌, ◌++◌, length, take, drop, refl, sym, ap, ap₂, subst, ◌∙◌, append_assoc, append-nil, arith}
+use Rattle.std.proofs.Math.Seq.{take-append_seam}
 use Rattle.message_tree.specs.Data as tree
 use Rattle.message_tree.specs.View.{items_of}
 use Rattle.msgpack_codec.specs.Short.{list_head, dict_head}
@@ -18,6 +19,11 @@ headed at before all head body after is e h =
     let one : at + 1 ≡ suc (length before) = omega arith in
     let l = before ++ (0 ∷ body) in
     h ∙ ap (λ (a : List ℕ). take at a ++ (head ++ drop (at + 1) a)) e ∙ ap₂ (λ (m n : ℕ). take m l ++ (head ++ drop n l)) is one ∙ filled before head body
+
+-- null takes the place of all that was written
+pub nulled : (at : ℕ) (before all body after : List ℕ) → at ≡ length before → all ≡ before ++ (0 ∷ body) → after ≡ take at all ++ 192 ∷ [] → after ≡ before ++ 192 ∷ []
+nulled at before all body after is e h =
+    h ∙ ap (λ (l : List ℕ). l ++ 192 ∷ []) (ap₂ (λ (n : ℕ) (a : List ℕ). take n a) is e ∙ take-append_seam before (0 ∷ body))
 
 as_octets : (room : ℕ) (octets same : List ℕ) (d : tree.Data) → octets ≡ same → Spells room same d → Spells room octets d
 as_octets room octets same d e h = subst (λ o. Spells room o d) (sym e) h

@@ -1,4 +1,7 @@
 pub mod Found
+pub mod KeySets
+pub mod Fits
+pub mod DeepEntries
 pub mod Octets
 pub mod Pieces
 pub mod Strings

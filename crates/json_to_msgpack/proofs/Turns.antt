@@ -1,9 +1,9 @@
 -- What a turn of the grammar's loops reads, as data.
-use Rattle.std.proofs.Common.{◌≡◌, ℕ, ◌-◌, ◌<◌, ◌≤◌, List, [], length, Option, Some, None, option_map, option_and_then, refl, ap, ◌∙◌}
+use Rattle.std.proofs.Common.{◌≡◌, ℕ, zero, suc, ◌-◌, ◌<◌, ◌≤◌, List, [], ◌∷◌, length, Option, Some, None, option_map, option_and_then, refl, ap, ◌∙◌, arith}
 use Rattle.json.specs.Token.{Token}
 use Rattle.json.specs.Json as grammar
 use Rattle.json.specs.Json.{Json, Parse, parse_map, after_end_array, read_key, items, members, if_last}
-use Rattle.json.proofs.Grammar.{items_end, items_more, members_end, members_more}
+use Rattle.json.proofs.Grammar.{items_end, items_fail, items_more, members_end, members_fail, members_more}
 use Rattle.serde_json.specs.Data.{Data, array, object, no_items, item, Members, no_members, put}
 use Rattle.serde_json.specs.Read.{of_json, of_items, of_members, converted}
 
@@ -80,3 +80,54 @@ pub whole_text : (o : Option (Json × List Token)) (d : Data) → converted of_j
 whole_text o d e =
     let j = source_of of_json o d [] e in
     ap (λ (x : Option (Json × List Token)). option_and_then of_json (option_and_then (λ p. if_last p.0 p.1) x)) j.parsed ∙ j.meant
+
+-- ---- where there is no value
+
+unmeant : (rest : Left) (x : Option Data) → option_map {U = Data × Left} (λ b. (b, rest)) x ≡ None → x ≡ None
+unmeant rest None e = refl
+unmeant rest (Some d) e = absurd cc
+
+no_item : (j : Json) (o : Option (grammar.Items × Left)) → of_json j ≡ None → converted of_items (parse_map (grammar.item j) o) ≡ None
+no_item j None e = refl
+no_item j (Some p) e = rw e refl
+
+no_member : (k : List ℕ) (j : Json) (found : Members) (o : Option (grammar.Members × Left)) → of_json j ≡ None → converted (λ ms. of_members ms found) (parse_map (grammar.member k j) o) ≡ None
+no_member k j found None e = refl
+no_member k j found (Some p) e = rw e refl
+
+no_turns : (p : Parse Json) (now : Left) → items p 0 now ≡ None
+unfolding items
+no_turns p now = refl
+
+no_member_turns : (p : Parse Json) (now : Left) → members p 0 now ≡ None
+unfolding members
+no_member_turns p now = refl
+
+item_by : (p : Parse Json) (n : ℕ) (now : Left) (o : Option (Json × Left)) → p now ≡ o → after_end_array now ≡ None → converted of_json o ≡ None → converted of_items (items p n now) ≡ None
+item_by p n now None is going e = ap (converted of_items) (items_fail p n now going is)
+item_by p zero now (Some j) is going e = ap (converted of_items) (no_turns p now)
+item_by p (suc n) now (Some j) is going e =
+    ap (converted of_items) (items_more p (suc n) now j.1 j.0 (omega arith) going is) ∙ no_item j.0 _ (unmeant j.1 (of_json j.0) e)
+
+pub item_none : (p : Parse Json) (n : ℕ) (now : List Token) → after_end_array now ≡ None → converted of_json (p now) ≡ None → converted of_items (items p n now) ≡ None
+item_none p n now going e = item_by p n now (p now) refl going e
+
+member_by : (p : Parse Json) (found : Members) (n : ℕ) (k : List ℕ) (now behind : Left) (o : Option (Json × Left)) → p behind ≡ o → read_key now ≡ Some (Some k, behind) → converted of_json o ≡ None
+    → converted (λ ms. of_members ms found) (members p n now) ≡ None
+member_by p found n k now behind None is key e = ap (converted (λ ms. of_members ms found)) (members_fail p n k now behind key is)
+member_by p found zero k now behind (Some j) is key e = ap (converted (λ ms. of_members ms found)) (no_member_turns p now)
+member_by p found (suc n) k now behind (Some j) is key e =
+    ap (converted (λ ms. of_members ms found)) (members_more p (suc n) k now behind j.1 j.0 (omega arith) key is) ∙ no_member k j.0 found _ (unmeant j.1 (of_json j.0) e)
+
+pub member_none : (p : Parse Json) (found : Members) (n : ℕ) (k : List ℕ) (now behind : List Token) → read_key now ≡ Some (Some k, behind) → converted of_json (p behind) ≡ None
+    → converted (λ ms. of_members ms found) (members p n now) ≡ None
+member_none p found n k now behind key e = member_by p found n k now behind (p behind) refl key e
+
+last_none : (j : Json) (rest : Left) → of_json j ≡ None → option_and_then of_json (if_last j rest) ≡ None
+last_none j [] e = e
+last_none j (t ∷ rest) e = refl
+
+-- a text that begins with no value is none
+pub whole_none : (o : Option (Json × List Token)) → converted of_json o ≡ None → option_and_then of_json (option_and_then (λ p. if_last p.0 p.1) o) ≡ None
+whole_none None e = refl
+whole_none (Some j) e = last_none j.0 j.1 (unmeant j.1 (of_json j.0) e)

@@ -1,57 +1,101 @@
 -- A value by its first token, and a text that is one value.
-use Rattle.std.proofs.Common.{◌≡◌, ℕ, suc, ◌-◌, List, [], ◌∷◌, length, Some, sym, ap, ◌∙◌, subst, arith}
+use Rattle.std.proofs.Common.{◌≡◌, ℕ, suc, ◌-◌, true, false, List, [], ◌∷◌, length, Option, Some, None, option_map, refl, sym, ap, ◌∙◌, subst, arith}
+use Rattle.std.specs.Prelude.{IsUtf8}
 use Rattle.json.specs.Token.{Token}
 use Rattle.json.specs.Lex.{tokens}
 use Rattle.json.specs.Json.{items, members, value, parse_map}
-use Rattle.json.proofs.Grammar.{value-begin_array, value-begin_object}
+use Rattle.json.proofs.Grammar.{value_is, value-begin_array, value-begin_object}
 use Rattle.serde_json.specs.Data as json
-use Rattle.serde_json.specs.Read.{of_json, of_items, of_members, converted}
-use Rattle.json_to_msgpack.proofs.Turns.{as_array, as_object, whole_text}
+use Rattle.serde_json.specs.Read.{number_of, of_json, converted, read}
+use Rattle.json_to_msgpack.proofs.Turns.{as_array, as_object, whole_text, whole_none}
 use Rattle.message_tree.specs.Data as tree
 use Rattle.msgpack_codec.specs.Grammar.{Spells}
-use Rattle.json_codec.specs.Decoder.{tree_of, items_tree, members_tree}
-use Rattle.json_to_msgpack.specs.body.Values.{levels, IsTokenAdded, IsValueAdded, IsListAdded, IsDictAdded, IsTextAdded}
+use Rattle.json_codec.specs.Decoder.{IsTooDeep, tree_of, items_tree, members_tree}
+use Rattle.json_to_msgpack.specs.Transliteration.{SaysTheSame}
+use Rattle.json_to_msgpack.specs.declared.fit.Fit.{Fit}
+use Rattle.json_to_msgpack.specs.declared.fit.Fit.TheVariants.{Within, TooDeep, Unreadable}
+use Rattle.json_to_msgpack.specs.body.Fits.{is_read, is_within}
+use Rattle.json_to_msgpack.specs.body.Values.{room_of, list_read, dict_read, IsWritten, IsTokenAdded, IsTooLarge, IsValueAdded, IsNoValue, IsValuePut, IsListAdded, IsListPut, IsDictAdded, IsDictPut}
 use Rattle.json_to_msgpack.proofs.LeafSpellings.{leaf_read}
 
-pub leaf_is_value : (room : ℕ) (t : Token) (rest : List Token) (before after : List ℕ) → IsTokenAdded t before after → IsValueAdded room (t ∷ rest) rest before after
-leaf_is_value room t rest before after h = record {
+-- ---- nothing inside
+
+pub leaf_is_value : (level : ℕ) (t : Token) (rest : List Token) (before after : List ℕ) → IsTokenAdded t before after → IsValueAdded Within level (t ∷ rest) rest before after
+leaf_is_value level t rest before after h = record {
   found = h.leaf;
-  read = leaf_read (levels room) t rest h.leaf h.read;
-  added = record { octets = h.added.octets; behind = h.added.behind; spelled = h.added.spelled room };
+  read = leaf_read level t rest h.leaf h.read;
+  written = record { octets = h.added.octets; behind = h.added.behind; spelled = h.added.spelled (room_of level) };
 }
 
-pub list_is_value : (room less : ℕ) (ts rest : List Token) (before after : List ℕ) → room ≡ suc less → IsListAdded less ts rest before after
-    → IsValueAdded room (Token.begin_array ∷ ts) rest before after
-list_is_value room less ts rest before after e h =
-    let same : levels room - 1 ≡ levels less = omega arith in
-    let octets = h.added.octets in
-    record {
-      found = json.array h.found;
-      read = ap (converted of_json) (value-begin_array (levels room) ts (omega arith))
-          ∙ as_array (items (value (levels room - 1)) (length ts) ts)
-          ∙ ap (λ (n : ℕ). parse_map json.array (converted of_items (items (value n) (length ts) ts))) same
-          ∙ ap (parse_map json.array) h.read;
-      added = record { octets = octets; behind = h.added.behind; spelled = subst (λ n. Spells n octets (tree.list (items_tree h.found))) (sym e) h.added.spelled };
-    }
-
-pub dict_is_value : (room less : ℕ) (ts rest : List Token) (before after : List ℕ) → room ≡ suc less → IsDictAdded less ts rest before after
-    → IsValueAdded room (Token.begin_object ∷ ts) rest before after
-dict_is_value room less ts rest before after e h =
-    let same : levels room - 1 ≡ levels less = omega arith in
-    let octets = h.added.octets in
-    record {
-      found = json.object h.found;
-      read = ap (converted of_json) (value-begin_object (levels room) ts (omega arith))
-          ∙ as_object (members (value (levels room - 1)) (length ts) ts)
-          ∙ ap (λ (n : ℕ). parse_map json.object (converted (λ ms. of_members ms json.no_members) (members (value n) (length ts) ts))) same
-          ∙ ap (parse_map json.object) h.read;
-      added = record { octets = octets; behind = h.added.behind; spelled = subst (λ n. Spells n octets (tree.dict (members_tree h.found))) (sym e) h.added.spelled };
-    }
-
--- all the tokens of a text are one value
-pub text_is_value : (text octets : List ℕ) (rest : List Token) → rest ≡ [] → IsValueAdded 100 (tokens text) rest [] octets → IsTextAdded text octets
-text_is_value text octets rest over h = record {
-  found = h.found;
-  value = whole_text (value 127 (tokens text)) h.found (h.read ∙ ap (λ (r : List Token). Some (h.found, r)) over);
-  spelled = subst (λ o. Spells 100 o (tree_of h.found)) (sym h.added.behind) h.added.spelled;
+number_is_none : (level : ℕ) (s : List ℕ) (rest : List Token) → number_of s ≡ None → IsNoValue level (Token.number s ∷ rest)
+number_is_none level s rest e = record {
+  going = refl;
+  none = ap (converted of_json) (value_is level (Token.number s ∷ rest)) ∙ ap (λ (o : Option json.Num). option_map (λ d. (d, rest)) (option_map json.number o)) e;
 }
+
+pub large_is_none : (level : ℕ) (t : Token) (rest : List Token) → IsTooLarge t → IsNoValue level (t ∷ rest)
+large_is_none level t rest h = subst (λ (x : Token). IsNoValue level (x ∷ rest)) (sym h.is) (number_is_none level h.digits rest h.none)
+
+-- ---- a list
+
+list_value : (level less : ℕ) (ts : List Token) → level ≡ suc less → converted of_json (value level (Token.begin_array ∷ ts)) ≡ parse_map json.array (list_read less ts)
+list_value level less ts e =
+    let same : level - 1 ≡ less = omega arith in
+    ap (converted of_json) (value-begin_array level ts (omega arith))
+    ∙ as_array (items (value (level - 1)) (length ts) ts)
+    ∙ ap (λ (n : ℕ). parse_map json.array (list_read n ts)) same
+
+list_added : (fit : Fit) (level less : ℕ) (ts rest : List Token) (before after : List ℕ) → level ≡ suc less → IsListAdded fit less ts rest before after → IsValueAdded fit level (Token.begin_array ∷ ts) rest before after
+list_added fit level less ts rest before after e h = record {
+  found = json.array h.found;
+  read = list_value level less ts e ∙ ap (parse_map json.array) h.read;
+  written = subst (λ n. IsWritten fit (room_of n) (tree.list (items_tree h.found)) before after) (sym e) h.written;
+}
+
+pub list_is_value : (fit : Fit) (level less : ℕ) (ts rest : List Token) (before after : List ℕ) → level ≡ suc less → IsListPut fit less ts rest before after → IsValuePut fit level (Token.begin_array ∷ ts) rest before after
+list_is_value Within level less ts rest before after e h = list_added Within level less ts rest before after e h
+list_is_value TooDeep level less ts rest before after e h = list_added TooDeep level less ts rest before after e h
+list_is_value Unreadable level less ts rest before after e h = record { going = refl; none = list_value level less ts e ∙ ap (parse_map json.array) h }
+
+-- ---- a dictionary
+
+dict_value : (level less : ℕ) (ts : List Token) → level ≡ suc less → converted of_json (value level (Token.begin_object ∷ ts)) ≡ parse_map json.object (dict_read less ts)
+dict_value level less ts e =
+    let same : level - 1 ≡ less = omega arith in
+    ap (converted of_json) (value-begin_object level ts (omega arith))
+    ∙ as_object (members (value (level - 1)) (length ts) ts)
+    ∙ ap (λ (n : ℕ). parse_map json.object (dict_read n ts)) same
+
+dict_added : (fit : Fit) (level less : ℕ) (ts rest : List Token) (before after : List ℕ) → level ≡ suc less → IsDictAdded fit less ts rest before after → IsValueAdded fit level (Token.begin_object ∷ ts) rest before after
+dict_added fit level less ts rest before after e h = record {
+  found = json.object h.found;
+  read = dict_value level less ts e ∙ ap (parse_map json.object) h.read;
+  written = subst (λ n. IsWritten fit (room_of n) (tree.dict (members_tree h.found)) before after) (sym e) h.written;
+}
+
+pub dict_is_value : (fit : Fit) (level less : ℕ) (ts rest : List Token) (before after : List ℕ) → level ≡ suc less → IsDictPut fit less ts rest before after → IsValuePut fit level (Token.begin_object ∷ ts) rest before after
+dict_is_value Within level less ts rest before after e h = dict_added Within level less ts rest before after e h
+dict_is_value TooDeep level less ts rest before after e h = dict_added TooDeep level less ts rest before after e h
+dict_is_value Unreadable level less ts rest before after e h = record { going = refl; none = dict_value level less ts e ∙ ap (parse_map json.object) h }
+
+-- ---- all the tokens of a text are one value
+
+text_read : (fit : Fit) (text octets : List ℕ) (rest : List Token) → rest ≡ [] → (h : IsValueAdded fit 127 (tokens text) rest [] octets) → read text ≡ Some h.found
+text_read fit text octets rest over h = whole_text (value 127 (tokens text)) h.found (h.read ∙ ap (λ (r : List Token). Some (h.found, r)) over)
+
+pub text_is_same : (fit : Fit) (text octets : List ℕ) (rest : List Token) → IsUtf8 text → is_within fit ≡ true → rest ≡ [] → IsValuePut fit 127 (tokens text) rest [] octets → SaysTheSame text octets
+text_is_same Within text octets rest u e over h = record {
+  tree = tree_of h.found;
+  read = (h.found, record { utf8 = u; value = text_read Within text octets rest over h }, refl);
+  spelled = subst (λ o. Spells 100 o (tree_of h.found)) (sym h.written.behind) h.written.spelled;
+}
+text_is_same TooDeep text octets rest u e over h = absurd cc
+text_is_same Unreadable text octets rest u e over h = absurd cc
+
+pub text_is_deep : (fit : Fit) (text octets : List ℕ) (rest : List Token) → IsUtf8 text → is_read fit ≡ true → is_within fit ≡ false → rest ≡ [] → IsValuePut fit 127 (tokens text) rest [] octets → IsTooDeep text
+text_is_deep Within text octets rest u e f over h = absurd cc
+text_is_deep TooDeep text octets rest u e f over h = (h.found, record { utf8 = u; value = text_read TooDeep text octets rest over h }, h.written.deeper)
+text_is_deep Unreadable text octets rest u e f over h = absurd cc
+
+pub text_is_none : (text : List ℕ) → IsNoValue 127 (tokens text) → read text ≡ None
+text_is_none text h = whole_none (value 127 (tokens text)) h.none

@@ -1,15 +1,17 @@
 //! Values with nothing inside, and keys.
-ghost use Rattle.std.specs.Prelude.{◌≡◌, ◌==◌, ◌<◌, ◌∷◌, length, pos, slice_index, OnOk, IsTrue, true, false, Some, IfSome};
+ghost use Rattle.std.specs.Prelude.{◌≡◌, ◌==◌, ◌<◌, ◌∷◌, length, pos, slice_index, OnOk, IfOk, IsTrue, true, false, Some, IfSome};
 ghost use Rattle.message_tree.specs.Data.{fits_codecs, null, flag, whole, uncarried, text as text_data, bytes as bytes_data};
 ghost use Rattle.std.specs.Float.{binary64, float_is_finite};
 ghost use Rattle.fast_float.specs.Text.{minus, nearest};
 ghost use Rattle.json.specs.Token as grammar;
 ghost use Rattle.serde_json.specs.Data.{unsigned};
-ghost use Rattle.serde_json.specs.Read.{number_of, number_from};
+ghost use Rattle.serde_json.specs.Read.{number_of, number_from, float_of};
 ghost use Rattle.json_codec.specs.Decoder.{string_tree};
 ghost use Rattle.json_to_msgpack.specs.body.Lexing.{token_of};
-ghost use Rattle.json_to_msgpack.specs.body.Values.{IsLeafAdded, IsTokenAdded, IsLeafTaken, IsNumberAdded, IsKeyAdded};
+ghost use Rattle.json_to_msgpack.specs.body.Values.{IsLeafAdded, IsTokenPut, IsLeafTaken, IsNumberPut, IsKeyAdded};
+ghost use Rattle.json_to_msgpack.specs.body.Keys.{key_octets};
 
+use crate::deep_keys::Key;
 use crate::lexer::Lexer;
 use crate::refusal::Refusal;
 use crate::token::Token;
@@ -105,35 +107,42 @@ fn put_marked(alloc: Global, text: &str, rest: &[u8], out: &mut Vec<u8>) -> Resu
     }
 }
 
-/// A number that isn't whole, where it isn't too large for a float.
-fn put_float(negative: bool, numeral: &Numeral, out: &mut Vec<u8>) -> Result<(), Refusal>
-    ensures { OnOk result ((float_is_finite (nearest binary64 negative numeral.now) ≡ true)
-        × IsLeafAdded uncarried out.old.items out.new.items) }
+/// A number that isn't whole, and whether it isn't too large for a float.
+fn put_float(negative: bool, numeral: &Numeral, out: &mut Vec<u8>) -> Result<bool, Refusal>
+    ensures { IfOk result
+        (λ fits. IsNumberPut fits (float_of negative numeral.now) out.old.items out.new.items) }
 {
     if !numeral.to_float::<f64>(negative).is_finite() {
-        return Err(Refusal::Unclear);
+        return Ok(false);
     }
-    put_all(&FLOAT, out)
+    put_all(&FLOAT, out)?;
+    Ok(true)
 }
 
 /// A number with no sign.
-fn put_unsigned(numeral: &Numeral, out: &mut Vec<u8>) -> Result<(), Refusal>
-    ensures { OnOk result
-        (IsNumberAdded (number_from false numeral.now) out.old.items out.new.items) }
+fn put_unsigned(numeral: &Numeral, out: &mut Vec<u8>) -> Result<bool, Refusal>
+    ensures { IfOk result
+        (λ fits. IsNumberPut fits (number_from false numeral.now) out.old.items out.new.items) }
 {
     match numeral.to_u64() {
-        Some(number) => put_whole(i128::from(number), out),
+        Some(number) => {
+            put_whole(i128::from(number), out)?;
+            Ok(true)
+        }
         None => put_float(false, numeral, out),
     }
 }
 
 /// A number behind a minus: -0 is a float.
-fn put_negative(numeral: &Numeral, out: &mut Vec<u8>) -> Result<(), Refusal>
-    ensures { OnOk result
-        (IsNumberAdded (number_from true numeral.now) out.old.items out.new.items) }
+fn put_negative(numeral: &Numeral, out: &mut Vec<u8>) -> Result<bool, Refusal>
+    ensures { IfOk result
+        (λ fits. IsNumberPut fits (number_from true numeral.now) out.old.items out.new.items) }
 {
     match numeral.to_i64(true) {
-        Some(number) if number < 0 => put_whole(i128::from(number), out),
+        Some(number) if number < 0 => {
+            put_whole(i128::from(number), out)?;
+            Ok(true)
+        }
         _ => put_float(true, numeral, out),
     }
 }
@@ -164,22 +173,27 @@ fn few_digits(number: &[u8]) -> Option<u64>
     Some(value)
 }
 
-/// A number, by its text.
+/// A number, by its text, and whether it isn't too large.
 #[inline(always)]
-fn put_number(number: &[u8], out: &mut Vec<u8>) -> Result<(), Refusal>
-    ensures { OnOk result (IsNumberAdded (number_of number.now) out.old.items out.new.items) }
+fn put_number(number: &[u8], out: &mut Vec<u8>) -> Result<bool, Refusal>
+    ensures { IfOk result
+        (λ fits. IsNumberPut fits (number_of number.now) out.old.items out.new.items) }
 {
     match few_digits(number) {
-        Some(natural) => put_natural(natural, out),
+        Some(natural) => {
+            put_natural(natural, out)?;
+            Ok(true)
+        }
         None => put_any_number(number, out),
     }
 }
 
-/// Any number, by its text.
+/// The same of any number.
 #[inline(never)]
 #[tactic(auto, unfolding(serde_json::specs::Read::number_of))]
-fn put_any_number(number: &[u8], out: &mut Vec<u8>) -> Result<(), Refusal>
-    ensures { OnOk result (IsNumberAdded (number_of number.now) out.old.items out.new.items) }
+fn put_any_number(number: &[u8], out: &mut Vec<u8>) -> Result<bool, Refusal>
+    ensures { IfOk result
+        (λ fits. IsNumberPut fits (number_of number.now) out.old.items out.new.items) }
 {
     if has_minus(number) {
         put_negative(&Numeral::scan(&number[1..]), out)
@@ -188,27 +202,30 @@ fn put_any_number(number: &[u8], out: &mut Vec<u8>) -> Result<(), Refusal>
     }
 }
 
-/// The value that a token is.
+/// The value that a token is, and whether it isn't a number too large.
 #[inline(always)]
-fn put_leaf(alloc: Global, token: Token, out: &mut Vec<u8>) -> Result<(), Refusal>
-    ensures { OnOk result (IsTokenAdded (token_of token.entry) out.old.items out.new.items) }
+fn put_leaf(alloc: Global, token: Token, out: &mut Vec<u8>) -> Result<bool, Refusal>
+    ensures { IfOk result
+        (λ fits. IsTokenPut fits (token_of token.entry) out.old.items out.new.items) }
 {
     match token {
-        Token::Null => put_null(out),
-        Token::Flag(value) => put_flag(value, out),
-        Token::Number(number) => put_number(number, out),
-        Token::String(text) => put_string(alloc, text.as_str(), out),
+        Token::Null => put_null(out)?,
+        Token::Flag(value) => put_flag(value, out)?,
+        Token::Number(number) => return put_number(number, out),
+        Token::String(text) => put_string(alloc, text.as_str(), out)?,
     }
+    Ok(true)
 }
 
-/// A value with nothing inside, whatever it is.
+/// A value with nothing inside, whatever it is, and whether it isn't a number too large.
 #[inline(never)]
 pub(crate) fn put_other(
     alloc: Global,
     lexer: &mut Lexer<'_>,
     out: &mut Vec<u8>,
-) -> Result<(), Refusal>
-    ensures { OnOk result (IsLeafTaken lexer.old lexer.new out.old.items out.new.items) }
+) -> Result<bool, Refusal>
+    ensures { IfOk result
+        (λ fits. IsLeafTaken fits lexer.old lexer.new out.old.items out.new.items) }
 {
     match lexer.take_token(alloc) {
         Ok(token) => put_leaf(alloc, token, out),
@@ -218,26 +235,32 @@ pub(crate) fn put_other(
 
 /// The key that is next, and its colon.
 #[inline(always)]
-pub(crate) fn put_key(
+pub(crate) fn put_key<'a>(
     alloc: Global,
-    lexer: &mut Lexer<'_>,
+    lexer: &mut Lexer<'a>,
     out: &mut Vec<u8>,
-) -> Result<(), Refusal>
-    ensures { OnOk result (IsKeyAdded lexer.old lexer.new out.old.items out.new.items) }
+) -> Result<Key<'a>, Refusal>
+    ensures { IfOk result
+        (λ key. IsKeyAdded (key_octets key) lexer.old lexer.new out.old.items out.new.items) }
 {
     if let Some(key) = lexer.take_plain_key() {
-        return put_text(key, out);
+        put_text(key, out)?;
+        return Ok(Key::Plain(key));
     }
     put_other_key(alloc, lexer, out)
 }
 
 /// The same of any key.
 #[inline(never)]
-fn put_other_key(alloc: Global, lexer: &mut Lexer<'_>, out: &mut Vec<u8>) -> Result<(), Refusal>
-    ensures { OnOk result (IsKeyAdded lexer.old lexer.new out.old.items out.new.items) }
+fn put_other_key<'a>(
+    alloc: Global,
+    lexer: &mut Lexer<'a>,
+    out: &mut Vec<u8>,
+) -> Result<Key<'a>, Refusal>
+    ensures { IfOk result
+        (λ key. IsKeyAdded (key_octets key) lexer.old lexer.new out.old.items out.new.items) }
 {
-    match lexer.take_key(alloc) {
-        Ok(key) => put_text(key.as_str(), out),
-        Err(refusal) => Err(refusal),
-    }
+    let key = lexer.take_key(alloc)?;
+    put_text(key.as_str(), out)?;
+    Ok(Key::Unescaped(key))
 }

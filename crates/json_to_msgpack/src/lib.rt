@@ -5,6 +5,8 @@
 //! It stands on `json_codec`, which says what a JSON text means, on `msgpack_codec`, which says what
 //! octets spell, and on `message_tree`. The contract says that the octets spell the tree that the
 //! text is read as.
+mod deep_keys;
+mod fit;
 mod leaves;
 mod lexer;
 mod refusal;

@@ -2,7 +2,6 @@
 ghost use Rattle.std.specs.Prelude.{◌≡◌, IfOk, MatchOption, IsUtf8, Ok, false, true};
 ghost use Rattle.serde_json.specs.Read.{read};
 ghost use Rattle.json_to_msgpack.specs.Transliteration.{IsTransliterated, IsWellFormed};
-ghost use Rattle.json_to_msgpack.specs.body.Values.{IsTextAdded};
 
 use crate::lexer::Lexer;
 use crate::refusal::Refusal;
@@ -13,22 +12,21 @@ use simdutf8::basic::from_utf8;
 use std::alloc::{AllocError, Global};
 use std::str::from_utf8_unchecked;
 
-/// How deep lists and dictionaries may nest.
-const ROOM: u8 = 100;
-
-/// How deep they may nest in a text that is read at all, where the deeper ones stand under keys that come once more.
-const MOST_LEVELS: usize = 127;
+/// How deep lists and dictionaries may nest in a text that is read at all: in a message 100, where the deeper ones stand under keys
+/// that come once more.
+const MOST_LEVELS: u8 = 127;
 
 /// What a JSON text becomes.
 #[derive(Drop)]
 pub enum Transliteration {
     /// Octets of MessagePack that spell the message that the text is.
     Octets(Vec<u8>),
-    /// The text is no message: it isn't UTF-8, no JSON, or JSON of more than 127 levels.
+    /// The text is no message: it isn't UTF-8, no JSON, JSON of more than 127 levels, or a number in it is too large for a float.
     NoJson,
-    /// The text is JSON of up to 127 levels, but for its tree to decide: it nests more than 100 levels, of which those may not count that
-    /// stand under a key that comes once more, or a number in it may be too large for a float, or a text, list or dictionary in it has
-    /// 2^32 octets or members.
+    /// The text is JSON whose tree nests more than 100 levels. Those don't count that stand under a key that comes once more.
+    TooDeep,
+    /// The text is JSON of up to 127 levels, and a text, list or dictionary in it has 2^32 octets or members, as no frame of a connection
+    /// has: its tree would tell more.
     Undecided,
 }
 
@@ -43,17 +41,24 @@ fn text_of(octets: &[u8]) -> Option<&str>
     from_utf8(octets).ok()
 }
 
-/// The octets of a text that is one value.
-fn octets_of(alloc: Global, text: &str) -> Result<Vec<u8>, Refusal>
-    ensures { IfOk result (λ v. IsTextAdded text.now v.items) }
+/// What a text is that is one value.
+fn message_of(alloc: Global, text: &str) -> Result<Transliteration, Refusal>
+    requires { IsUtf8 text.now }
+    ensures { IfOk result (IsTransliterated text.now) }
 {
     let mut out = Vec::with_capacity(alloc, text.len())?;
     let mut lexer = Lexer::new(text);
-    put_value(alloc, &mut lexer, ROOM, &mut out)?;
+    let fit = put_value(alloc, &mut lexer, MOST_LEVELS, &mut out)?;
+    if !fit.is_read() {
+        return Ok(Transliteration::NoJson);
+    }
     if !lexer.is_at_end() {
         return Err(Refusal::Unclear);
     }
-    Ok(out)
+    if fit.is_within() {
+        return Ok(Transliteration::Octets(out));
+    }
+    Ok(Transliteration::TooDeep)
 }
 
 /// Whether a text is JSON of up to 127 levels, whatever its numbers.
@@ -64,7 +69,7 @@ fn is_well_formed(alloc: Global, text: &str) -> Result<bool, AllocError>
 {
     let mut scratch = Scratch::new(alloc);
     let mut reader = Reader::new(text, &mut scratch)?;
-    Ok(reader.skip_value(MOST_LEVELS).is_ok() && reader.next().is_none())
+    Ok(reader.skip_value(MOST_LEVELS as usize).is_ok() && reader.next().is_none())
 }
 
 /// What a text is whose octets weren't written.
@@ -107,8 +112,8 @@ pub fn to_msgpack(alloc: Global, json: &[u8]) -> Result<Transliteration, AllocEr
     let Some(text) = text_of(json) else {
         return Ok(Transliteration::NoJson);
     };
-    match octets_of(alloc, text) {
-        Ok(octets) => Ok(Transliteration::Octets(octets)),
+    match message_of(alloc, text) {
+        Ok(message) => Ok(message),
         Err(Refusal::Unclear) => judge(alloc, text),
         Err(Refusal::NoMemory) => Err(AllocError),
     }

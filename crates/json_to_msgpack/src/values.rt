@@ -1,12 +1,19 @@
 //! Values with what is inside, from the tokens of JSON.
-ghost use Rattle.std.specs.Prelude.{◌≡◌, ◌<◌, ◌+◌, length, IfOk, OnOk};
-ghost use Rattle.json_to_msgpack.specs.body.Values.{IsValueAdded, IsListAdded, IsDictAdded};
+ghost use Rattle.std.specs.Prelude.{◌≡◌, ◌<◌, ◌≤◌, ◌+◌, ◌⊎◌, ℕ, List, length, true, false, IfOk, OnOk};
+ghost use Rattle.std.specs.Bool.{MatchBool};
+ghost use Rattle.json_to_msgpack.specs.body.Keys.{has_key};
+ghost use Rattle.json_to_msgpack.specs.body.Values.{IsValuePut, IsListPut, IsDictPut};
 
+use crate::deep_keys::DeepKeys;
+use crate::fit::Fit;
 use crate::leaves::{put_key, put_natural, put_other, put_string};
 use crate::lexer::Lexer;
 use crate::refusal::Refusal;
-use crate::writing::{close_dict, close_list, put};
+use crate::writing::{close_dict, close_list, put, put_null_at};
 use std::alloc::Global;
+
+/// What a text may nest beyond a message: where so many levels are left, there is no room for a list or dictionary.
+const MORE_LEVELS: u8 = 27;
 
 /// One more member: MessagePack counts them in four octets.
 #[inline(always)]
@@ -16,84 +23,119 @@ fn one_more(count: u32) -> Result<u32, Refusal>
     count.checked_add(1).ok_or(Refusal::Unclear)
 }
 
-/// The value that the next tokens are, nested no deeper than there is room. What messages mostly
+/// The value that the next tokens are, nested no deeper than there are levels. What messages mostly
 /// have is looked at first; no token is made of it.
 #[cycle(values)]
 #[inline(always)]
-pub(crate) fn put_value(
+pub(crate) fn put_value<'a>(
     alloc: Global,
-    lexer: &mut Lexer<'_>,
-    room: u8,
+    lexer: &mut Lexer<'a>,
+    level: u8,
     out: &mut Vec<u8>,
-) -> Result<(), Refusal>
-    ensures ok { OnOk result
-        (IsValueAdded room lexer.old lexer.new out.old.items out.new.items) }
+) -> Result<Fit, Refusal>
+    ensures ok { IfOk result
+        (λ fit. IsValuePut fit level lexer.old lexer.new out.old.items out.new.items) }
     ensures shorter { OnOk result (length lexer.new < length lexer.old) }
 {
     if let Some(text) = lexer.take_plain() {
-        return put_string(alloc, text, out);
+        put_string(alloc, text, out)?;
+        return Ok(Fit::Within);
     }
     if let Some(natural) = lexer.take_natural() {
-        return put_natural(natural, out);
+        put_natural(natural, out)?;
+        return Ok(Fit::Within);
     }
     if lexer.take_begin_array() {
-        if room == 0 {
+        if level == 0 {
             return Err(Refusal::Unclear);
         }
-        return put_list(alloc, lexer, room - 1, out);
+        return put_list(alloc, lexer, level - 1, out);
     }
     if lexer.take_begin_object() {
-        if room == 0 {
+        if level == 0 {
             return Err(Refusal::Unclear);
         }
-        return put_dict(alloc, lexer, room - 1, out);
+        return put_dict(alloc, lexer, level - 1, out);
     }
-    put_other(alloc, lexer, out)
+    if put_other(alloc, lexer, out)? {
+        return Ok(Fit::Within);
+    }
+    Ok(Fit::Unreadable)
 }
 
 /// A list behind its opening bracket. Its head is written once its members are.
 #[cycle(values)]
 #[inline(never)]
-fn put_list(
+fn put_list<'a>(
     alloc: Global,
-    lexer: &mut Lexer<'_>,
-    room: u8,
+    lexer: &mut Lexer<'a>,
+    level: u8,
     out: &mut Vec<u8>,
-) -> Result<(), Refusal>
-    ensures ok { OnOk result
-        (IsListAdded room lexer.old lexer.new out.old.items out.new.items) }
+) -> Result<Fit, Refusal>
+    ensures ok { IfOk result
+        (λ fit. IsListPut fit level lexer.old lexer.new out.old.items out.new.items) }
     ensures shorter { OnOk result (length lexer.new < length lexer.old) }
 {
     let head = out.len();
     put(0, out)?;
     let mut count = 0;
+    let mut within = level >= MORE_LEVELS;
     'items: while !lexer.take_end_array() {
-        put_value(alloc, lexer, room, out)?;
+        let fit = put_value(alloc, lexer, level, out)?;
+        if !fit.is_read() {
+            return Ok(fit);
+        }
+        within = within & fit.is_within();
         count = one_more(count)?;
     }
-    close_list(alloc, head, count, out)
+    if within {
+        close_list(alloc, head, count, out)?;
+        return Ok(Fit::Within);
+    }
+    put_null_at(head, out);
+    Ok(Fit::TooDeep)
+}
+
+/// Whether there is room for a dictionary, and none of its values is too deep.
+#[inline(always)]
+fn is_whole(level: u8, deep: &DeepKeys<'_>) -> bool
+    ensures { MatchBool result
+        ((27 ≤ level) × ((q : List ℕ) → has_key deep.now q ≡ false))
+        ((level < 27) ⊎ ((q : List ℕ) × (has_key deep.now q ≡ true))) }
+{
+    level >= MORE_LEVELS && deep.is_empty()
 }
 
 /// A dictionary behind its opening bracket, repeated keys as they come: the last of them counts.
 #[cycle(values)]
 #[inline(never)]
-fn put_dict(
+fn put_dict<'a>(
     alloc: Global,
-    lexer: &mut Lexer<'_>,
-    room: u8,
+    lexer: &mut Lexer<'a>,
+    level: u8,
     out: &mut Vec<u8>,
-) -> Result<(), Refusal>
-    ensures ok { OnOk result
-        (IsDictAdded room lexer.old lexer.new out.old.items out.new.items) }
+) -> Result<Fit, Refusal>
+    ensures ok { IfOk result
+        (λ fit. IsDictPut fit level lexer.old lexer.new out.old.items out.new.items) }
     ensures shorter { OnOk result (length lexer.new < length lexer.old) }
 {
     let head = out.len();
     put(0, out)?;
     let mut count = 0;
+    let mut deep = DeepKeys::new(alloc);
     'members: while !lexer.take_end_object() {
-        put_key(alloc, lexer, out)?;
-        put_value(alloc, lexer, room, out)?;
+        let key = put_key(alloc, lexer, out)?;
+        let fit = put_value(alloc, lexer, level, out)?;
+        if !fit.is_read() {
+            return Ok(fit);
+        }
+        deep.note(key, fit.is_within())?;
         count = one_more(count)?;
     }
-    close_dict(alloc, head, count, out)
+    if is_whole(level, &deep) {
+        close_dict(alloc, head, count, out)?;
+        return Ok(Fit::Within);
+    }
+    put_null_at(head, out);
+    Ok(Fit::TooDeep)
 }

@@ -173,6 +173,15 @@ fn cut(alloc: Global, at: usize, out: &mut Vec<u8>) -> Result<Vec<u8>, Refusal>
     Ok(body)
 }
 
+/// Writes null in place of all that stands from `head` on.
+pub(crate) fn put_null_at(head: usize, out: &mut Vec<u8>)
+    requires { head < length out.old.items }
+    ensures { out.new.items ≡ take head out.old.items ++ 0xc0 ∷ [] }
+{
+    out.truncate(head + 1);
+    out[head] = 0xc0;
+}
+
 /// Writes the head of a list of so many members, whose members stand behind the octet at `head`, in
 /// place of this octet.
 #[inline(always)]

@@ -1,0 +1,115 @@
+//! The keys of a dictionary whose values nest too deep.
+ghost use Rattle.std.specs.Prelude.{◌≡◌, ℕ, List, not, cond, true, false, OnOk};
+ghost use Rattle.std.specs.Bool.{MatchBool};
+ghost use Rattle.std.specs.Str.{bytes_eq};
+ghost use Rattle.std.specs.String.{string_bytes};
+ghost use Rattle.json_to_msgpack.specs.body.Keys.{key_octets, has_key};
+
+use crate::refusal::Refusal;
+use std::alloc::Global;
+use std::collections::BTreeSet;
+
+/// A key, without its escapes.
+#[derive(Drop)]
+pub(crate) enum Key<'a> {
+    /// As it stands in the text.
+    Plain(&'a str),
+    /// Written with escapes.
+    Unescaped(String),
+}
+
+/// The keys whose value, the last so far, nests too deep: mostly none, which takes no memory.
+#[derive(Drop)]
+pub(crate) struct DeepKeys<'a> {
+    plain: BTreeSet<&'a str>,
+    unescaped: BTreeSet<String>,
+}
+
+impl<'a> DeepKeys<'a> {
+    /// No key.
+    #[inline(always)]
+    pub(crate) fn new(alloc: Global) -> DeepKeys<'a>
+        ensures { (q : List ℕ) → has_key result q ≡ false }
+    {
+        DeepKeys {
+            plain: BTreeSet::new(alloc),
+            unescaped: BTreeSet::new(alloc),
+        }
+    }
+
+    /// Whether there is no key.
+    #[inline(always)]
+    pub(crate) fn is_empty(&self) -> bool
+        ensures { MatchBool result ((q : List ℕ) → has_key self.now q ≡ false)
+            ((q : List ℕ) × (has_key self.now q ≡ true)) }
+    {
+        self.plain.is_empty() && self.unescaped.is_empty()
+    }
+
+    /// Notes the value of a key, in place of its earlier ones: whether it nests within the room.
+    #[inline(always)]
+    pub(crate) fn note(&mut self, key: Key<'a>, within: bool) -> Result<(), Refusal>
+        ensures { OnOk result ((q : List ℕ)
+            → has_key self.new q ≡ cond (bytes_eq (key_octets key.entry) q) (not within) (has_key self.old q)) }
+    {
+        if within && self.is_empty() {
+            return Ok(());
+        }
+        self.set(key, within)
+    }
+
+    /// The same where a key is set or may have been.
+    #[inline(never)]
+    fn set(&mut self, key: Key<'a>, within: bool) -> Result<(), Refusal>
+        ensures { OnOk result ((q : List ℕ)
+            → has_key self.new q ≡ cond (bytes_eq (key_octets key.entry) q) (not within) (has_key self.old q)) }
+    {
+        match key {
+            Key::Plain(text) => {
+                if within {
+                    self.remove(text);
+                    Ok(())
+                } else {
+                    self.insert_plain(text)
+                }
+            }
+            Key::Unescaped(text) => {
+                if within {
+                    self.remove(text.as_str());
+                    Ok(())
+                } else {
+                    self.insert_unescaped(text)
+                }
+            }
+        }
+    }
+
+    /// Takes a key out, however it was written.
+    fn remove(&mut self, text: &str)
+        ensures { (q : List ℕ)
+            → has_key self.new q ≡ cond (bytes_eq text.now q) false (has_key self.old q) }
+    {
+        self.plain.remove(text);
+        self.unescaped.remove(text);
+    }
+
+    fn insert_plain(&mut self, text: &'a str) -> Result<(), Refusal>
+        ensures { OnOk result ((q : List ℕ)
+            → has_key self.new q ≡ cond (bytes_eq text.now q) true (has_key self.old q)) }
+    {
+        let Ok(_) = self.plain.insert(text) else {
+            return Err(Refusal::NoMemory);
+        };
+        Ok(())
+    }
+
+    fn insert_unescaped(&mut self, text: String) -> Result<(), Refusal>
+        ensures { OnOk result ((q : List ℕ) → has_key self.new q
+            ≡ cond (bytes_eq (string_bytes text) q) true (has_key self.old q)) }
+    {
+        let Ok(_) = self.unescaped.insert(text) else {
+            return Err(Refusal::NoMemory);
+        };
+        Ok(())
+    }
+}
