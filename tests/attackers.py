@@ -199,7 +199,7 @@ def say_hello(these, count):
 
 
 def say_deep_hello(these, count):
-    """In JSON. What is deep doesn't count, as the key comes once more: only a tree tells."""
+    """In JSON. What is deep doesn't count, as its key comes once more."""
     before, after = b'[1,"%s",{"x":' % REALM.encode(), b',"y":' + b"[" * 110 + b"]" * 110 + b',"y":0}]'
     payload = before + dictionaries("json", OCTETS - len(before) - len(after)) + after
 
