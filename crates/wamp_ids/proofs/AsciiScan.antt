@@ -2,7 +2,7 @@
 use Rattle.std.proofs.Common.{◌≡◌, ℕ, zero, suc, ◌+◌, ◌<◌, ◌≤◌, Bool, true, false, cond, not, ◌&&◌, ◌||◌, eqb, nat_lt, List, ◌∷◌, length, get_or, drop, bit_or, refl, sym, ap, ◌∙◌, arith}
 use Rattle.std.specs.List.{list_all}
 use Rattle.std.specs.Str.{chars, IsAscii}
-use Rattle.std.proofs.lemmas.Bool.{ne_eqb, eqb-true, and_parts, ltb-true}
+use Rattle.std.proofs.lemmas.Bool.{ne_eqb, eqb-true, and_parts, ltb-true, le-ltb}
 use Rattle.std.proofs.Math.Bool.{and_assoc, and-true}
 use Rattle.std.proofs.lemmas.List.{at_drop_more, at_drop_all}
 use Rattle.std.proofs.lemmas.Nat.{le_or_l}
@@ -28,6 +28,10 @@ ascii_more octets n ascii before both =
 
 pub ascii_at_end : (octets : List ℕ) (n : ℕ) (ascii : Bool) → ascii_so_far octets n ascii → ascii ≡ true → length octets ≤ n → IsAscii octets
 ascii_at_end octets n ascii all e h = IsAscii-from_reads octets n h (all e)
+
+-- an octet of ASCII is a character
+pub ascii_is_plain : (c : ℕ) → c < 128 → nat_lt 127 c || is_plain c ≡ is_plain c
+ascii_is_plain c h = ap (λ b. b || is_plain c) (le-ltb 127 c (omega (arith, h)))
 
 dot_step : (f b g : Bool) → (f && (true && not (b && true))) && g ≡ f && (not b && g)
 dot_step true true g = refl
@@ -66,7 +70,7 @@ topic_at_end octets n faults before h ascii e =
     ap (λ b. eqb faults 0 && b) (sym (at_drop_all (good_from (not (eqb before 46))) octets n h)) ∙ e
     ∙ ap (good_from false) (sym (chars-IsAscii octets ascii)) ∙ sym (is_topic-is octets)
 
-dot_is_plain : (c : ℕ) → is_plain c ≡ eqb c 46 || is_plain c
+pub dot_is_plain : (c : ℕ) → is_plain c ≡ eqb c 46 || is_plain c
 dot_is_plain c =
     let P : Bool → Type 0 = λ d. eqb c 46 ≡ d → is_plain c ≡ d || is_plain c in
     (elim (eqb c 46) as P [ true ↦ (λ d. ap is_plain (eqb-true c 46 d)) | false ↦ (λ d. refl) ]) refl

@@ -1,6 +1,6 @@
 //! Texts of ASCII, by their octets. No loop here leaves before the end, so that many octets are
 //! looked at at once: a long text costs an instruction or two an octet.
-ghost use Rattle.std.specs.Prelude.{◌≡◌, ◌<◌, ◌==◌, ◌||◌, ◌&&◌, not, IfSome};
+ghost use Rattle.std.specs.Prelude.{◌≡◌, ◌<◌, ◌==◌, ◌||◌, ◌&&◌, not, nat_lt, IfSome};
 ghost use Rattle.std.specs.List.{list_all};
 ghost use Rattle.std.specs.Str.{chars};
 ghost use Rattle.wamp_ids.specs.Uri.{is_topic, is_plain, components};
@@ -46,15 +46,15 @@ fn fault_behind(before: u8, octet: u8) -> u8
     fault_at(octet) | fault_of_dots(before, octet)
 }
 
-/// 0 where an octet of ASCII is no white space and no `#`.
-fn fault_at(octet: u8) -> u8
-    ensures { octet < 128 → (result == 0) ≡ is_plain octet }
+/// 0 where an octet is no white space of ASCII and no `#`.
+pub(crate) fn fault_at(octet: u8) -> u8
+    ensures { (result == 0) ≡ nat_lt 127 octet || is_plain octet }
 {
     (((octet > 8) & (octet < 14)) | (octet == b' ') | (octet == b'#')) as u8
 }
 
 /// 0 where one of two octets is no dot.
-fn fault_of_dots(before: u8, octet: u8) -> u8
+pub(crate) fn fault_of_dots(before: u8, octet: u8) -> u8
     ensures { (result == 0) ≡ not (before == 46 && octet == 46) }
 {
     ((before == b'.') & (octet == b'.')) as u8
