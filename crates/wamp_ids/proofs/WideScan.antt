@@ -204,7 +204,7 @@ reads_four c l = λ dots a b rest good then.
     ∙ more_octet dots b x y (z ∷ w ∷ rest) (omega arith) (second_stands b x y (omega arith) (omega arith))
     ∙ more_octet dots x y z (w ∷ rest) (omega arith) (third_stands x y z (omega arith) (omega arith) (omega arith) (omega arith))
     ∙ last_octet dots y b z w c rest good (omega arith) (omega arith)
-      (fourth_stands y z w (omega arith) (omega arith) (omega arith) (omega arith) (omega arith) ∙ sym (above_is_plain c l)) then
+    (fourth_stands y z w (omega arith) (omega arith) (omega arith) (omega arith) (omega arith) ∙ sym (above_is_plain c l)) then
 
 reads_character : (c : ℕ) → Reads c (encode c)
 reads_character c = elim (cases_lt c 128) [

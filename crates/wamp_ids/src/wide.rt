@@ -83,6 +83,7 @@ fn is_general_space(before: u8, octet: u8) -> bool
     ensures { result ≡ is_general_space before octet }
 {
     ((before == 0x80)
-        & (((octet > 0x7f) & (octet < 0x8b)) | ((octet == 0xa8) | ((octet == 0xa9) | (octet == 0xaf)))))
+        & (((octet > 0x7f) & (octet < 0x8b))
+            | ((octet == 0xa8) | ((octet == 0xa9) | (octet == 0xaf)))))
         | ((before == 0x81) & (octet == 0x9f))
 }
