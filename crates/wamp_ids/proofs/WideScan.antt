@@ -1,18 +1,22 @@
 -- Reading a text by its octets, each with the two before it.
-use Rattle.std.proofs.Common.{◌≡◌, ℕ, zero, suc, ◌+◌, ◌-◌, ◌*◌, ◌/◌, ◌%◌, ◌<◌, ◌≤◌, Bool, true, false, cond, not, ◌&&◌, ◌||◌, eqb, nat_lt, List, [], ◌∷◌, ◌++◌, length, get_or, drop, bit_or, refl, sym, ap, ap₂, subst, ◌∙◌, arith, inl, inr}
-use Rattle.std.specs.List.{list_all}
+use Rattle.std.proofs.Common.{◌≡◌, ℕ, zero, suc, ◌+◌, ◌-◌, ◌*◌, ◌/◌, ◌%◌, ◌<◌, ◌≤◌, Bool, true, false, cond, not, ◌&&◌, ◌||◌, eqb, nat_lt, List, [], ◌∷◌, ◌++◌, length, get_or, drop, bit_or, refl, sym, ap, ap₂, subst, ◌∙◌, arith, inl, inr, Option, Some, None, IfSome, IfNone}
+use Rattle.std.specs.List.{list_all, list_any}
 use Rattle.std.specs.Str.{chars, IsUtf8}
-use Rattle.std.proofs.lemmas.Bool.{ne_eqb, eqb-true, cases_lt, cases_eq, cond-true, cond-false, lt-ltb, le-ltb}
+use Rattle.std.proofs.lemmas.Bool.{ne_eqb, eqb-true, cases_lt, cases_eq, or_parts, cond-true, cond-false, lt-ltb, le-ltb}
 use Rattle.std.proofs.lemmas.Bool.Decides.{nat_tests}
-use Rattle.std.proofs.Math.Bool.{and_assoc, and-true, and-false, or-false}
+use Rattle.std.proofs.Math.Bool.{and_assoc, or_assoc, and-true, and-false, or-false}
 use Rattle.std.proofs.Math.Utf8.{encode, encodes}
 use Rattle.std.proofs.lemmas.Str.{encode_ascii, encodes-chars}
 use Rattle.std.proofs.lemmas.List.{at_drop_more, at_drop_all}
 use Rattle.wamp_ids.specs.Uri.{is_plain, is_topic, components}
-use Rattle.wamp_ids.specs.Octets.{ends_plain, is_space_of_two, is_space_of_three, is_general_space}
+use Rattle.wamp_ids.specs.Octets.{passes, leads_space, ends_space, has_space, is_space_of_two, is_space_of_three, is_general_space}
 use Rattle.wamp_ids.proofs.AsciiScan.{or_is_zero, dot_is_plain}
 use Rattle.wamp_ids.proofs.TopicScan.{good_from, is_topic-is}
 use Rattle.wamp_ids.proofs.ComponentWalk.{loose, loose-is}
+
+-- an octet, behind the two before it, ends no white space and no `#`
+abbrev ends_plain : ℕ → ℕ → ℕ → Bool
+ends_plain first before octet = (nat_lt 127 octet || is_plain octet) && not (ends_space first before octet)
 
 -- an octet that begins a character, and one of ASCII
 lead_stands : (a b x : ℕ) → 192 ≤ x → ends_plain a b x ≡ true
@@ -242,17 +246,92 @@ reads-is_topic text utf8 = ap (reads true 0 46) (sym (encodes-chars text utf8)) 
 pub reads-is_loose : (text : List ℕ) → IsUtf8 text → reads false 0 0 text ≡ list_all (list_all is_plain) (components (chars text))
 reads-is_loose text utf8 = ap (reads false 0 0) (sym (encodes-chars text utf8)) ∙ reads_loose (chars text) 0 0 ∙ loose-is (chars text)
 
--- one more octet
-pub reads_more : (dots : Bool) (octets : List ℕ) (n faults fault first before : ℕ) → n < length octets
-    → eqb fault 0 ≡ ends_plain first before (get_or octets n 0) && not (dots && (eqb before 46 && eqb (get_or octets n 0) 46))
-    → eqb (bit_or faults fault) 0 && reads dots before (get_or octets n 0) (drop (n + 1) octets) ≡ eqb faults 0 && reads dots first before (drop n octets)
-reads_more dots octets n faults fault first before h e =
-    let c = get_or octets n 0 in
-    let good = reads dots before c (drop (n + 1) octets) in
-    ap (λ b. b && good) (or_is_zero faults fault ∙ ap (λ b. eqb faults 0 && b) e)
-    ∙ and_assoc (eqb faults 0) (ends_plain first before c && not (dots && (eqb before 46 && eqb c 46))) good
-    ∙ ap (λ b. eqb faults 0 && b) (sym (at_drop_more (reads dots first before) octets n 0 h))
+-- `reads` is `passes` without white space beyond ASCII
+parts : (p w d n h : Bool) → ((p && not w) && d) && (n && not h) ≡ ((p && d) && n) && not (w || h)
+parts false w d n h = refl
+parts true true d n h = sym (and-false (d && n))
+parts true false d n h = sym (and_assoc d n (not h))
 
-pub reads_at_end : (dots : Bool) (octets : List ℕ) (n faults first before : ℕ) (good : Bool) → length octets ≤ n
-    → eqb faults 0 && reads dots first before (drop n octets) ≡ good → eqb faults 0 && not (dots && eqb before 46) ≡ good
-reads_at_end dots octets n faults first before good h e = ap (λ b. eqb faults 0 && b) (sym (at_drop_all (reads dots first before) octets n h)) ∙ e
+reads-passes : (dots : Bool) (a b : ℕ) (octets : List ℕ) → reads dots a b octets ≡ passes dots b octets && not (has_space a b octets)
+reads-passes dots a b [] = sym (and-true (not (dots && eqb b 46)))
+reads-passes dots a b (c ∷ cs) =
+    ap (λ t. (ends_plain a b c && not (dots && (eqb b 46 && eqb c 46))) && t) (reads-passes dots b c cs)
+    ∙ parts (nat_lt 127 c || is_plain c) (ends_space a b c) (not (dots && (eqb b 46 && eqb c 46))) (passes dots c cs) (has_space b c cs)
+
+-- what stands before a text begins no white space
+no_dot_before : (text : List ℕ) → has_space 0 0 text ≡ has_space 0 46 text
+no_dot_before [] = refl
+no_dot_before (c ∷ []) = refl
+no_dot_before (c ∷ d ∷ ds) = refl
+
+pub is_topic-passes : (text : List ℕ) → IsUtf8 text → passes true 46 text && not (has_space 0 0 text) ≡ is_topic text
+is_topic-passes text utf8 = ap (λ h. passes true 46 text && not h) (no_dot_before text) ∙ sym (reads-passes true 0 46 text) ∙ reads-is_topic text utf8
+
+pub is_loose-passes : (text : List ℕ) → IsUtf8 text → passes false 0 text && not (has_space 0 0 text) ≡ list_all (list_all is_plain) (components (chars text))
+is_loose-passes text utf8 = sym (reads-passes false 0 0 text) ∙ reads-is_loose text utf8
+
+-- no white space where none begins
+no_two : (b c : ℕ) → leads_space b ≡ false → is_space_of_two b c ≡ false
+no_two b c h = grind (arith, nat_tests)
+
+no_three : (a b c : ℕ) → leads_space a ≡ false → is_space_of_three a b c ≡ false
+no_three a b c h = grind (arith, nat_tests)
+
+no_space : (octets : List ℕ) (a b : ℕ) → leads_space a ≡ false → leads_space b ≡ false → list_any leads_space octets ≡ false → has_space a b octets ≡ false
+no_space [] a b h g e = refl
+no_space (c ∷ cs) a b h g e =
+    let parts = or_parts (leads_space c) (list_any leads_space cs) e in
+    ap₂ (λ s t. s || t) (ap₂ (λ s t. s || t) (no_two b c g) (no_three a b c h)) (no_space cs b c g parts.0 parts.1)
+
+-- the answer of one look
+abbrev Answers : Bool → Bool → Option Bool → Type 0
+Answers q h r = IfSome r (λ is. is ≡ q && not h) × IfNone r (q ≡ true)
+
+pub answers : (octets : List ℕ) (p q leads : Bool) (r : Option Bool) → r ≡ cond (p && leads) None (Some p) → p ≡ q → leads ≡ list_any leads_space octets
+    → IfSome r (λ is. is ≡ q && not (has_space 0 0 octets)) × IfNone r (q ≡ true)
+answers octets p q leads r e same tells =
+    subst (λ q. Answers q (has_space 0 0 octets) r) same
+    (subst (Answers p (has_space 0 0 octets)) (sym e) (cases p leads (has_space 0 0 octets) (λ none. no_space octets 0 0 refl refl (sym tells ∙ none))))
+  where
+    cases : (p leads h : Bool) → (leads ≡ false → h ≡ false) → Answers p h (cond (p && leads) None (Some p))
+    cases true true h e = (tt, refl)
+    cases true false h e = (sym (ap not (e refl)), tt)
+    cases false leads h e = (refl, tt)
+
+-- one more octet
+pub passes_more : (dots : Bool) (octets : List ℕ) (n faults fault before : ℕ) → n < length octets
+    → eqb fault 0 ≡ (nat_lt 127 (get_or octets n 0) || is_plain (get_or octets n 0)) && not (dots && (eqb before 46 && eqb (get_or octets n 0) 46))
+    → eqb (bit_or faults fault) 0 && passes dots (get_or octets n 0) (drop (n + 1) octets) ≡ eqb faults 0 && passes dots before (drop n octets)
+passes_more dots octets n faults fault before h e =
+    let c = get_or octets n 0 in
+    let good = passes dots c (drop (n + 1) octets) in
+    ap (λ b. b && good) (or_is_zero faults fault ∙ ap (λ b. eqb faults 0 && b) e)
+    ∙ and_assoc (eqb faults 0) ((nat_lt 127 c || is_plain c) && not (dots && (eqb before 46 && eqb c 46))) good
+    ∙ ap (λ b. eqb faults 0 && b) (sym (at_drop_more (passes dots before) octets n 0 h))
+
+-- where dots don't count, it doesn't matter what stands before
+pub passes-before : (a b : ℕ) (octets : List ℕ) → passes false a octets ≡ passes false b octets
+passes-before a b [] = refl
+passes-before a b (c ∷ cs) = refl
+
+pub leads_more : (octets : List ℕ) (n : ℕ) (leads : Bool) → n < length octets
+    → (leads || leads_space (get_or octets n 0)) || list_any leads_space (drop (n + 1) octets) ≡ leads || list_any leads_space (drop n octets)
+leads_more octets n leads h =
+    or_assoc leads (leads_space (get_or octets n 0)) (list_any leads_space (drop (n + 1) octets))
+    ∙ ap (λ b. leads || b) (sym (at_drop_more (list_any leads_space) octets n 0 h))
+
+pub space_more : (octets : List ℕ) (n first before : ℕ) (found : Bool) → n < length octets
+    → (found || ends_space first before (get_or octets n 0)) || has_space before (get_or octets n 0) (drop (n + 1) octets) ≡ found || has_space first before (drop n octets)
+space_more octets n first before found h =
+    or_assoc found (ends_space first before (get_or octets n 0)) (has_space before (get_or octets n 0) (drop (n + 1) octets))
+    ∙ ap (λ b. found || b) (sym (at_drop_more (has_space first before) octets n 0 h))
+
+-- none left
+pub passes_at_end : (dots : Bool) (octets : List ℕ) (n faults before : ℕ) → length octets ≤ n → eqb faults 0 && passes dots before (drop n octets) ≡ eqb faults 0 && not (dots && eqb before 46)
+passes_at_end dots octets n faults before h = ap (λ b. eqb faults 0 && b) (at_drop_all (passes dots before) octets n h)
+
+pub leads_at_end : (octets : List ℕ) (n : ℕ) (leads : Bool) → length octets ≤ n → leads || list_any leads_space (drop n octets) ≡ leads
+leads_at_end octets n leads h = ap (λ b. leads || b) (at_drop_all (list_any leads_space) octets n h) ∙ or-false leads
+
+pub space_at_end : (octets : List ℕ) (n first before : ℕ) (found : Bool) → length octets ≤ n → found || has_space first before (drop n octets) ≡ found
+space_at_end octets n first before found h = ap (λ b. found || b) (at_drop_all (has_space first before) octets n h) ∙ or-false found

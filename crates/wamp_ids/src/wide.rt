@@ -1,65 +1,37 @@
-//! Texts beyond ASCII, by their octets. White space there takes two octets or three in UTF-8, and
-//! no others have these values in a row, so each octet is looked at with the two before it. No loop
-//! here leaves before the end, so that many octets are looked at at once.
-ghost use Rattle.std.specs.Prelude.{◌≡◌, ◌==◌, ◌||◌, ◌&&◌, not};
-ghost use Rattle.std.specs.List.{list_all};
-ghost use Rattle.std.specs.Str.{chars};
-ghost use Rattle.wamp_ids.specs.Octets.{ends_plain, is_general_space, is_space_of_three, is_space_of_two};
-ghost use Rattle.wamp_ids.specs.Uri.{is_topic, is_plain, components};
+//! White space beyond ASCII, by octets. In UTF-8 it takes two octets or three, and no others have
+//! these values in a row, so each octet is looked at with the two before it. The loop doesn't leave
+//! before the end, so that many octets are looked at at once.
+ghost use Rattle.std.specs.Prelude.{◌≡◌};
+ghost use Rattle.wamp_ids.specs.Octets.{ends_space, has_space, is_general_space, is_space_of_three, is_space_of_two, leads_space};
 
-use crate::ascii::{fault_at, fault_of_dots};
-
-/// Whether a text is a topic.
-pub(crate) fn is_wide_topic(text: &str) -> bool
-    ensures { result ≡ is_topic text.now }
+/// Whether a text has white space beyond ASCII.
+pub(crate) fn has_space(octets: &[u8]) -> bool
+    ensures { result ≡ has_space 0 0 octets.now }
 {
-    let mut faults = 0;
-    let mut first = 0;
-    let mut before = b'.';
-    for octet in text.as_bytes() {
-        let octet = *octet;
-        faults |= fault_behind(first, before, octet);
-        first = before;
-        before = octet;
-    }
-    (faults == 0) & (before != b'.')
-}
-
-/// Whether each component of a text is free of white space and `#`.
-pub(crate) fn is_wide_loose(text: &str) -> bool
-    ensures { result ≡ list_all (list_all is_plain) (components (chars text.now)) }
-{
-    let mut faults = 0;
+    let mut found = false;
     let mut first = 0;
     let mut before = 0;
-    for octet in text.as_bytes() {
+    for octet in octets {
         let octet = *octet;
-        faults |= fault_of(first, before, octet);
+        found |= ends_space(first, before, octet);
         first = before;
         before = octet;
     }
-    faults == 0
+    found
 }
 
-/// 0 where an octet may stand behind the two before it, and ends no empty component.
-fn fault_behind(first: u8, before: u8, octet: u8) -> u8
-    ensures { (result == 0) ≡ ends_plain first before octet && not (before == 46 && octet == 46) }
+/// Whether an octet may begin white space beyond ASCII.
+pub(crate) fn leads_space(octet: u8) -> bool
+    ensures { result ≡ leads_space octet }
 {
-    fault_of(first, before, octet) | fault_of_dots(before, octet)
+    (octet == 0xc2) | ((octet > 0xe0) & (octet < 0xe4))
 }
 
-/// 0 where an octet, behind the two before it, ends no white space and no `#`.
-fn fault_of(first: u8, before: u8, octet: u8) -> u8
-    ensures { (result == 0) ≡ ends_plain first before octet }
+/// Whether an octet, behind the two before it, ends white space beyond ASCII.
+fn ends_space(first: u8, before: u8, octet: u8) -> bool
+    ensures { result ≡ ends_space first before octet }
 {
-    fault_at(octet) | fault_of_space(first, before, octet)
-}
-
-/// 0 where an octet, behind the two before it, ends no white space beyond ASCII.
-fn fault_of_space(first: u8, before: u8, octet: u8) -> u8
-    ensures { (result == 0) ≡ not (is_space_of_two before octet || is_space_of_three first before octet) }
-{
-    (is_space_of_two(before, octet) | is_space_of_three(first, before, octet)) as u8
+    is_space_of_two(before, octet) | is_space_of_three(first, before, octet)
 }
 
 /// Whether two octets are U+0085 or U+00A0.

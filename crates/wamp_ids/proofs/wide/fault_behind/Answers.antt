@@ -1,6 +1,0 @@
-use Rattle.std.proofs.Common.{◌∙◌, ap₂, ◌&&◌}
-use Rattle.wamp_ids.proofs.AsciiScan.{or_is_zero}
-use Rattle.wamp_ids.proofs.wide.fault_behind.Goals as goal
-
-pub returns : goal.returns
-returns c = or_is_zero c.fault_of.result c.fault_of_dots.result ∙ ap₂ (λ a b. a && b) c.fault_of.ensures c.fault_of_dots.ensures
