@@ -1,5 +1,5 @@
 -- Reading a text by its octets, each with the two before it.
-use Rattle.std.proofs.Common.{◌≡◌, ℕ, zero, suc, ◌+◌, ◌-◌, ◌*◌, ◌/◌, ◌%◌, ◌<◌, ◌≤◌, Bool, true, false, cond, not, ◌&&◌, ◌||◌, eqb, nat_lt, List, [], ◌∷◌, ◌++◌, length, get_or, drop, bit_or, refl, sym, ap, ap₂, subst, ◌∙◌, arith, inl, inr, Option, Some, None, IfSome, IfNone}
+use Rattle.std.proofs.Common.{◌≡◌, ℕ, ◌+◌, ◌*◌, ◌/◌, ◌%◌, ◌<◌, ◌≤◌, Bool, true, false, cond, not, ◌&&◌, ◌||◌, eqb, nat_lt, List, [], ◌∷◌, ◌++◌, length, get_or, drop, bit_or, refl, sym, ap, ap₂, subst, ◌∙◌, arith, inl, inr, Option, Some, None, IfSome, IfNone}
 use Rattle.std.specs.List.{list_all, list_any}
 use Rattle.std.specs.Str.{chars, IsUtf8}
 use Rattle.std.proofs.lemmas.Bool.{ne_eqb, eqb-true, cases_lt, cases_eq, or_parts, cond-true, cond-false, lt-ltb, le-ltb}
@@ -277,26 +277,38 @@ no_two b c h = grind (arith, nat_tests)
 no_three : (a b c : ℕ) → leads_space a ≡ false → is_space_of_three a b c ≡ false
 no_three a b c h = grind (arith, nat_tests)
 
-no_space : (octets : List ℕ) (a b : ℕ) → leads_space a ≡ false → leads_space b ≡ false → list_any leads_space octets ≡ false → has_space a b octets ≡ false
+pub no_space : (octets : List ℕ) (a b : ℕ) → leads_space a ≡ false → leads_space b ≡ false → list_any leads_space octets ≡ false → has_space a b octets ≡ false
 no_space [] a b h g e = refl
 no_space (c ∷ cs) a b h g e =
     let parts = or_parts (leads_space c) (list_any leads_space cs) e in
     ap₂ (λ s t. s || t) (ap₂ (λ s t. s || t) (no_two b c g) (no_three a b c h)) (no_space cs b c g parts.0 parts.1)
 
+abbrev pub is_wide : ℕ → Bool
+is_wide c = nat_lt 127 c
+
+no_lead : (c : ℕ) → is_wide c ≡ false → leads_space c ≡ false
+no_lead c h = grind (arith, nat_tests)
+
+none_leads : (octets : List ℕ) → list_any is_wide octets ≡ false → list_any leads_space octets ≡ false
+none_leads [] e = refl
+none_leads (c ∷ cs) e =
+    let parts = or_parts (is_wide c) (list_any is_wide cs) e in
+    ap₂ (λ s t. s || t) (no_lead c parts.0) (none_leads cs parts.1)
+
 -- the answer of one look
 abbrev Answers : Bool → Bool → Option Bool → Type 0
 Answers q h r = IfSome r (λ is. is ≡ q && not h) × IfNone r (q ≡ true)
 
-pub answers : (octets : List ℕ) (p q leads : Bool) (r : Option Bool) → r ≡ cond (p && leads) None (Some p) → p ≡ q → leads ≡ list_any leads_space octets
+pub answers : (octets : List ℕ) (p q wide : Bool) (r : Option Bool) → r ≡ cond (p && wide) None (Some p) → p ≡ q → wide ≡ list_any is_wide octets
     → IfSome r (λ is. is ≡ q && not (has_space 0 0 octets)) × IfNone r (q ≡ true)
-answers octets p q leads r e same tells =
+answers octets p q wide r e same tells =
     subst (λ q. Answers q (has_space 0 0 octets) r) same
-    (subst (Answers p (has_space 0 0 octets)) (sym e) (cases p leads (has_space 0 0 octets) (λ none. no_space octets 0 0 refl refl (sym tells ∙ none))))
+    (subst (Answers p (has_space 0 0 octets)) (sym e) (cases p wide (has_space 0 0 octets) (λ none. no_space octets 0 0 refl refl (none_leads octets (sym tells ∙ none)))))
   where
-    cases : (p leads h : Bool) → (leads ≡ false → h ≡ false) → Answers p h (cond (p && leads) None (Some p))
+    cases : (p wide h : Bool) → (wide ≡ false → h ≡ false) → Answers p h (cond (p && wide) None (Some p))
     cases true true h e = (tt, refl)
     cases true false h e = (sym (ap not (e refl)), tt)
-    cases false leads h e = (refl, tt)
+    cases false wide h e = (refl, tt)
 
 -- one more octet
 pub passes_more : (dots : Bool) (octets : List ℕ) (n faults fault before : ℕ) → n < length octets
@@ -314,11 +326,24 @@ pub passes-before : (a b : ℕ) (octets : List ℕ) → passes false a octets �
 passes-before a b [] = refl
 passes-before a b (c ∷ cs) = refl
 
-pub leads_more : (octets : List ℕ) (n : ℕ) (leads : Bool) → n < length octets
-    → (leads || leads_space (get_or octets n 0)) || list_any leads_space (drop (n + 1) octets) ≡ leads || list_any leads_space (drop n octets)
-leads_more octets n leads h =
-    or_assoc leads (leads_space (get_or octets n 0)) (list_any leads_space (drop (n + 1) octets))
-    ∙ ap (λ b. leads || b) (sym (at_drop_more (list_any leads_space) octets n 0 h))
+pub any_more : (test : ℕ → Bool) (octets : List ℕ) (n : ℕ) (found : Bool) → n < length octets
+    → (found || test (get_or octets n 0)) || list_any test (drop (n + 1) octets) ≡ found || list_any test (drop n octets)
+any_more test octets n found h =
+    or_assoc found (test (get_or octets n 0)) (list_any test (drop (n + 1) octets))
+    ∙ ap (λ b. found || b) (sym (at_drop_more (list_any test) octets n 0 h))
+
+one_more_found : (f t : Bool) → not (f && not t) ≡ not f || t
+one_more_found true true = refl
+one_more_found true false = refl
+one_more_found false t = refl
+
+-- the same, where what was found stands in the bits of a number
+pub marks_more : (test : ℕ → Bool) (octets : List ℕ) (n found mark : ℕ) → n < length octets → eqb mark 0 ≡ not (test (get_or octets n 0))
+    → not (eqb (bit_or found mark) 0) || list_any test (drop (n + 1) octets) ≡ not (eqb found 0) || list_any test (drop n octets)
+marks_more test octets n found mark h e =
+    ap (λ b. b || list_any test (drop (n + 1) octets))
+    (ap not (or_is_zero found mark ∙ ap (λ b. eqb found 0 && b) e) ∙ one_more_found (eqb found 0) (test (get_or octets n 0)))
+    ∙ any_more test octets n (not (eqb found 0)) h
 
 pub space_more : (octets : List ℕ) (n first before : ℕ) (found : Bool) → n < length octets
     → (found || ends_space first before (get_or octets n 0)) || has_space before (get_or octets n 0) (drop (n + 1) octets) ≡ found || has_space first before (drop n octets)
@@ -330,8 +355,8 @@ space_more octets n first before found h =
 pub passes_at_end : (dots : Bool) (octets : List ℕ) (n faults before : ℕ) → length octets ≤ n → eqb faults 0 && passes dots before (drop n octets) ≡ eqb faults 0 && not (dots && eqb before 46)
 passes_at_end dots octets n faults before h = ap (λ b. eqb faults 0 && b) (at_drop_all (passes dots before) octets n h)
 
-pub leads_at_end : (octets : List ℕ) (n : ℕ) (leads : Bool) → length octets ≤ n → leads || list_any leads_space (drop n octets) ≡ leads
-leads_at_end octets n leads h = ap (λ b. leads || b) (at_drop_all (list_any leads_space) octets n h) ∙ or-false leads
+pub any_at_end : (test : ℕ → Bool) (octets : List ℕ) (n : ℕ) (found : Bool) → length octets ≤ n → found || list_any test (drop n octets) ≡ found
+any_at_end test octets n found h = ap (λ b. found || b) (at_drop_all (list_any test) octets n h) ∙ or-false found
 
 pub space_at_end : (octets : List ℕ) (n first before : ℕ) (found : Bool) → length octets ≤ n → found || has_space first before (drop n octets) ≡ found
 space_at_end octets n first before found h = ap (λ b. found || b) (at_drop_all (has_space first before) octets n h) ∙ or-false found

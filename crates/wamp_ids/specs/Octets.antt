@@ -1,5 +1,5 @@
 -- Faults of a text as they stand in its octets, in UTF-8.
-use Rattle.std.specs.Prelude.{ℕ, Bool, true, false, ◌==◌, ◌||◌, ◌&&◌, not, nat_lt, List, [], ◌∷◌}
+use Rattle.std.specs.Prelude.{ℕ, Bool, false, ◌==◌, ◌||◌, ◌&&◌, not, nat_lt, List, [], ◌∷◌}
 use Rattle.wamp_ids.specs.Uri.{is_plain}
 
 -- no white space of ASCII and no `#`; and, where dots count, no dot at the end or behind another, or behind the octet before

@@ -4,46 +4,44 @@ ghost use Rattle.std.specs.Prelude.{◌≡◌, ◌==◌, ◌||◌, ◌&&◌, not
 ghost use Rattle.wamp_ids.specs.Octets.{passes, has_space};
 ghost use Rattle.wamp_ids.specs.Uri.{is_plain};
 
-use crate::wide::leads_space;
-
-/// Whether a text is a topic; `None` where it is one if it has no white space beyond ASCII, and an
-/// octet might begin that.
+/// Whether a text is a topic; `None` where it is one unless it has white space beyond ASCII, and it
+/// isn't of ASCII.
 pub(crate) fn is_topic_so_far(octets: &[u8]) -> Option<bool>
     ensures some { IfSome result (λ is. is ≡ passes true 46 octets.now && not (has_space 0 0 octets.now)) }
     ensures none { IfNone result (passes true 46 octets.now ≡ true) }
 {
-    let mut leads = false;
+    let mut wide = false;
     let mut faults = 0;
     let mut before = b'.';
     for octet in octets {
         let octet = *octet;
-        leads |= leads_space(octet);
+        wide |= octet > 0x7f;
         faults |= fault_behind(before, octet);
         before = octet;
     }
-    answer((faults == 0) & (before != b'.'), leads)
+    answer((faults == 0) & (before != b'.'), wide)
 }
 
-/// Whether each component of a text is free of white space and `#`; `None` where it is if it has no
-/// white space beyond ASCII, and an octet might begin that.
+/// Whether each component of a text is free of white space and `#`; `None` where it is unless it has
+/// white space beyond ASCII, and it isn't of ASCII.
 pub(crate) fn is_loose_so_far(octets: &[u8]) -> Option<bool>
     ensures some { IfSome result (λ is. is ≡ passes false 0 octets.now && not (has_space 0 0 octets.now)) }
     ensures none { IfNone result (passes false 0 octets.now ≡ true) }
 {
-    let mut leads = false;
+    let mut wide = false;
     let mut faults = 0;
     for octet in octets {
-        leads |= leads_space(*octet);
+        wide |= *octet > 0x7f;
         faults |= fault_at(*octet);
     }
-    answer(faults == 0, leads)
+    answer(faults == 0, wide)
 }
 
-/// What a text is that has no fault of ASCII or has one, where white space beyond may begin or not.
-fn answer(good: bool, leads: bool) -> Option<bool>
-    ensures { result ≡ if good && leads then None else Some good }
+/// What a text is that has no fault of ASCII or has one, and is of ASCII or is wide.
+fn answer(good: bool, wide: bool) -> Option<bool>
+    ensures { result ≡ if good && wide then None else Some good }
 {
-    if good & leads { None } else { Some(good) }
+    if good & wide { None } else { Some(good) }
 }
 
 /// 0 where an octet may stand behind the octet before, and ends no empty component.

@@ -1,11 +1,35 @@
 //! White space beyond ASCII, by octets. In UTF-8 it takes two octets or three, and no others have
-//! these values in a row, so each octet is looked at with the two before it. The loop doesn't leave
-//! before the end, so that many octets are looked at at once.
-ghost use Rattle.std.specs.Prelude.{◌≡◌};
+//! these values in a row, so each octet is looked at with the two before it; but most texts have no
+//! octet that begins it. No loop here leaves before the end, so that many octets are looked at at
+//! once.
+ghost use Rattle.std.specs.Prelude.{◌≡◌, ◌==◌, not};
+ghost use Rattle.std.specs.List.{list_any};
 ghost use Rattle.wamp_ids.specs.Octets.{ends_space, has_space, is_general_space, is_space_of_three, is_space_of_two, leads_space};
 
 /// Whether a text has white space beyond ASCII.
 pub(crate) fn has_space(octets: &[u8]) -> bool
+    ensures { result ≡ has_space 0 0 octets.now }
+{
+    if any_leads_space(octets) {
+        any_ends_space(octets)
+    } else {
+        false
+    }
+}
+
+/// Whether an octet may begin white space beyond ASCII.
+fn any_leads_space(octets: &[u8]) -> bool
+    ensures { result ≡ list_any leads_space octets.now }
+{
+    let mut found = 0;
+    for octet in octets {
+        found |= lead_mark(*octet);
+    }
+    found != 0
+}
+
+/// Whether an octet, behind the two before it, ends white space beyond ASCII.
+fn any_ends_space(octets: &[u8]) -> bool
     ensures { result ≡ has_space 0 0 octets.now }
 {
     let mut found = false;
@@ -20,11 +44,12 @@ pub(crate) fn has_space(octets: &[u8]) -> bool
     found
 }
 
-/// Whether an octet may begin white space beyond ASCII.
-pub(crate) fn leads_space(octet: u8) -> bool
-    ensures { result ≡ leads_space octet }
+/// 0 where an octet begins no white space beyond ASCII. As a number, so that the loop isn't made one
+/// that leaves at the first of them.
+fn lead_mark(octet: u8) -> u8
+    ensures { (result == 0) ≡ not (leads_space octet) }
 {
-    (octet == 0xc2) | ((octet > 0xe0) & (octet < 0xe4))
+    ((octet == 0xc2) | ((octet > 0xe0) & (octet < 0xe4))) as u8
 }
 
 /// Whether an octet, behind the two before it, ends white space beyond ASCII.
