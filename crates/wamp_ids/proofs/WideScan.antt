@@ -240,10 +240,10 @@ reads_loose (c ∷ cs) a b =
     reads_character c false a b (encodes cs) (loose cs) (λ a b e. reads_loose cs a b)
     ∙ ap (λ t. t && loose cs) (and-true (is_plain c) ∙ dot_is_plain c)
 
-pub reads-is_topic : (text : List ℕ) → IsUtf8 text → reads true 0 46 text ≡ is_topic text
+reads-is_topic : (text : List ℕ) → IsUtf8 text → reads true 0 46 text ≡ is_topic text
 reads-is_topic text utf8 = ap (reads true 0 46) (sym (encodes-chars text utf8)) ∙ reads_topic (chars text) 0 46 ∙ sym (is_topic-is text)
 
-pub reads-is_loose : (text : List ℕ) → IsUtf8 text → reads false 0 0 text ≡ list_all (list_all is_plain) (components (chars text))
+reads-is_loose : (text : List ℕ) → IsUtf8 text → reads false 0 0 text ≡ list_all (list_all is_plain) (components (chars text))
 reads-is_loose text utf8 = ap (reads false 0 0) (sym (encodes-chars text utf8)) ∙ reads_loose (chars text) 0 0 ∙ loose-is (chars text)
 
 -- `reads` is `passes` without white space beyond ASCII
