@@ -13,6 +13,7 @@ mod id;
 pub mod laws;
 mod pattern;
 mod topic;
+mod wide;
 
 pub use components::{dot_in, fits};
 pub use conn::{Conn, SEATS, seat};

@@ -3,4 +3,4 @@ use Rattle.wamp_ids.proofs.AsciiScan.{or_is_zero}
 use Rattle.wamp_ids.proofs.ascii.fault_behind.Goals as goal
 
 pub returns : goal.returns
-returns c = λ ascii. or_is_zero c.fault_at.result c.fault_of_dots.result ∙ ap₂ (λ a b. a && b) (c.fault_at.ensures ascii) c.fault_of_dots.ensures
+returns c = or_is_zero c.fault_at.result c.fault_of_dots.result ∙ ap₂ (λ a b. a && b) c.fault_at.ensures c.fault_of_dots.ensures
