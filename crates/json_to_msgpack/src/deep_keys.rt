@@ -1,11 +1,11 @@
 //! The keys of a dictionary whose values nest too deep.
-ghost use Rattle.std.specs.Prelude.{◌≡◌, ℕ, List, not, cond, true, false, OnOk};
+ghost use Rattle.std.specs.Prelude.{◌≡◌, ℕ, List, not, cond, true, false, OnOk, IfOk};
 ghost use Rattle.std.specs.Bool.{MatchBool};
 ghost use Rattle.std.specs.Str.{bytes_eq};
-ghost use Rattle.std.specs.String.{string_bytes};
 ghost use Rattle.json_to_msgpack.specs.body.Keys.{key_octets, has_key};
 
 use crate::refusal::Refusal;
+use bumpalo::Bump;
 use std::alloc::Global;
 use std::collections::BTreeSet;
 
@@ -21,8 +21,7 @@ pub(crate) enum Key<'a> {
 /// The keys whose value, the last so far, nests too deep: mostly none, which takes no memory.
 #[derive(Drop)]
 pub(crate) struct DeepKeys<'a> {
-    plain: BTreeSet<&'a str>,
-    unescaped: BTreeSet<String>,
+    keys: BTreeSet<&'a str>,
 }
 
 impl<'a> DeepKeys<'a> {
@@ -32,8 +31,7 @@ impl<'a> DeepKeys<'a> {
         ensures { (q : List ℕ) → has_key result q ≡ false }
     {
         DeepKeys {
-            plain: BTreeSet::new(alloc),
-            unescaped: BTreeSet::new(alloc),
+            keys: BTreeSet::new(alloc),
         }
     }
 
@@ -43,26 +41,32 @@ impl<'a> DeepKeys<'a> {
         ensures { MatchBool result ((q : List ℕ) → has_key self.now q ≡ false)
             ((q : List ℕ) × (has_key self.now q ≡ true)) }
     {
-        self.plain.is_empty() && self.unescaped.is_empty()
+        self.keys.is_empty()
     }
 
-    /// Notes the value of a key, in place of its earlier ones: whether it nests within the room.
+    /// Notes the value of a key, in place of its earlier ones: whether it nests within the room. A key with escapes that
+    /// has to stay is copied into `arena`.
     #[inline(always)]
-    pub(crate) fn note(&mut self, key: Key<'a>, within: bool) -> Result<(), Refusal>
-        ensures { OnOk result ((q : List ℕ)
-            → has_key self.new q ≡ cond (bytes_eq (key_octets key.entry) q) (not within) (has_key self.old q)) }
+    pub(crate) fn note(
+        &mut self,
+        arena: &'a Bump,
+        key: Key<'a>,
+        within: bool,
+    ) -> Result<(), Refusal>
+        ensures { OnOk result ((q : List ℕ) → has_key self.new q
+            ≡ cond (bytes_eq (key_octets key.entry) q) (not within) (has_key self.old q)) }
     {
         if within && self.is_empty() {
             return Ok(());
         }
-        self.set(key, within)
+        self.set(arena, key, within)
     }
 
     /// The same where a key is set or may have been.
     #[inline(never)]
-    fn set(&mut self, key: Key<'a>, within: bool) -> Result<(), Refusal>
-        ensures { OnOk result ((q : List ℕ)
-            → has_key self.new q ≡ cond (bytes_eq (key_octets key.entry) q) (not within) (has_key self.old q)) }
+    fn set(&mut self, arena: &'a Bump, key: Key<'a>, within: bool) -> Result<(), Refusal>
+        ensures { OnOk result ((q : List ℕ) → has_key self.new q
+            ≡ cond (bytes_eq (key_octets key.entry) q) (not within) (has_key self.old q)) }
     {
         match key {
             Key::Plain(text) => {
@@ -70,7 +74,7 @@ impl<'a> DeepKeys<'a> {
                     self.remove(text);
                     Ok(())
                 } else {
-                    self.insert_plain(text)
+                    self.insert(text)
                 }
             }
             Key::Unescaped(text) => {
@@ -78,38 +82,36 @@ impl<'a> DeepKeys<'a> {
                     self.remove(text.as_str());
                     Ok(())
                 } else {
-                    self.insert_unescaped(text)
+                    self.insert(kept(arena, text.as_str())?)
                 }
             }
         }
     }
 
-    /// Takes a key out, however it was written.
     fn remove(&mut self, text: &str)
         ensures { (q : List ℕ)
             → has_key self.new q ≡ cond (bytes_eq text.now q) false (has_key self.old q) }
     {
-        self.plain.remove(text);
-        self.unescaped.remove(text);
+        self.keys.remove(text);
     }
 
-    fn insert_plain(&mut self, text: &'a str) -> Result<(), Refusal>
+    fn insert(&mut self, text: &'a str) -> Result<(), Refusal>
         ensures { OnOk result ((q : List ℕ)
             → has_key self.new q ≡ cond (bytes_eq text.now q) true (has_key self.old q)) }
     {
-        let Ok(_) = self.plain.insert(text) else {
+        let Ok(_) = self.keys.insert(text) else {
             return Err(Refusal::NoMemory);
         };
         Ok(())
     }
+}
 
-    fn insert_unescaped(&mut self, text: String) -> Result<(), Refusal>
-        ensures { OnOk result ((q : List ℕ) → has_key self.new q
-            ≡ cond (bytes_eq (string_bytes text) q) true (has_key self.old q)) }
-    {
-        let Ok(_) = self.unescaped.insert(text) else {
-            return Err(Refusal::NoMemory);
-        };
-        Ok(())
+/// The same text, for as long as the arena stays.
+fn kept<'a>(arena: &'a Bump, text: &str) -> Result<&'a str, Refusal>
+    ensures { IfOk result (λ copy. copy.now ≡ text.now) }
+{
+    match arena.try_alloc_str(text) {
+        Ok(copy) => Ok(copy),
+        Err(_) => Err(Refusal::NoMemory),
     }
 }

@@ -6,14 +6,15 @@ ghost use Rattle.json_to_msgpack.specs.Transliteration.{IsTransliterated, IsWell
 use crate::lexer::Lexer;
 use crate::refusal::Refusal;
 use crate::values::put_value;
+use bumpalo::Bump;
 use json::{Reader, Scratch};
 use msgpack_codec::is_ascii;
 use simdutf8::basic::from_utf8;
 use std::alloc::{AllocError, Global};
 use std::str::from_utf8_unchecked;
 
-/// How deep lists and dictionaries may nest in a text that is read at all: in a message 100, where the deeper ones stand under keys
-/// that come once more.
+/// How deep lists and dictionaries may nest in a text that is read at all. A message has room for 100: those that are
+/// deeper may stand under a key that comes once more.
 const MOST_LEVELS: u8 = 127;
 
 /// What a JSON text becomes.
@@ -21,12 +22,13 @@ const MOST_LEVELS: u8 = 127;
 pub enum Transliteration {
     /// Octets of MessagePack that spell the message that the text is.
     Octets(Vec<u8>),
-    /// The text is no message: it isn't UTF-8, no JSON, JSON of more than 127 levels, or a number in it is too large for a float.
+    /// The text is no message: it isn't UTF-8, no JSON, or JSON of more than 127 levels or with a number that is too
+    /// large for a float.
     NoJson,
-    /// The text is JSON whose tree nests more than 100 levels. Those don't count that stand under a key that comes once more.
+    /// The text is JSON that nests more than 100 levels, and not only under keys that come once more.
     TooDeep,
-    /// The text is JSON of up to 127 levels, and a text, list or dictionary in it has 2^32 octets or members, as no frame of a connection
-    /// has: its tree would tell more.
+    /// The text is JSON of up to 127 levels, in which a text, list or dictionary has 2^32 octets or members, as no frame
+    /// of a connection has: its tree would tell more of it.
     Undecided,
 }
 
@@ -41,14 +43,15 @@ fn text_of(octets: &[u8]) -> Option<&str>
     from_utf8(octets).ok()
 }
 
-/// What a text is that is one value.
-fn message_of(alloc: Global, text: &str) -> Result<Transliteration, Refusal>
+/// What a text is that is one value, with an arena for keys.
+#[inline(always)]
+fn message_of<'a>(alloc: Global, arena: &'a Bump, text: &'a str) -> Result<Transliteration, Refusal>
     requires { IsUtf8 text.now }
     ensures { IfOk result (IsTransliterated text.now) }
 {
     let mut out = Vec::with_capacity(alloc, text.len())?;
     let mut lexer = Lexer::new(text);
-    let fit = put_value(alloc, &mut lexer, MOST_LEVELS, &mut out)?;
+    let fit = put_value(alloc, arena, &mut lexer, MOST_LEVELS, &mut out)?;
     if !fit.is_read() {
         return Ok(Transliteration::NoJson);
     }
@@ -112,7 +115,8 @@ pub fn to_msgpack(alloc: Global, json: &[u8]) -> Result<Transliteration, AllocEr
     let Some(text) = text_of(json) else {
         return Ok(Transliteration::NoJson);
     };
-    match message_of(alloc, text) {
+    let arena = Bump::new(alloc);
+    match message_of(alloc, &arena, text) {
         Ok(message) => Ok(message),
         Err(Refusal::Unclear) => judge(alloc, text),
         Err(Refusal::NoMemory) => Err(AllocError),

@@ -10,6 +10,7 @@ use crate::leaves::{put_key, put_natural, put_other, put_string};
 use crate::lexer::Lexer;
 use crate::refusal::Refusal;
 use crate::writing::{close_dict, close_list, put, put_null_at};
+use bumpalo::Bump;
 use std::alloc::Global;
 
 /// What a text may nest beyond a message: where so many levels are left, there is no room for a list or dictionary.
@@ -29,6 +30,7 @@ fn one_more(count: u32) -> Result<u32, Refusal>
 #[inline(always)]
 pub(crate) fn put_value<'a>(
     alloc: Global,
+    arena: &'a Bump,
     lexer: &mut Lexer<'a>,
     level: u8,
     out: &mut Vec<u8>,
@@ -49,13 +51,13 @@ pub(crate) fn put_value<'a>(
         if level == 0 {
             return Err(Refusal::Unclear);
         }
-        return put_list(alloc, lexer, level - 1, out);
+        return put_list(alloc, arena, lexer, level - 1, out);
     }
     if lexer.take_begin_object() {
         if level == 0 {
             return Err(Refusal::Unclear);
         }
-        return put_dict(alloc, lexer, level - 1, out);
+        return put_dict(alloc, arena, lexer, level - 1, out);
     }
     if put_other(alloc, lexer, out)? {
         return Ok(Fit::Within);
@@ -68,6 +70,7 @@ pub(crate) fn put_value<'a>(
 #[inline(never)]
 fn put_list<'a>(
     alloc: Global,
+    arena: &'a Bump,
     lexer: &mut Lexer<'a>,
     level: u8,
     out: &mut Vec<u8>,
@@ -81,7 +84,7 @@ fn put_list<'a>(
     let mut count = 0;
     let mut within = level >= MORE_LEVELS;
     'items: while !lexer.take_end_array() {
-        let fit = put_value(alloc, lexer, level, out)?;
+        let fit = put_value(alloc, arena, lexer, level, out)?;
         if !fit.is_read() {
             return Ok(fit);
         }
@@ -111,6 +114,7 @@ fn is_whole(level: u8, deep: &DeepKeys<'_>) -> bool
 #[inline(never)]
 fn put_dict<'a>(
     alloc: Global,
+    arena: &'a Bump,
     lexer: &mut Lexer<'a>,
     level: u8,
     out: &mut Vec<u8>,
@@ -125,11 +129,11 @@ fn put_dict<'a>(
     let mut deep = DeepKeys::new(alloc);
     'members: while !lexer.take_end_object() {
         let key = put_key(alloc, lexer, out)?;
-        let fit = put_value(alloc, lexer, level, out)?;
+        let fit = put_value(alloc, arena, lexer, level, out)?;
         if !fit.is_read() {
             return Ok(fit);
         }
-        deep.note(key, fit.is_within())?;
+        deep.note(arena, key, fit.is_within())?;
         count = one_more(count)?;
     }
     if is_whole(level, &deep) {

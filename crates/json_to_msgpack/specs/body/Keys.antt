@@ -1,8 +1,8 @@
 -- Keys as octets, and the keys whose value is too deep.
-use Rattle.std.specs.Prelude.{ℕ, List, Bool, false, ◌||◌, nat_lt, Option, Some, None}
+use Rattle.std.specs.Prelude.{ℕ, List, Bool, false, nat_lt, Option, Some, None}
 use Rattle.std.specs.Ordering.{nat_cmp}
 use Rattle.std.specs.Cmp.Lexicographic.{slice_cmp}
-use Rattle.std.specs.BTreeSet.{contains_by, contains_text}
+use Rattle.std.specs.BTreeSet.{contains_by}
 use Rattle.std.specs.String.{string_bytes}
 use Rattle.message_tree.specs.Data.{Data, Entries, depth, find_entry}
 use Rattle.json_to_msgpack.specs.declared.deep_keys.Key.{Key}
@@ -16,7 +16,7 @@ key_octets (Unescaped s) = string_bytes s
 
 -- whether these keys have one of these octets
 abbrev pub has_key : DeepKeys → List ℕ → Bool
-has_key deep q = contains_by (λ k. slice_cmp nat_cmp q k.now) deep.plain || contains_text deep.unescaped q
+has_key deep q = contains_by (λ k. slice_cmp nat_cmp q k.now) deep.keys
 
 -- whether a value is there, and nests deeper
 abbrev pub is_deeper : ℕ → Option Data → Bool

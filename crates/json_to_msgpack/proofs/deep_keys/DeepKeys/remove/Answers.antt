@@ -1,7 +1,6 @@
-use Rattle.json_to_msgpack.proofs.KeySets.{key_removed}
+use Rattle.std.proofs.Common.{false}
+use Rattle.json_to_msgpack.proofs.KeySets.{key_updated}
 use Rattle.json_to_msgpack.proofs.deep_keys.DeepKeys.remove.Goals as goal
 
 pub returns : goal.returns
-returns c =
-    let deep = c.args.self.now in
-    key_removed deep.plain deep.unescaped c.args.text c.remove.new.self c.remove-2.new.self c.remove.ensures.updates c.remove-2.ensures.updates
+returns c = key_updated c.args.text c.args.self.now.keys c.remove.new.self false c.remove.ensures.updates
