@@ -105,8 +105,8 @@ fn number_end(octets: &[u8], from: usize) -> Option<usize>
     exponent_end(octets, power)
 }
 
-/// The number that digits at a place are, and where they end: of those that begin with no 0, are
-/// all of a word, and are not too many, as mostly.
+/// The number that digits at a place are, and where they end: of those that begin with no 0 and are
+/// not too many, as mostly. Whether they are a word tells what stands behind them.
 #[inline(always)]
 pub(crate) fn natural_at(octets: &[u8], from: usize) -> Option<(u64, usize)>
     ensures { IfSome result (λ found. IsNaturalAt octets.now from found.0 found.1) }
