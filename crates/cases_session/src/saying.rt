@@ -70,12 +70,25 @@ fn in_words(alloc: Global, said: Said) -> io::Result<String> {
     }
 }
 
+/// A text within a line: a line feed in it is spelled.
+fn shown(alloc: Global, text: &Text) -> io::Result<String> {
+    let mut line = String::new(alloc);
+    for c in text.as_str().chars() {
+        if c == '\n' {
+            line.push_str("\\0a")?;
+        } else {
+            line.push(c)?;
+        }
+    }
+    Ok(line)
+}
+
 fn hello(alloc: Global, realm: Text, authid: Option<Text>) -> io::Result<String> {
-    let realm = realm.as_str();
+    let realm = shown(alloc, &realm)?;
     match &authid {
         None => Ok(format!(in alloc; "hello {realm}\n")?),
         Some(authid) => {
-            let authid = authid.as_str();
+            let authid = shown(alloc, authid)?;
             Ok(format!(in alloc; "hello {realm} as {authid}\n")?)
         }
     }
@@ -90,7 +103,7 @@ fn asked(
     behind: &str,
 ) -> io::Result<String> {
     let number = request.value();
-    let topic = topic.as_str();
+    let topic = shown(alloc, &topic)?;
     Ok(format!(in alloc; "{name} {number} {options} {topic}{behind}\n")?)
 }
 
