@@ -27,8 +27,8 @@ pub enum Transliteration {
     NoJson,
     /// The text is JSON that nests more than 100 levels, and not only under keys that come once more.
     TooDeep,
-    /// The text is JSON of up to 127 levels, in which a text, list or dictionary has 2^32 octets or members, as no frame
-    /// of a connection has: its tree would tell more of it.
+    /// The text is JSON of up to 127 levels, in which a text, list or dictionary has 2^32 octets or members, as no
+    /// frame of a connection has: its tree would tell more of it.
     Undecided,
 }
 
@@ -110,7 +110,7 @@ fn judge(alloc: Global, text: &str) -> Result<Transliteration, AllocError>
 /// copies. Keys whose value nests too deep stand in a set until they come once more with one that
 /// doesn't, or their dictionary ends, those with escapes also in an arena: of texts that are made
 /// of such members, this takes up to five octets for each of the text, and their buffer isn't
-/// doubled. A text that isn't written is looked at once more, with one octet for each of its own.
+/// doubled. A text that isn't JSON is looked at once more, with one octet for each of its own.
 ///
 /// Time: one pass, but for those copies and that look. Once a value of a dictionary nests too deep,
 /// the keys that follow in it are looked for in the set, each in as many steps as the logarithm of
