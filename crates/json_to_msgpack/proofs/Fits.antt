@@ -4,7 +4,7 @@ use Rattle.json.specs.Token.{Token}
 use Rattle.json_to_msgpack.specs.declared.fit.Fit.{Fit}
 use Rattle.json_to_msgpack.specs.declared.fit.Fit.TheVariants.{Within, TooDeep, Unreadable}
 use Rattle.json_to_msgpack.specs.body.Fits.{is_read}
-use Rattle.json_to_msgpack.specs.body.Values.{list_read, dict_read, IsValueAdded, IsNoValue, IsValuePut, IsListPut, IsDictPut}
+use Rattle.json_to_msgpack.specs.body.Values.{dict_read, IsValueAdded, IsNoValue, IsValuePut, IsDictPut}
 
 module _ (level : ℕ) (old new : List Token) (before after : List ℕ) where
   pub put_read : (fit : Fit) → is_read fit ≡ true → IsValuePut fit level old new before after → IsValueAdded fit level old new before after
@@ -16,11 +16,6 @@ module _ (level : ℕ) (old new : List Token) (before after : List ℕ) where
   put_unread Within e h = absurd cc
   put_unread TooDeep e h = absurd cc
   put_unread Unreadable e h = h
-
-  pub list_unread : (fit : Fit) → is_read fit ≡ false → list_read level old ≡ None → IsListPut fit level old new before after
-  list_unread Within e h = absurd cc
-  list_unread TooDeep e h = absurd cc
-  list_unread Unreadable e h = h
 
   pub dict_unread : (fit : Fit) → is_read fit ≡ false → dict_read level old ≡ None → IsDictPut fit level old new before after
   dict_unread Within e h = absurd cc

@@ -1,5 +1,5 @@
 -- What a turn of the grammar's loops reads, as data.
-use Rattle.std.proofs.Common.{◌≡◌, ℕ, zero, suc, ◌-◌, ◌<◌, ◌≤◌, List, [], ◌∷◌, length, Option, Some, None, option_map, option_and_then, refl, ap, ◌∙◌, arith}
+use Rattle.std.proofs.Common.{◌≡◌, ℕ, zero, suc, ◌-◌, ◌<◌, ◌≤◌, List, length, Option, Some, None, option_map, refl, ap, ◌∙◌, arith}
 use Rattle.json.specs.Token.{Token}
 use Rattle.json.specs.Json as grammar
 use Rattle.json.specs.Json.{Json, Parse, parse_map, after_end_array, read_key, items, members, if_last}
@@ -75,12 +75,6 @@ pub members_over : (p : Parse Json) (found : Members) (n : ℕ) (now rest : List
     → converted (λ ms. of_members ms found) (members p n now) ≡ Some (found, rest)
 members_over p found n now rest enough e = ap (converted (λ ms. of_members ms found)) (members_end p n now rest enough e)
 
--- a value with nothing behind it is the whole text
-pub whole_text : (o : Option (Json × List Token)) (d : Data) → converted of_json o ≡ Some (d, []) → option_and_then of_json (option_and_then (λ p. if_last p.0 p.1) o) ≡ Some d
-whole_text o d e =
-    let j = source_of of_json o d [] e in
-    ap (λ (x : Option (Json × List Token)). option_and_then of_json (option_and_then (λ p. if_last p.0 p.1) x)) j.parsed ∙ j.meant
-
 -- ---- where there is no value
 
 unmeant : (rest : Left) (x : Option Data) → option_map {U = Data × Left} (λ b. (b, rest)) x ≡ None → x ≡ None
@@ -122,12 +116,3 @@ member_by p found (suc n) k now behind (Some j) is key e =
 pub member_none : (p : Parse Json) (found : Members) (n : ℕ) (k : List ℕ) (now behind : List Token) → read_key now ≡ Some (Some k, behind) → converted of_json (p behind) ≡ None
     → converted (λ ms. of_members ms found) (members p n now) ≡ None
 member_none p found n k now behind key e = member_by p found n k now behind (p behind) refl key e
-
-last_none : (j : Json) (rest : Left) → of_json j ≡ None → option_and_then of_json (if_last j rest) ≡ None
-last_none j [] e = e
-last_none j (t ∷ rest) e = refl
-
--- a text that begins with no value is none
-pub whole_none : (o : Option (Json × List Token)) → converted of_json o ≡ None → option_and_then of_json (option_and_then (λ p. if_last p.0 p.1) o) ≡ None
-whole_none None e = refl
-whole_none (Some j) e = last_none j.0 j.1 (unmeant j.1 (of_json j.0) e)

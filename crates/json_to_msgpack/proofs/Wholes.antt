@@ -1,20 +1,15 @@
--- A value by its first token, and a text that is one value.
-use Rattle.std.proofs.Common.{◌≡◌, ℕ, suc, ◌-◌, true, false, List, [], ◌∷◌, length, Option, Some, None, option_map, refl, sym, ap, ◌∙◌, subst, arith}
-use Rattle.std.specs.Prelude.{IsUtf8}
+-- A value by its first token.
+use Rattle.std.proofs.Common.{◌≡◌, ℕ, suc, ◌-◌, List, ◌∷◌, length, Option, None, option_map, refl, sym, ap, ◌∙◌, subst, arith}
 use Rattle.json.specs.Token.{Token}
-use Rattle.json.specs.Lex.{tokens}
 use Rattle.json.specs.Json.{items, members, value, parse_map}
 use Rattle.json.proofs.Grammar.{value_is, value-begin_array, value-begin_object}
 use Rattle.serde_json.specs.Data as json
-use Rattle.serde_json.specs.Read.{number_of, of_json, converted, read}
-use Rattle.json_to_msgpack.proofs.Turns.{as_array, as_object, whole_text, whole_none}
+use Rattle.serde_json.specs.Read.{number_of, of_json, converted}
+use Rattle.json_to_msgpack.proofs.Turns.{as_array, as_object}
 use Rattle.message_tree.specs.Data as tree
-use Rattle.msgpack_codec.specs.Grammar.{Spells}
-use Rattle.json_codec.specs.Decoder.{IsTooDeep, tree_of, items_tree, members_tree}
-use Rattle.json_to_msgpack.specs.Transliteration.{SaysTheSame}
+use Rattle.json_codec.specs.Decoder.{items_tree, members_tree}
 use Rattle.json_to_msgpack.specs.declared.fit.Fit.{Fit}
 use Rattle.json_to_msgpack.specs.declared.fit.Fit.TheVariants.{Within, TooDeep, Unreadable}
-use Rattle.json_to_msgpack.specs.body.Fits.{is_read, is_within}
 use Rattle.json_to_msgpack.specs.body.Values.{room_of, list_read, dict_read, IsWritten, IsTokenAdded, IsTooLarge, IsValueAdded, IsNoValue, IsValuePut, IsListAdded, IsListPut, IsDictAdded, IsDictPut}
 use Rattle.json_to_msgpack.proofs.LeafSpellings.{leaf_read}
 
@@ -77,25 +72,3 @@ pub dict_is_value : (fit : Fit) (level less : ℕ) (ts rest : List Token) (befor
 dict_is_value Within level less ts rest before after e h = dict_added Within level less ts rest before after e h
 dict_is_value TooDeep level less ts rest before after e h = dict_added TooDeep level less ts rest before after e h
 dict_is_value Unreadable level less ts rest before after e h = record { going = refl; none = dict_value level less ts e ∙ ap (parse_map json.object) h }
-
--- ---- all the tokens of a text are one value
-
-text_read : (fit : Fit) (text octets : List ℕ) (rest : List Token) → rest ≡ [] → (h : IsValueAdded fit 127 (tokens text) rest [] octets) → read text ≡ Some h.found
-text_read fit text octets rest over h = whole_text (value 127 (tokens text)) h.found (h.read ∙ ap (λ (r : List Token). Some (h.found, r)) over)
-
-pub text_is_same : (fit : Fit) (text octets : List ℕ) (rest : List Token) → IsUtf8 text → is_within fit ≡ true → rest ≡ [] → IsValuePut fit 127 (tokens text) rest [] octets → SaysTheSame text octets
-text_is_same Within text octets rest u e over h = record {
-  tree = tree_of h.found;
-  read = (h.found, record { utf8 = u; value = text_read Within text octets rest over h }, refl);
-  spelled = subst (λ o. Spells 100 o (tree_of h.found)) (sym h.written.behind) h.written.spelled;
-}
-text_is_same TooDeep text octets rest u e over h = absurd cc
-text_is_same Unreadable text octets rest u e over h = absurd cc
-
-pub text_is_deep : (fit : Fit) (text octets : List ℕ) (rest : List Token) → IsUtf8 text → is_read fit ≡ true → is_within fit ≡ false → rest ≡ [] → IsValuePut fit 127 (tokens text) rest [] octets → IsTooDeep text
-text_is_deep Within text octets rest u e f over h = absurd cc
-text_is_deep TooDeep text octets rest u e f over h = (h.found, record { utf8 = u; value = text_read TooDeep text octets rest over h }, h.written.deeper)
-text_is_deep Unreadable text octets rest u e f over h = absurd cc
-
-pub text_is_none : (text : List ℕ) → IsNoValue 127 (tokens text) → read text ≡ None
-text_is_none text h = whole_none (value 127 (tokens text)) h.none

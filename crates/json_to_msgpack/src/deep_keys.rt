@@ -44,8 +44,8 @@ impl<'a> DeepKeys<'a> {
         self.keys.is_empty()
     }
 
-    /// Notes the value of a key, in place of its earlier ones: whether it nests within the room. A key with escapes that
-    /// has to stay is copied into `arena`.
+    /// Notes the value of a key, in place of its earlier ones: whether it nests within the room. A key with escapes
+    /// that has to stay is copied into `arena`.
     #[inline(always)]
     pub(crate) fn note(
         &mut self,

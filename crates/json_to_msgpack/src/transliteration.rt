@@ -27,8 +27,8 @@ pub enum Transliteration {
     NoJson,
     /// The text is JSON that nests more than 100 levels, and not only under keys that come once more.
     TooDeep,
-    /// The text is JSON of up to 127 levels, in which a text, list or dictionary has 2^32 octets or members, as no frame
-    /// of a connection has: its tree would tell more of it.
+    /// The text is JSON of up to 127 levels, in which a text, list or dictionary has 2^32 octets or members, as no
+    /// frame of a connection has: its tree would tell more of it.
     Undecided,
 }
 
@@ -92,12 +92,14 @@ fn judge(alloc: Global, text: &str) -> Result<Transliteration, AllocError>
 /// [`json_codec::decode`] would read it; no tree is built.
 ///
 /// Heads, whole numbers, texts and byte strings are the shortest. Keys stand as they come,
-/// repeated ones too: of these the last counts, as in the text. A number that isn't whole, or
-/// outside -2^63 to 2^64 - 1, is written as the float 0, since a message doesn't carry it. So
-/// where keys ascend and all is carried, the octets are those that `msgpack_codec` writes.
+/// repeated ones too: of these the last counts, as in the text. An earlier value that nests too
+/// deep for a message is written as null. A number that isn't whole, or outside -2^63 to
+/// 2^64 - 1, is written as the float 0, since a message doesn't carry it. So where keys ascend
+/// and all is carried, the octets are those that `msgpack_codec` writes.
 ///
-/// [`Transliteration::NoJson`] where `json_codec::decode` finds the text malformed, and
-/// [`Transliteration::Undecided`] where that is left to say what the text is.
+/// [`Transliteration::NoJson`] where `json_codec::decode` finds the text malformed,
+/// [`Transliteration::TooDeep`] where it finds it too deep, and [`Transliteration::Undecided`]
+/// where that is left to say what the text is, as of no text that is shorter than 2^32 octets.
 ///
 /// Memory: the buffer that is given has one octet for each octet of the text from the start, which
 /// most texts stay within; none becomes more than five octets for two (`-0`), so that the buffer
@@ -105,7 +107,14 @@ fn judge(alloc: Global, text: &str) -> Result<Transliteration, AllocError>
 /// escapes is copied without them, and a byte string takes three octets for four while it is
 /// decoded. What is inside of a list or dictionary of 16 members or more is copied once when its
 /// head is written, and back: of a text that nests such lists in one another that is up to 200
-/// copies. A text that isn't written is looked at once more, with one octet for each of its own.
+/// copies. Keys whose value nests too deep stand in a set until they come once more with one that
+/// doesn't, or their dictionary ends, those with escapes also in an arena: of texts that are made
+/// of such members, this takes up to five octets for each of the text, and their buffer isn't
+/// doubled. A text that isn't JSON is looked at once more, with one octet for each of its own.
+///
+/// Time: one pass, but for those copies and that look. Once a value of a dictionary nests too deep,
+/// the keys that follow in it are looked for in the set, each in as many steps as the logarithm of
+/// its size.
 ///
 /// # Errors
 /// [`AllocError`] where a growth was refused.

@@ -1,6 +1,7 @@
 //! Values with what is inside, from the tokens of JSON.
-ghost use Rattle.std.specs.Prelude.{◌≡◌, ◌<◌, ◌≤◌, ◌+◌, ◌⊎◌, ℕ, List, length, true, false, IfOk, OnOk};
+ghost use Rattle.std.specs.Prelude.{◌≡◌, ◌<◌, ◌≤◌, ◌+◌, ◌⊎◌, ℕ, List, length, true, false, ◌&&◌, MatchOption, IfOk, OnOk};
 ghost use Rattle.std.specs.Bool.{MatchBool};
+ghost use Rattle.json_to_msgpack.specs.body.Fits.{is_read, is_within};
 ghost use Rattle.json_to_msgpack.specs.body.Keys.{has_key};
 ghost use Rattle.json_to_msgpack.specs.body.Values.{IsValuePut, IsListPut, IsDictPut};
 
@@ -65,6 +66,19 @@ pub(crate) fn put_value<'a>(
     Ok(Fit::Unreadable)
 }
 
+/// Whether a list is within the room still, behind a member more; `None` where that is unreadable.
+#[inline(always)]
+fn still_within(within: bool, fit: Fit) -> Option<bool>
+    ensures { MatchOption result (is_read fit ≡ false)
+        (λ still. (is_read fit ≡ true) × (still ≡ (within && is_within fit))) }
+{
+    match fit {
+        Fit::Within => Some(within),
+        Fit::TooDeep => Some(false),
+        Fit::Unreadable => None,
+    }
+}
+
 /// A list behind its opening bracket. Its head is written once its members are.
 #[cycle(values)]
 #[inline(never)]
@@ -85,10 +99,10 @@ fn put_list<'a>(
     let mut within = level >= MORE_LEVELS;
     'items: while !lexer.take_end_array() {
         let fit = put_value(alloc, arena, lexer, level, out)?;
-        if !fit.is_read() {
-            return Ok(fit);
-        }
-        within = within & fit.is_within();
+        let Some(still) = still_within(within, fit) else {
+            return Ok(Fit::Unreadable);
+        };
+        within = still;
         count = one_more(count)?;
     }
     if within {

@@ -8,7 +8,7 @@ use Rattle.json_to_msgpack.specs.declared.fit.Fit.TheVariants.{Within, Unreadabl
 use Rattle.json_to_msgpack.specs.body.Keys.{key_octets, has_key}
 use Rattle.json_to_msgpack.specs.body.Lexing.{IsTaken}
 use Rattle.json_to_msgpack.specs.body.Values.{IsLeafTaken, IsValuePut, IsListOpen}
-use Rattle.json_to_msgpack.proofs.Fits.{put_read, put_unread, list_unread, dict_unread}
+use Rattle.json_to_msgpack.proofs.Fits.{put_read, put_unread, dict_unread}
 use Rattle.json_to_msgpack.proofs.ListSteps.{list_begun, list_step, list_broken, list_done, list_cut}
 use Rattle.json_to_msgpack.proofs.DictSteps.{dict_begun, dict_step, dict_broken, dict_done, dict_cut}
 use Rattle.json_to_msgpack.proofs.Wholes.{leaf_is_value, large_is_none, list_is_value, dict_is_value}
@@ -68,30 +68,26 @@ put_dict-returns-clause-ok t c =
 pub put_list-items-init : goal.put_list-items-init
 put_list-items-init t c = list_begun _ c.args.level c.args.lexer.now c.args.out.now.items c.put.new.out.items refl c.in_ok-put.ensures
 
-pub put_list-returns-then-not-is_read-clause-ok : goal.put_list-returns-then-not-is_read-clause-ok
-put_list-returns-then-not-is_read-clause-ok t c =
+pub put_list-returns-in_default-clause-ok : goal.put_list-returns-in_default-clause-ok
+put_list-returns-in_default-clause-ok t c =
     let l = c.items in
-    let fit = c.in_ok-fit.fit in
     let level = c.args.level in
-    let old = c.args.lexer.now in
-    let next = c.put_value.new.lexer in
     let same : c.take_end_array.new.self ≡ l.lexer = grind arith in
-    let unread = sym c.if-not-is_read.ensures in
-    let none = put_unread level l.lexer next l.out.items c.put_value.new.out.items fit unread (rw (← same) c.in_ok-fit.ensures.ok) in
-    list_unread level old next c.args.out.now.items c.put_value.new.out.items fit unread (list_broken l.within level l.count old l.lexer c.args.out.now.items l.out.items l.invariant none)
+    let none = put_unread level l.lexer c.put_value.new.lexer l.out.items c.put_value.new.out.items c.in_ok-fit.fit c.in_default.ensures (rw (← same) c.in_ok-fit.ensures.ok) in
+    list_broken l.within level l.count c.args.lexer.now l.lexer c.args.out.now.items l.out.items l.invariant none
 
 pub put_list-items-preserved : goal.put_list-items-preserved
 put_list-items-preserved t c =
     let l = c.items in
     let fit = c.in_ok-fit.fit in
-    let level = c.args.level in
     let next = c.put_value.new.lexer in
     let after = c.put_value.new.out.items in
     let same : c.take_end_array.new.self ≡ l.lexer = grind arith in
     let done = c.in_ok-fit.ensures in
-    let added = put_read level l.lexer next l.out.items after fit (sym c.if-not-is_read.ensures) (rw (← same) done.ok) in
-    list_step l.within _ fit level l.count c.in_ok-count.count c.args.lexer.now l.lexer next c.args.out.now.items l.out.items after
-    l.invariant added (rw (← same) done.shorter) (rw c.is_within-within.ensures refl) c.in_ok-count.ensures
+    let still = c.in-Some.ensures in
+    let added = put_read c.args.level l.lexer next l.out.items after fit still.0 (rw (← same) done.ok) in
+    list_step l.within _ fit c.args.level l.count c.in_ok-count.count c.args.lexer.now l.lexer next c.args.out.now.items l.out.items after
+    l.invariant added (rw (← same) done.shorter) still.1 c.in_ok-count.ensures
 
 pub put_list-returns-then-within-clause-ok : goal.put_list-returns-then-within-clause-ok
 put_list-returns-then-within-clause-ok t c =
