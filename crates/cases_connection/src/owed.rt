@@ -32,6 +32,7 @@ impl ListHistory {
 }
 
 impl Owed<Item> for ListHistory {
+    ghost use Rattle.std.specs.Prelude.{⊤};
     ghost use Rattle.std.proofs.Common.{refl, ◌∙◌};
     ghost use Rattle.cases_connection.specs.Listing.{Same, owed, owes_on};
 
@@ -44,6 +45,8 @@ impl Owed<Item> for ListHistory {
     ghost begins_on = { λ h k l p q. p ∙ q };
 
     ghost owes_on = { owes_on };
+
+    ghost is_of = { λ h chronicle. ⊤ };
 }
 
 /// Adds what is owed, item by item, and then closes the outbox.

@@ -12,7 +12,7 @@ pub struct Numbers {
 }
 
 impl Owed<u64> for Numbers {
-    ghost use Rattle.std.specs.Prelude.{◌≡◌};
+    ghost use Rattle.std.specs.Prelude.{◌≡◌, ⊤};
     ghost use Rattle.std.proofs.Common.{refl, ◌∙◌};
     ghost use Rattle.cases_outbox.specs.Counting.{Same, owed, owes_on};
 
@@ -25,4 +25,6 @@ impl Owed<u64> for Numbers {
     ghost begins_on = { λ h k l p q. p ∙ q };
 
     ghost owes_on = { owes_on };
+
+    ghost is_of = { λ h chronicle. ⊤ };
 }

@@ -13,8 +13,10 @@
 
 mod chronicle;
 mod history;
+mod name;
 mod rule;
 
 pub use chronicle::{Chronicle, Token};
 pub use history::History;
+pub use name::Name;
 pub use rule::View;

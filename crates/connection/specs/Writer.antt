@@ -74,6 +74,7 @@ pub record IsLater {T H : Type 0} (begins : H → H → Type 0) (before now : Ta
   pub queue : now.queue ≡ before.queue
   pub capacity : now.capacity ≡ before.capacity
   pub conn : now.conn ≡ before.conn
+  pub chronicle : now.chronicle ≡ before.chronicle
   pub seen : Grows begins before.seen now.seen
   pub finds : before.empty_finds ≤ now.empty_finds
 

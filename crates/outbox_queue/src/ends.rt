@@ -3,11 +3,12 @@
 //! While the ends are apart, [`Producer::push`] and [`Consumer::pop`] alone step the queue, and by the calls of `counted` alone:
 //! so each find that an end shows was a step of the queue, in that call. [`settle_ends`] has both ends in one hand: `join_places`
 //! looks how many items wait, and `take_all` takes them. Neither counts anything.
-ghost use Rattle.std.specs.Prelude.{◌≡◌, ◌+◌, ◌≤◌, ◌<◌, [], ◌∷◌, ◌++◌, length, Some, None, true, slice_get, IfOk, MatchResult, MatchOption, vec_capacity};
+ghost use Rattle.std.specs.Prelude.{◌≡◌, ◌+◌, ◌≤◌, ◌<◌, [], ◌∷◌, ◌++◌, length, Some, None, true, slice_get, IfOk, MatchResult, MatchOption, Option, vec_capacity};
 ghost use Rattle.crossbeam_queue.specs.Passes.{view as shown, IsPassOf, IsSamePass, ruled_capacity};
 ghost use Rattle.outbox_queue.specs.Rule.{start, adding, taking, both};
-ghost use Rattle.outbox_queue.specs.Rule.{Grows};
-ghost use Rattle.outbox_queue.specs.Ends.{Owes};
+ghost use Rattle.outbox_queue.specs.Rule.{Grows, Belongs};
+ghost use Rattle.outbox_queue.specs.Ends.{Owes, IsOf};
+ghost use Rattle.atomic_table.specs.Seated.{TableId};
 
 use crate::counted::CountedPass;
 use crate::owed::{Owed, Stamped};
@@ -51,13 +52,14 @@ impl<T, H: Owed<T>> Model for Producer<T, H> {
       queue = e.place.pass.table_id;
       capacity = ruled_capacity (arc_value e.queue);
       conn = (shown e.place.pass).conn;
+      chronicle = (shown e.place.pass).chronicle;
       history = (shown e.place.pass).history;
       added = (shown e.place.pass).added;
       full_finds = e.place.finds;
       added_at_find = e.added_at_find.value;
     } };
 
-    ghost invariant = { IsAdding H.owed };
+    ghost invariant = { IsAdding H.owed H.is_of };
 }
 
 impl<T: Drop, H: Owed<T>> Producer<T, H> {
@@ -78,6 +80,7 @@ impl<T: Drop, H: Owed<T>> Producer<T, H> {
     /// Shows what always holds of this end.
     pub fn shows(&self)
         ensures owed { Owes H.owed self.now.history self.now.conn self.now.added }
+        ensures chronicle { IsOf H.is_of self.now.history self.now.chronicle }
         ensures finds { self.now.added ≡ [] → self.now.full_finds ≡ 0 }
         ensures begun { self.now.added ≡ [] → self.now.history ≡ None }
     {
@@ -103,6 +106,7 @@ impl<T: Drop, H: Owed<T>> Producer<T, H> {
         requires conn { item.conn ≡ self.old.conn }
         requires place { item.place ≡ length self.old.added }
         requires history { Grows H.begins self.old.history (Some item.history) }
+        requires chronicle { Belongs H.is_of item.history self.old.chronicle }
         ensures { MatchResult result
             (λ _. self.new ≡ record self.old {
               history = Some item.history;
@@ -152,12 +156,13 @@ impl<T, H: Owed<T>> Model for Consumer<T, H> {
       queue = e.place.pass.table_id;
       capacity = ruled_capacity (arc_value e.queue);
       conn = (shown e.place.pass).conn;
+      chronicle = (shown e.place.pass).chronicle;
       seen = (shown e.place.pass).seen;
       taken = (shown e.place.pass).taken;
       empty_finds = e.place.finds;
     } };
 
-    ghost invariant = { IsTaking H.owed };
+    ghost invariant = { IsTaking H.owed H.is_of };
 }
 
 impl<T: Drop, H: Owed<T>> Consumer<T, H> {
@@ -170,7 +175,8 @@ impl<T: Drop, H: Owed<T>> Consumer<T, H> {
 
     /// Shows what always holds of this end.
     pub fn shows(&self)
-        ensures { Owes H.owed self.now.seen self.now.conn self.now.taken }
+        ensures owed { Owes H.owed self.now.seen self.now.conn self.now.taken }
+        ensures chronicle { IsOf H.is_of self.now.seen self.now.chronicle }
     {
         let _ = &self.place;
     }
@@ -184,7 +190,8 @@ impl<T: Drop, H: Owed<T>> Consumer<T, H> {
               taken = self.old.taken ++ x.item ∷ [];
             })
             × (x.conn ≡ self.old.conn) × (x.place ≡ length self.old.taken)
-            × Grows H.begins self.old.seen (Some x.history)) }
+            × Grows H.begins self.old.seen (Some x.history)
+            × Belongs H.is_of x.history self.old.chronicle) }
     {
         let item = self.place.pop_counted::<InStep, Takes, R>(rt, &self.queue)?;
         item.shows();
@@ -192,7 +199,8 @@ impl<T: Drop, H: Owed<T>> Consumer<T, H> {
     }
 }
 
-/// Cuts the one pass of a new queue into those of the two ends. The caller picks the connection.
+/// Cuts the one pass of a new queue into those of the two ends. The caller picks the connection and the
+/// chronicle.
 fn cut<T, H: Owed<T>, J: Naming>(
     queue: &Queue<T, H>,
     place: &mut Place<T, H>,
@@ -202,22 +210,26 @@ fn cut<T, H: Owed<T>, J: Naming>(
     requires start { shown place.old ≡ start }
     requires conn { conn ≡ J.conn }
     ensures queue { IsSamePass place.old place.new × IsPassOf queue.now result }
-    ensures ends { (shown place.new ≡ adding conn None []) × (shown result ≡ taking conn None []) }
+    ensures ends { (shown place.new ≡ adding conn J.chronicle None [])
+        × (shown result ≡ taking conn J.chronicle None []) }
 {
     queue.another::<Ends<J>>(place)
 }
 
-/// The two ends of a new queue, through which nothing has gone.
+/// The two ends of a new queue, through which nothing has gone. The caller picks the chronicle of its
+/// histories, or none.
 pub fn new_ends<T: Drop, H: Owed<T>>(
     alloc: Global,
     conn: u64,
     cap: usize,
 ) -> Result<(Producer<T, H>, Consumer<T, H>), AllocError>
+    ghost chronicle: { Option TableId }
     requires { 0 < cap }
     ensures adding { IfOk result (λ p. p.0 ≡ record {
       queue = p.1.queue;
       capacity = cap;
       conn = conn;
+      chronicle = chronicle;
       history = None;
       added = [];
       full_finds = 0;
@@ -227,6 +239,7 @@ pub fn new_ends<T: Drop, H: Owed<T>>(
       queue = p.1.queue;
       capacity = cap;
       conn = conn;
+      chronicle = chronicle;
       seen = None;
       taken = [];
       empty_finds = 0;

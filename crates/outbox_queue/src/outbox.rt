@@ -1,7 +1,7 @@
 //! The adding end of an outbox, which can be closed.
 ghost use Rattle.std.specs.Prelude.{◌≡◌, ◌+◌, ◌≤◌, [], ◌∷◌, ◌++◌, length, true, false, Some, None, slice_get, MatchResult};
-ghost use Rattle.outbox_queue.specs.Rule.{Grows};
-ghost use Rattle.outbox_queue.specs.Ends.{Owes};
+ghost use Rattle.outbox_queue.specs.Rule.{Grows, Belongs};
+ghost use Rattle.outbox_queue.specs.Ends.{Owes, IsOf};
 
 use crate::ends::Producer;
 use crate::owed::{Owed, Stamped};
@@ -16,8 +16,8 @@ pub struct Full<S>(pub S);
 
 /// The end that adds. A dropped outbox is closed.
 ///
-/// Contracts see which queue it is of, its capacity and connection, what was added and by which history, how often the queue was
-/// found full, and whether it is closed.
+/// Contracts see which queue it is of, its capacity and connection, the chronicle of its histories, what was added and by which
+/// history, how often the queue was found full, and whether it is closed.
 pub struct Outbox<T, H: Owed<T>> {
     end: Producer<T, H>,
     is_closed: bool,
@@ -34,6 +34,7 @@ impl<T, H: Owed<T>> Model for Outbox<T, H> {
       queue = o.end.queue;
       capacity = o.end.capacity;
       conn = o.end.conn;
+      chronicle = o.end.chronicle;
       history = o.end.history;
       added = o.end.added;
       full_finds = o.end.full_finds;
@@ -48,6 +49,7 @@ impl<T: Drop, H: Owed<T>> Outbox<T, H> {
           queue = end.queue;
           capacity = end.capacity;
           conn = end.conn;
+          chronicle = end.chronicle;
           history = end.history;
           added = end.added;
           full_finds = end.full_finds;
@@ -95,8 +97,8 @@ impl<T: Drop, H: Owed<T>> Outbox<T, H> {
     }
 
     /// Adds the item at the back, unless a step finds the capacity waiting. The item is stamped for this connection and for the
-    /// place after the last that was added, by a history that begins with the one before; and the outbox isn't closed
-    /// ([`Outbox::is_closed`]). It takes no memory and locks nothing, but may spin while the other end is inside its step.
+    /// place after the last that was added, by a history that begins with the one before and is of the outbox's chronicle, if it has one; and
+    /// the outbox isn't closed ([`Outbox::is_closed`]). It takes no memory and locks nothing, but may spin while the other end is inside its step.
     ///
     /// It doesn't wake the one who waits at the drain: see [`Outbox::wake`].
     ///
@@ -107,6 +109,7 @@ impl<T: Drop, H: Owed<T>> Outbox<T, H> {
         requires conn { item.conn ≡ self.old.conn }
         requires place { item.place ≡ length self.old.added }
         requires history { Grows H.begins self.old.history (Some item.history) }
+        requires chronicle { Belongs H.is_of item.history self.old.chronicle }
         ensures { MatchResult result
             (λ _. self.new ≡ record self.old {
               history = Some item.history;
@@ -145,10 +148,11 @@ impl<T: Drop, H: Owed<T>> Outbox<T, H> {
         self.end.stamp(item, history)
     }
 
-    /// Shows what always holds of an outbox: what was added begins what the history of the last item owes the connection; and
-    /// where nothing was added, the queue was never found full and no history was seen.
+    /// Shows what always holds of an outbox: what was added begins what the history of the last item owes the connection; that
+    /// history is of its chronicle; and where nothing was added, the queue was never found full and no history was seen.
     pub fn shows(&self)
         ensures owed { Owes H.owed self.now.history self.now.conn self.now.added }
+        ensures chronicle { IsOf H.is_of self.now.history self.now.chronicle }
         ensures finds { self.now.added ≡ [] → self.now.full_finds ≡ 0 }
         ensures begun { self.now.added ≡ [] → self.now.history ≡ None }
     {
@@ -160,6 +164,7 @@ impl<T: Drop, H: Owed<T>> Outbox<T, H> {
           queue = result.queue;
           capacity = result.capacity;
           conn = result.conn;
+          chronicle = result.chronicle;
           history = result.history;
           added = result.added;
           full_finds = result.full_finds;

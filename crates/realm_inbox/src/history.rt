@@ -25,6 +25,7 @@ impl Model for RealmHistory {
 }
 
 impl Owed<Item> for RealmHistory {
+    ghost use Rattle.std.specs.Prelude.{⊤};
     ghost use Rattle.realm.specs.History.{Begins};
     ghost use Rattle.realm.specs.Yield.{owed as owed_by};
     ghost use Rattle.realm_inbox.specs.HistoryBeginnings.{begins_same, begins_longer, owed_more};
@@ -38,6 +39,8 @@ impl Owed<Item> for RealmHistory {
     ghost begins_on = { begins_longer };
 
     ghost owes_on = { owed_more };
+
+    ghost is_of = { λ h chronicle. ⊤ };
 }
 
 impl RealmHistory {
