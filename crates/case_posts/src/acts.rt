@@ -1,5 +1,5 @@
 //! Acts, as a line has them, and what a Join brings.
-ghost use Rattle.std.specs.Prelude.{◌≡◌, ◌≤◌, false, IfOk, IfSome};
+ghost use Rattle.std.specs.Prelude.{◌≡◌, ◌≤◌, None, false, IfOk, IfSome};
 ghost use Rattle.realm_inbox.specs.Joins.{is_join};
 
 use crate::wire::Wire;
@@ -31,6 +31,7 @@ pub fn entrance_of(
     requires least { 1 ≤ cap }
     requires most { cap ≤ 65536 }
     ensures own { IfOk result (λ e. e.joining.outbox.conn ≡ conn) }
+    ensures home { IfOk result (λ e. e.joining.outbox.chronicle ≡ None) }
     ensures drain { IfOk result (λ e. e.drain.conn ≡ conn) }
     ensures pair { IfOk result (λ e. e.joining.outbox.queue ≡ e.drain.queue) }
 {

@@ -6,8 +6,6 @@ use Rattle.outbox_queue.proofs.SendLemmas.{drain_send}
 use Rattle.outbox_queue.specs.contracts.drain.Drain as Drain
 use Rattle.realm_inbox.proofs.SendLemmas as ends
 use Rattle.realm_inbox.specs.contracts.ends.Poster as Poster
-use Rattle.realm_inbox.specs.contracts.history.RealmHistory as RealmHistory
-use Rattle.realm_inbox.specs.contracts.history.RealmHistoryOwedItem.TheImpl as owed
 use Rattle.session.proofs.SendLemmas.{item_send}
 use Rattle.session.specs.contracts.messages.item.Item as Item
 use Rattle.case_posts.proofs.SendLemmas.{wire_send}
@@ -20,8 +18,8 @@ use Rattle.cases_actor.specs.contracts.publishing.Writer as Writer
 poster_send : IsSend (Poster.the_row Wire.the_row shut.ghosts)
 poster_send = ends.poster_send Wire.the_row shut.ghosts wire_send
 
-items_send : IsSend (Drain.the_row Item.the_row RealmHistory.the_row owed.ghosts)
-items_send = drain_send Item.the_row RealmHistory.the_row owed.ghosts item_send ends.history_send
+items_send : IsSend (Drain.the_row Item.the_row ends.history ends.history_owed)
+items_send = drain_send Item.the_row ends.history ends.history_owed item_send ends.history_send
 
 pub publisher_send : IsSend Publisher.the_row
 publisher_send = declared_send Publisher.the_type (poster_send, (search sendable, (search (crosses, sendable) depth 60, tt)))

@@ -1,6 +1,6 @@
 //! An actor at its inbox.
-ghost use Rattle.std.specs.Prelude.{◌≡◌};
-ghost use Rattle.realm_inbox.specs.EndViews.{received};
+ghost use Rattle.std.specs.Prelude.{◌≡◌, None};
+ghost use Rattle.realm_inbox.specs.EndViews.{received, home_of};
 ghost use Rattle.realm_actor.specs.Run.{SameAtSeats};
 
 use case_posts::{Counted, Wire};
@@ -11,6 +11,7 @@ use std::sync::Wait;
 use wamp_ids::Conn;
 
 /// An actor, and the inbox whose posts it handles, one after another. What it has handled is, seat by seat, what the inbox gave.
+/// No chronicle is picked for the inbox.
 #[derive(Drop)]
 pub struct Desk {
     actor: Actor<Wire, Counted>,
@@ -18,15 +19,16 @@ pub struct Desk {
 }
 
 impl Model for Desk {
-    ghost use Rattle.std.specs.Prelude.{ℕ, List};
-    ghost use Rattle.realm_inbox.specs.EndViews.{received};
+    ghost use Rattle.std.specs.Prelude.{◌≡◌, ℕ, List, None};
+    ghost use Rattle.realm_inbox.specs.EndViews.{received, home_of};
     ghost use Rattle.realm_actor.specs.Run.{SameAtSeats};
 
     ghost Value = { List ℕ };
 
     ghost view = { λ d. d.actor.last_cut };
 
-    ghost invariant = { λ d. SameAtSeats d.actor.handled (received d.inbox) };
+    ghost invariant = { λ d. SameAtSeats d.actor.handled (received d.inbox)
+        × (home_of d.inbox ≡ None) };
 }
 
 // Handles the next post. None where each sender is gone.
@@ -37,7 +39,9 @@ fn handle_one<R: Wait>(
     inbox: &mut Inbox<Wire>,
 ) -> Option<Outcome>
     requires same { SameAtSeats actor.old.handled (received inbox.old) }
+    requires home { home_of inbox.old ≡ None }
     ensures same { SameAtSeats actor.new.handled (received inbox.new) }
+    ensures home { home_of inbox.new ≡ None }
 {
     let post = inbox.receive(rt)?;
     Some(actor.handle(rt, alloc, post))
@@ -47,6 +51,7 @@ impl Desk {
     /// An actor that handled nothing, at an inbox that gave nothing.
     pub fn new(actor: Actor<Wire, Counted>, inbox: Inbox<Wire>) -> Desk
         requires same { SameAtSeats actor.handled (received inbox) }
+        requires home { home_of inbox ≡ None }
     {
         Desk { actor, inbox }
     }

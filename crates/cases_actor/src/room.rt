@@ -1,7 +1,7 @@
 //! One realm of a case: its actor, who posts, and who takes.
-ghost use Rattle.std.specs.Prelude.{◌≡◌, ◌≤◌, [], false};
+ghost use Rattle.std.specs.Prelude.{◌≡◌, ◌≤◌, [], None, false};
 ghost use Rattle.realm_inbox.specs.Joins.{is_join};
-ghost use Rattle.realm_inbox.specs.EndViews.{received};
+ghost use Rattle.realm_inbox.specs.EndViews.{received, home_of};
 
 use crate::desk::Desk;
 use crate::drains::Drains;
@@ -32,6 +32,7 @@ pub struct Room {
 
 fn desk_of(alloc: Global, grants: Vec<(String, String)>, inbox: Inbox<Wire>) -> io::Result<Desk>
     requires none { received inbox ≡ [] }
+    requires home { home_of inbox ≡ None }
 {
     let Ok(name) = Topic::read(alloc, "r.one") else {
         return Err(AllocError)?;

@@ -1,5 +1,5 @@
 //! Acts and posts, as a line has them.
-ghost use Rattle.std.specs.Prelude.{◌≡◌, false, IfOk, IfSome};
+ghost use Rattle.std.specs.Prelude.{◌≡◌, None, false, IfOk, IfSome};
 ghost use Rattle.realm_inbox.specs.Joins.{is_join};
 
 use crate::wire::Wire;
@@ -30,7 +30,8 @@ pub fn act_of(alloc: Global, word: &str, text: &str) -> io::Result<Option<Act<Wi
 
 /// What a connection brings to join, with an outbox of its own, in which two items may wait.
 pub fn joining_of(alloc: Global, conn: Conn, authid: &str, number: u64) -> io::Result<Joining<Wire>>
-    ensures { IfOk result (λ joining. joining.outbox.conn ≡ conn) }
+    ensures own { IfOk result (λ joining. joining.outbox.conn ≡ conn) }
+    ensures home { IfOk result (λ joining. joining.outbox.chronicle ≡ None) }
 {
     let authid = match part_of(authid) {
         "" => None,

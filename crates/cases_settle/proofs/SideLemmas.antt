@@ -7,6 +7,7 @@ use Rattle.wamp_ids.specs.Numbers.{seat_of}
 use Rattle.session.specs.declared.messages.item.Item.{Item}
 use Rattle.realm.specs.History.{History}
 use Rattle.outbox_queue.specs.Ends.{Taking}
+use Rattle.outbox_queue.specs.Tied.{Kept}
 use Rattle.realm_inbox.specs.declared.act.Act as the
 use Rattle.realm_inbox.specs.declared.act.Act.TheVariants.{Join}
 use Rattle.realm_inbox.specs.declared.joining.Joining.{Joining}
@@ -14,8 +15,9 @@ use Rattle.realm_inbox.specs.declared.letter.Letter.{Letter}
 use Rattle.realm_inbox.specs.declared.letter.Post.{Post}
 use Rattle.realm_inbox.specs.declared.letter.Post.TheVariants.{Act, Stop}
 use Rattle.realm_inbox.specs.declared.ends.Poster.{Poster}
-use Rattle.realm_inbox.specs.EndViews.{received, posted, poster_conn, inbox_of, inbox_of_poster}
-use Rattle.realm_inbox.specs.Seats.{conn_of_letter, act_of_letter, said, at_seat}
+use Rattle.realm_inbox.specs.Ends.{Place}
+use Rattle.realm_inbox.specs.EndViews.{received, posted, poster_conn, home_of, inbox_of, inbox_of_poster}
+use Rattle.realm_inbox.specs.Seats.{IsHomed, conn_of_letter, act_of_letter, said, at_seat}
 use Rattle.realm_inbox.proofs.Lemmas.{adds_here, at_seat_append, at_seat_snoc}
 use Rattle.realm_actor.specs.declared.outcome.Outcome.{Outcome}
 use Rattle.realm_actor.specs.declared.outcome.Outcome.TheVariants.{Applied}
@@ -24,6 +26,7 @@ use Rattle.realm_actor.specs.LastCut.{outbox_of}
 use Rattle.realm_actor.specs.OutboxHistory.{Box}
 use Rattle.realm_actor.specs.Run.{Handles, stands_at}
 use Rattle.realm_actor.specs.Settle.{IsOther, Settles}
+use Rattle.realm_actor.proofs.Homes.{homed_at}
 use Rattle.realm_actor.proofs.Lemmas.{same_grown}
 use Rattle.cases_settle.specs.declared.desk.Desk.{Desk}
 use Rattle.cases_settle.specs.Posts.{is_of}
@@ -72,20 +75,28 @@ pub joined_by : (result : Outcome) (p : Post Wire) (l : Letter Wire) (old new : 
     → (b : Box) × (outbox_of new.rows (conn_of_letter l) ≡ Some b) × (b.queue ≡ joining.outbox.queue)
 joined_by result p l old new joining is h joins applied = let w = (subst (λ x. Handles result x old new) is h).does.joined joining joins applied in (w.0, w.1, w.2.queue)
 
-pairs_on : (c : ℕ) (held held' : Option Box) (drain : Option (Taking Item History)) → ((o : Box) → held ≡ Some o → (p : Box) × (held' ≡ Some p) × (p.queue ≡ o.queue)) → Pairs c held drain → Pairs c held' drain
+pairs_on : (c : ℕ) (held held' : Option Box) (drain : Option (Taking Item (Kept History))) → ((o : Box) → held ≡ Some o → (p : Box) × (held' ≡ Some p) × (p.queue ≡ o.queue)) → Pairs c held drain → Pairs c held' drain
 pairs_on c held held' None on p = tt
 pairs_on c None held' (Some d) on p = absurd p.1
 pairs_on c (Some o) held' (Some d) on p = let n = on o refl in (p.0, subst (IsOther d) (sym n.1) (n.2 ∙ p.1))
 
 -- the drain of a connection is still that of its outbox
-pub pair_kept : (d e : Desk) (c b : ℕ) (drain now : Option (Taking Item History)) → GoesOn d e → b ≡ c → now ≡ drain → Pairs c (outbox_of d.actor.rows c) drain → Pairs b (outbox_of e.actor.rows b) now
+pub pair_kept : (d e : Desk) (c b : ℕ) (drain now : Option (Taking Item (Kept History))) → GoesOn d e → b ≡ c → now ≡ drain → Pairs c (outbox_of d.actor.rows c) drain → Pairs b (outbox_of e.actor.rows b) now
 pair_kept d e c b drain now g same kept p =
-    subst (λ (y : ℕ × Option (Taking Item History)). Pairs y.0 (outbox_of e.actor.rows y.0) y.1) (λ i. (sym same i, sym kept i))
+    subst (λ (y : ℕ × Option (Taking Item (Kept History))). Pairs y.0 (outbox_of e.actor.rows y.0) y.1) (λ i. (sym same i, sym kept i))
     (pairs_on c (outbox_of d.actor.rows c) (outbox_of e.actor.rows c) drain (g.held c) p)
+
+-- which inbox it is tells whether a chronicle is picked for it
+home_stays : (d e : Desk) → inbox_of e.inbox ≡ inbox_of d.inbox → home_of d.inbox ≡ None → home_of e.inbox ≡ None
+home_stays d e place none = ap (λ (p : Place Wire). p.2) place ∙ none
+
+-- so a Join there brings no outbox of another chronicle than the actor's
+pub homed_here : (d : Desk) (p : Post Wire) → home_of d.inbox ≡ None → IsHomed (home_of d.inbox) p → IsHomed (Some d.actor.chronicle) p
+homed_here d p none = homed_at d.actor.chronicle (home_of d.inbox) p (λ picked is. absurd (cc (sym none ∙ is)))
 
 pub goes_same : (d e : Desk) → e.actor ≡ d.actor → received e.inbox ≡ received d.inbox → inbox_of e.inbox ≡ inbox_of d.inbox → GoesOn d e
 goes_same d e actor got place = record {
-  same = λ h k. ap (λ (a : Acting Wire). stands_at k a.handled) actor ∙ h k ∙ ap (λ t. at_seat k t) (sym got);
+  same = λ h. (λ k. ap (λ (a : Acting Wire). stands_at k a.handled) actor ∙ h.0 k ∙ ap (λ t. at_seat k t) (sym got), home_stays d e place h.1);
   held = λ c o h. (o, ap (λ (a : Acting Wire). outbox_of a.rows c) actor ∙ h, refl);
   place = place;
   grown = ([], append-nil (received d.inbox) ∙ sym got);
@@ -107,7 +118,7 @@ own_back c d was got x act posted now same given all more p e =
     (w.0, w.1, w.2, w.3, w.4 ∙ sym (λ i. at_seat (seat_of (same i)) (given i)))
 
 pub goes_handled : (d e : Desk) (result : Outcome) (p : Post Wire) → Handles result p d.actor e.actor → received e.inbox ≡ received d.inbox ++ p ∷ [] → inbox_of e.inbox ≡ inbox_of d.inbox → GoesOn d e
-goes_handled d e result p h given place = record { same = λ same. same_grown d.actor.handled e.actor.handled (received d.inbox) (received e.inbox) p same h.handled given; held = held_on result p d.actor e.actor h; place = place; grown = (p ∷ [], sym given) }
+goes_handled d e result p h given place = record { same = λ same. (same_grown d.actor.handled e.actor.handled (received d.inbox) (received e.inbox) p same.0 h.handled given, home_stays d e place same.1); held = held_on result p d.actor e.actor h; place = place; grown = (p ∷ [], sym given) }
 
 -- two desks of which the same is known
 abbrev pub Alike : Desk → Desk → Type 0
@@ -122,6 +133,9 @@ sits_alike c d e (Some p) same s = (s.0, came_alike d e p same s.1)
 
 pub goes_alike : (d e : Desk) → Alike d e → GoesOn d e
 goes_alike d e same = goes_same d e same.0 same.1 same.2
+
+pub step_alike : (d e : Desk) → Alike d e → InStep d → InStep e
+step_alike d e same h = (goes_alike d e same).same h
 
 pub side_alike : (d e : Desk) (s : Side) → Alike d e → IsSide d s → IsSide e s
 side_alike d e s same h = record { sits = sits_alike s.conn d e s.poster same h.sits; pair = pair_kept d e s.conn s.conn s.drain s.drain (goes_alike d e same) refl refl h.pair }
@@ -161,11 +175,11 @@ kept_up was d e s t p q g same is now conn drain like begins h =
     }
 
 -- an outbox was put together with its drain: what the actor handled is as before
-pub settle_goes : (d e : Desk) (c : ℕ) (drain : Taking Item History) (rest : List Item) → Settles c drain rest d.actor e.actor → e.inbox ≡ d.inbox → InStep d → InStep e
-settle_goes d e c drain rest s same h k = ap (λ t. stands_at k t) s.handled ∙ h k ∙ ap (λ i. at_seat k (received i)) (sym same)
+pub settle_goes : (d e : Desk) (c : ℕ) (drain : Taking Item (Kept History)) (rest : List Item) → Settles c drain rest d.actor e.actor → e.inbox ≡ d.inbox → InStep d → InStep e
+settle_goes d e c drain rest s same h = (λ k. ap (λ t. stands_at k t) s.handled ∙ h.0 k ∙ ap (λ i. at_seat k (received i)) (sym same), ap (λ i. home_of i) same ∙ h.1)
 
 -- and so are the other connections
-pub settle_apart : (d e : Desk) (c : ℕ) (drain : Taking Item History) (rest : List Item) (s : Side) → Settles c drain rest d.actor e.actor → e.inbox ≡ d.inbox → s.conn ≢ c → IsSide d s → IsSide e s
+pub settle_apart : (d e : Desk) (c : ℕ) (drain : Taking Item (Kept History)) (rest : List Item) (s : Side) → Settles c drain rest d.actor e.actor → e.inbox ≡ d.inbox → s.conn ≢ c → IsSide d s → IsSide e s
 settle_apart d e c drain rest s settles same apart h = record {
   sits = sits_inbox s.conn d e s.poster same h.sits;
   pair = subst (λ o. Pairs s.conn o s.drain) (sym (settles.others s.conn apart)) h.pair;

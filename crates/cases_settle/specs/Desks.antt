@@ -1,9 +1,9 @@
 -- How an actor at its inbox goes on.
-use Rattle.std.specs.Prelude.{◌≡◌, ℕ, Some}
+use Rattle.std.specs.Prelude.{◌≡◌, ℕ, Some, None}
 use mathlib.Core.List.{IsPrefix}
 use Rattle.wamp_ids.specs.Numbers.{seat_of}
 use Rattle.realm_inbox.specs.declared.ends.Poster.{Poster}
-use Rattle.realm_inbox.specs.EndViews.{received, posted, poster_conn, inbox_of, inbox_of_poster}
+use Rattle.realm_inbox.specs.EndViews.{received, posted, poster_conn, home_of, inbox_of, inbox_of_poster}
 use Rattle.realm_inbox.specs.Seats.{at_seat}
 use Rattle.realm_actor.specs.ActorView.{Acting}
 use Rattle.realm_actor.specs.OutboxHistory.{Box}
@@ -16,9 +16,9 @@ use Rattle.case_posts.specs.declared.wire.Wire.{Wire}
 abbrev pub StaysHeld : ℕ → Acting Wire → Acting Wire → Type 0
 StaysHeld c old new = (o : Box) → outbox_of old.rows c ≡ Some o → (p : Box) × (outbox_of new.rows c ≡ Some p) × (p.queue ≡ o.queue)
 
--- what the actor has handled is, seat by seat, what its inbox gave
+-- what the actor has handled is, seat by seat, what its inbox gave, for which no chronicle is picked
 abbrev pub InStep : Desk → Type 0
-InStep d = SameAtSeats d.actor.handled (received d.inbox)
+InStep d = SameAtSeats d.actor.handled (received d.inbox) × (home_of d.inbox ≡ None)
 
 -- each outbox that was held is held, and the inbox is the same, and gave what it had given, and maybe more; the actor keeps up
 pub record GoesOn (old new : Desk) : Type 0 where

@@ -3,6 +3,7 @@ use Rattle.std.specs.Prelude.{◌≡◌, ℕ, Option, Some, None, ⊤}
 use Rattle.session.specs.declared.messages.item.Item.{Item}
 use Rattle.realm.specs.History.{History}
 use Rattle.outbox_queue.specs.Ends.{Taking}
+use Rattle.outbox_queue.specs.Tied.{Kept}
 use Rattle.realm_inbox.specs.declared.ends.Poster.{Poster}
 use Rattle.realm_inbox.specs.EndViews.{poster_conn}
 use Rattle.realm_actor.specs.OutboxHistory.{Box}
@@ -14,7 +15,7 @@ use Rattle.cases_settle.specs.Desks.{AllCame}
 use Rattle.case_posts.specs.declared.wire.Wire.{Wire}
 
 -- the drain is of c, and the other end of the outbox of c, which is held
-abbrev pub Pairs : ℕ → Option Box → Option (Taking Item History) → Type 0
+abbrev pub Pairs : ℕ → Option Box → Option (Taking Item (Kept History)) → Type 0
 Pairs c held None = ⊤
 Pairs c held (Some d) = (d.conn ≡ c) × IsOther d held
 

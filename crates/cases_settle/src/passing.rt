@@ -10,7 +10,7 @@ ghost use Rattle.realm_actor.specs.LastCut.{outbox_of};
 ghost use Rattle.realm_actor.specs.OutboxHistory.{Box};
 ghost use Rattle.realm_actor.specs.Settle.{IsOther, Settles};
 ghost use Rattle.realm_actor.specs.declared.outcome.Outcome.TheVariants.{Applied as IsApplied};
-ghost use Rattle.cases_settle.specs.Posts.{is_of};
+ghost use Rattle.cases_settle.specs.Posts.{BringsNone, is_of};
 ghost use Rattle.cases_settle.specs.Desks.{AllCame, GoesOn, InStep};
 ghost use Rattle.case_posts.specs.declared.wire.Wire.{Wire as AWire};
 
@@ -55,6 +55,7 @@ impl Desk {
     ) -> Option<(Outcome, Poster<Wire>)>
         requires same { InStep self.old }
         requires own { BringsOwn (poster_conn poster) act }
+        requires home { BringsNone act }
         requires came { AllCame self.old poster }
         ensures goes_on { GoesOn self.old self.new }
         ensures poster { IfSome result (λ r. (poster_conn r.1 ≡ poster_conn poster)

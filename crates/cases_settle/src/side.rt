@@ -10,6 +10,7 @@ ghost use Rattle.realm_actor.specs.LastCut.{outbox_of};
 ghost use Rattle.realm_actor.specs.declared.outcome.Outcome.TheVariants.{Applied as IsApplied};
 ghost use Rattle.cases_settle.specs.declared.desk.Desk.{Desk as ADesk};
 ghost use Rattle.cases_settle.specs.Desks.{GoesOn, InStep};
+ghost use Rattle.cases_settle.specs.Posts.{BringsNone};
 ghost use Rattle.cases_settle.specs.Sides.{IsSide, Pairs};
 ghost use Rattle.case_posts.specs.declared.wire.Wire.{Wire as AWire};
 
@@ -104,6 +105,7 @@ fn pass<R: Wait>(
 ) -> Option<Outcome>
     requires desk { InStep desk.old }
     requires own { BringsOwn side.old.conn act }
+    requires home { BringsNone act }
     requires side { IsSide desk.old side.old }
     requires other { IsSide desk.old other.old }
     ensures desk { InStep desk.new }
@@ -155,6 +157,7 @@ pub fn enter<R: Wait>(
 ) -> Option<Outcome>
     requires desk { InStep desk.old }
     requires own { entrance.joining.outbox.conn ≡ side.old.conn }
+    requires home { entrance.joining.outbox.chronicle ≡ None }
     requires drain { entrance.drain.conn ≡ side.old.conn }
     requires pair { entrance.joining.outbox.queue ≡ entrance.drain.queue }
     requires side { IsSide desk.old side.old }

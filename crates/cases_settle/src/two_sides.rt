@@ -1,5 +1,5 @@
 //! Posts of two connections, each of which is handled before the next one is posted.
-ghost use Rattle.std.specs.Prelude.{◌≡◌, ◌≢◌, false};
+ghost use Rattle.std.specs.Prelude.{◌≡◌, ◌≢◌, None, false};
 ghost use Rattle.realm_inbox.specs.Joins.{is_join};
 ghost use Rattle.cases_settle.specs.declared.desk.Desk.{Desk as ADesk};
 ghost use Rattle.cases_settle.specs.Desks.{InStep};
@@ -46,6 +46,7 @@ fn enter_one<R: Wait>(
     entrance: Entrance,
 ) -> io::Result<Option<Outcome>>
     requires own { entrance.joining.outbox.conn ≡ conn }
+    requires home { entrance.joining.outbox.chronicle ≡ None }
     requires drain { entrance.drain.conn ≡ conn }
     requires pair { entrance.joining.outbox.queue ≡ entrance.drain.queue }
     requires desk { InStep desk.old }
@@ -202,6 +203,7 @@ impl TwoSides {
         entrance: Entrance,
     ) -> io::Result<Option<Outcome>>
         requires own { entrance.joining.outbox.conn ≡ conn }
+        requires home { entrance.joining.outbox.chronicle ≡ None }
         requires drain { entrance.drain.conn ≡ conn }
         requires pair { entrance.joining.outbox.queue ≡ entrance.drain.queue }
     {

@@ -18,6 +18,8 @@ use Rattle.crossbeam_queue.specs.contracts.array_queue.Turns as Turns
 use Rattle.crossbeam_queue.specs.contracts.array_queue.TurnsTableRuleOptionDoingUnit.TheImpl as turns
 use Rattle.crossbeam_utils.proofs.sync.parker.RuledParker.TheSendSync as parker
 use Rattle.crossbeam_utils.proofs.sync.parker.RuledUnparker.TheSendSync as unparker
+use Rattle.chronicle.proofs.SendLemmas.{token_send}
+use Rattle.chronicle.specs.contracts.chronicle.Token as Token
 use Rattle.ghost_state.proofs.SendLemmas.{count_send}
 use Rattle.outbox_queue.specs.contracts.counted.CountedPass as CountedPass
 use Rattle.outbox_queue.specs.contracts.drain.Drain as Drain
@@ -30,6 +32,9 @@ use Rattle.outbox_queue.specs.contracts.outbox.Outbox as Outbox
 use Rattle.outbox_queue.specs.contracts.outbox.Outbox.TheInside as outbox
 use Rattle.outbox_queue.specs.contracts.owed.Stamped as Stamped
 use Rattle.outbox_queue.specs.contracts.owed.Stamped.TheInside as stamped
+use Rattle.outbox_queue.specs.contracts.recorded.Moment as Moment
+use Rattle.outbox_queue.specs.contracts.recorded.Recorded as Recorded
+use Rattle.outbox_queue.specs.contracts.recorded.Recorded.TheInside as recorded
 use Rattle.outbox_queue.specs.contracts.rule.InStep as InStep
 use Rattle.outbox_queue.specs.contracts.rule.InStepProtocolStampedView.TheImpl as in_step
 use Rattle.outbox_queue.specs.contracts.rule.View as View
@@ -73,3 +78,7 @@ module _ (T H : RattleType) (owed : Ghosts H.Denot T.Denot) where
 
   pub drain_send : IsSend T → IsSend H → IsSend (Drain.the_row T H owed)
   drain_send t h = view_send _ _ _ _ _ (declared_send (drain.the_type T H owed) (as_row_send (Consumer.the_field T H owed) (taking_send t h), (option_send H h, (search (crosses, sendable) depth 60, (search (parker.the_field_send, parker.the_send, crosses, heap.send, heap.sync, heap.frees, sendable) depth 60, tt)))))
+
+-- a history as its chronicle recorded it may go to other threads, whatever it is
+pub recorded_send : (T H : RattleType) → IsSend (Recorded.the_row T H)
+recorded_send T H = view_send _ _ _ _ _ (declared_send (recorded.the_type T H) (search (crosses, sendable) depth 60, (as_row_send (Token.the_field (Moment.the_row T H)) (token_send (Moment.the_row T H)), tt)))

@@ -14,6 +14,7 @@ use Rattle.realm.specs.Given.{items_for, GivesExactly}
 use Rattle.realm.proofs.Lemmas.{no_events, no_more, live-joined, live-elsewhere, clash, not-some}
 use Rattle.realm_actor.specs.declared.row.Held.{Held}
 use Rattle.realm_actor.specs.declared.row.Row.{Row}
+use Rattle.outbox_queue.specs.Tied.{history_of}
 use Rattle.realm_actor.specs.OutboxHistory.{Box, Follows}
 use Rattle.realm_actor.specs.Rows.{BoxGoes, Rose, box_in, RowDue, RowGoes, Each, Ascending, EachDue, EachGoes, NoneRose}
 use Rattle.realm_actor.specs.Tables.{has_joined, IsOpen, Went, BoxWent, BoxEnds, HasRow, RowWent, EachWent, RowEnds, EachEnds, Sound, Ready}
@@ -67,7 +68,7 @@ Follows-entry h e xs o c own is f is_open =
       begins = (f.begins.0 ++ yield h e o.conn, sym (append_assoc o.added f.begins.0 (yield h e o.conn)) ∙ ap (λ l. l ++ yield h e o.conn) f.begins.1);
       whole = λ never. ap (λ l. o.added ++ l) y ∙ ap (λ l. l ++ yield h e o.conn) (sym (append-nil o.added) ∙ f.whole never);
       stood = f.stood;
-      seen = seen_longer h e o.history f.seen;
+      seen = seen_longer h e (history_of o.history) f.seen;
       closed = λ shut. is ∙ quiet h e c (not-true (live h c || eqb (conn_of e) c) (sym is_open ∙ shut));
     }
 
@@ -96,6 +97,7 @@ went_ends shut (Some o) (Some m) (Some p) g e = subst (λ q. Went o q) (sym e) (
   queue = g.queue;
   capacity = g.capacity;
   conn = g.conn;
+  chronicle = g.chronicle;
   added = g.added;
   finds = g.finds;
   marked = g.marked;

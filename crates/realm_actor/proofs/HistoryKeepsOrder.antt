@@ -192,9 +192,9 @@ pub handled_keeps : (S : Type 0) → HandledKeepsOrder S
 handled_keeps S grants handled h all = keeps handled h (kept-begun grants handled h all)
 
 pub history_keeps : (S : Type 0) → HistoryKeepsOrder S
-history_keeps S grants handled h all items views reader seat n c got posted rule at_reader at_seat' same =
+history_keeps S grants handled h all items views b reader seat n c got posted rule at_reader at_seat' same =
     let k = seat_of c in
-    let is : posted ≡ at_seat k handled ++ at_seat k items = begins_posted S items views reader seat n k got posted rule at_reader at_seat' ∙ ap (λ t. t ++ at_seat k items) (sym (same k)) in
+    let is : posted ≡ at_seat k handled ++ at_seat k items = begins_posted S items views b reader seat n k got posted rule at_reader at_seat' ∙ ap (λ t. t ++ at_seat k items) (sym (same k)) in
     let acts_are : acts_for c posted ≡ acts_of c handled ++ acts_for c (at_seat k items) =
     ap (λ t. acts_for c t) is ∙ acts_for-append c (at_seat k handled) (at_seat k items) ∙ ap (λ t. t ++ acts_for c (at_seat k items)) (seat-acts c handled) in
     subst (λ acts. KeepsOrder c acts h) (sym acts_are) (keeps-longer c (acts_of c handled) (acts_for c (at_seat k items)) h (keeps handled h (kept-begun grants handled h all) c))

@@ -18,13 +18,14 @@ use Rattle.realm_actor.proofs.RowPlaces.{same_place, below_or, beside}
 -- one entry after another
 
 Went-same : (o : Box) → Went o o
-Went-same o = record { queue = refl; capacity = refl; conn = refl; added = ([], append-nil o.added); finds = omega arith; marked = λ _. (refl, refl); room = λ h. absurd (omega (arith, h)); shut = λ h. h }
+Went-same o = record { queue = refl; capacity = refl; conn = refl; chronicle = refl; added = ([], append-nil o.added); finds = omega arith; marked = λ _. (refl, refl); room = λ h. absurd (omega (arith, h)); shut = λ h. h }
 
 pub Went-on : (o p q : Box) → Went o p → Went p q → Went o q
 Went-on o p q a b = record {
   queue = b.queue ∙ a.queue;
   capacity = b.capacity ∙ a.capacity;
   conn = b.conn ∙ a.conn;
+  chronicle = b.chronicle ∙ a.chronicle;
   added = (a.added.0 ++ b.added.0, sym (append_assoc o.added a.added.0 b.added.0) ∙ ap (λ l. l ++ b.added.0) a.added.1 ∙ b.added.1);
   finds = let x = a.finds in let y = b.finds in omega (arith, x, y);
   marked = λ h. let x = a.marked h in let y = b.marked (subst (λ n. 0 < n) (sym x.1) h) in (y.0 ∙ x.0, y.1 ∙ x.1);

@@ -1,6 +1,7 @@
 pub mod OfferLemmas
 pub mod RowPlaces
 pub mod RowDelivery
+pub mod Homes
 pub mod EntryLemmas
 pub mod FoundFull
 pub mod RowInsertion

@@ -19,7 +19,7 @@ items_other : (d c : ℕ) (x : Item) (rest : List (ℕ × Item)) → d ≢ c →
 items_other d c x rest n = cond-false (eqb c d) (x ∷ items_for d rest) (items_for d rest) (ne_eqb c d (λ same. n (sym same)))
 
 Goes-same : (o : Box) → Goes o o
-Goes-same o = record { queue = refl; capacity = refl; conn = refl; is_closed = refl; added = ([], append-nil o.added); finds = omega arith; marked = λ _. (refl, refl); room = λ h. absurd (omega (arith, h)) }
+Goes-same o = record { queue = refl; capacity = refl; conn = refl; chronicle = refl; is_closed = refl; added = ([], append-nil o.added); finds = omega arith; marked = λ _. (refl, refl); room = λ h. absurd (omega (arith, h)) }
 
 BoxGoes-same : (o : Option Box) → BoxGoes o o
 BoxGoes-same None = tt
@@ -27,7 +27,7 @@ BoxGoes-same (Some o) = Goes-same o
 
 -- an outbox that items were offered to went on
 went : (o p : Box) → Goes o p → Went o p
-went o p g = record { queue = g.queue; capacity = g.capacity; conn = g.conn; added = g.added; finds = g.finds; marked = g.marked; room = g.room; shut = λ is. g.is_closed ∙ is }
+went o p g = record { queue = g.queue; capacity = g.capacity; conn = g.conn; chronicle = g.chronicle; added = g.added; finds = g.finds; marked = g.marked; room = g.room; shut = λ is. g.is_closed ∙ is }
 
 box_went : (o p : Option Box) → BoxGoes o p → BoxWent o p
 box_went None None g = tt
@@ -38,7 +38,7 @@ box_went (Some o) (Some p) g = went o p g
 Goes-on : (o p q : Box) → Goes o p → Goes p q → Goes o q
 Goes-on o p q a b =
     let w = Went-on o p q (went o p a) (went p q b) in
-    record { queue = w.queue; capacity = w.capacity; conn = w.conn; is_closed = b.is_closed ∙ a.is_closed; added = w.added; finds = w.finds; marked = w.marked; room = w.room }
+    record { queue = w.queue; capacity = w.capacity; conn = w.conn; chronicle = w.chronicle; is_closed = b.is_closed ∙ a.is_closed; added = w.added; finds = w.finds; marked = w.marked; room = w.room }
 
 BoxGoes-on : (o p q : Option Box) → BoxGoes o p → BoxGoes p q → BoxGoes o q
 BoxGoes-on None None None a b = tt

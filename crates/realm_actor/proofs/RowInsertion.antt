@@ -11,6 +11,7 @@ use Rattle.realm.specs.Sessions.{live, conn_of, may_join, IsHistory}
 use Rattle.realm.specs.Yield.{owed, yield}
 use Rattle.realm.proofs.Lemmas.{live-joined}
 use Rattle.realm_actor.specs.declared.row.Row.{Row}
+use Rattle.outbox_queue.specs.Tied.{history_of}
 use Rattle.realm_actor.specs.OutboxHistory.{Box, Follows}
 use Rattle.realm_actor.specs.Rows.{box_in, RowDue, Each, Ascending, PartsAt}
 use Rattle.realm_actor.specs.Tables.{has_joined, IsOpen, HasRow, Sound, Ready}
@@ -68,7 +69,7 @@ new_follows h o none empty unseen never =
       begins = ([], all);
       whole = λ _. all;
       stood = λ full. absurd (omega (arith, full, never));
-      seen = subst (λ k. Grows Begins k (Some h)) (sym unseen) tt;
+      seen = subst (λ k. Grows Begins (history_of k) (Some h)) (sym unseen) tt;
       closed = λ _. refl;
     }
 

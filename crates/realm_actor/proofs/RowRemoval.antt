@@ -7,6 +7,7 @@ use Rattle.std.proofs.lemmas.Option.{slice_get_read}
 use Rattle.std.proofs.lemmas.List.{set-get_or}
 use mathlib.Core.List.{IsPrefix}
 use Rattle.outbox_queue.specs.Ends.{Taking}
+use Rattle.outbox_queue.specs.Tied.{Kept, history_of}
 use Rattle.outbox_queue.specs.Rule.{Grows}
 use Rattle.session.specs.declared.messages.item.Item.{Item}
 use Rattle.realm.specs.History.{History, begun, Begins}
@@ -193,7 +194,7 @@ module _ {S : Type 0} where
     others_there d n = others_keep rows p r s d get own (λ h. n (sym h))
 
   -- what an outbox that follows the history shows, once it was put together with its drain
-  pub settles : (c : ℕ) (drain : Taking Item History) (rest : List Item) (old new : Acting S) → Stands old.history old.rows → EmptiesOne c drain rest old.rows new.rows
+  pub settles : (c : ℕ) (drain : Taking Item (Kept History)) (rest : List Item) (old new : Acting S) → Stands old.history old.rows → EmptiesOne c drain rest old.rows new.rows
       → new.history ≡ old.history → new.words ≡ old.words → new.last_cut ≡ old.last_cut → new.handled ≡ old.handled → Settles c drain rest old new
   settles c drain rest old new s e history words last_cut handled =
       let m = e.emptied in
@@ -207,7 +208,7 @@ module _ {S : Type 0} where
         begins = subst (λ d. IsPrefix (drain.taken ++ rest) (owed old.history d)) conn (subst (λ l. IsPrefix l (owed old.history m.outbox.conn)) (sym m.joins.whole) f.begins);
         whole = λ never. m.joins.whole ∙ sym (append-nil m.outbox.added) ∙ f.whole never ∙ ap (owed old.history) conn;
         stood = λ full. ap length m.joins.whole ∙ f.stood full;
-        seen = grows_on drain.seen m.outbox.history (Some old.history) m.joins.seen f.seen;
+        seen = grows_on (history_of drain.seen) (history_of m.outbox.history) (Some old.history) m.joins.seen f.seen;
         gone = ap (λ l. outbox_of l c) e.after ∙ ap (outbox_of (set old.rows e.place e.new)) (sym e.own) ∙ gone_there old.rows e.place e.old e.new e.stands m.conn m.held m.is_cut m.is_lost s.sound.ascending;
         others = λ d n. ap (λ l. outbox_of l d) e.after ∙ others_there old.rows e.place e.old e.new e.stands m.conn m.held m.is_cut m.is_lost d (λ h. n (h ∙ e.own));
         history = history;
@@ -242,10 +243,10 @@ module _ {S : Type 0} where
     handled = handled;
   }
 
-  pub stands_one : (h : History) (c : ℕ) (drain : Taking Item History) (rest : List Item) (olds news : List (Row S)) → Stands h olds → EmptiesOne c drain rest olds news → Stands h news
+  pub stands_one : (h : History) (c : ℕ) (drain : Taking Item (Kept History)) (rest : List Item) (olds news : List (Row S)) → Stands h olds → EmptiesOne c drain rest olds news → Stands h news
   stands_one h c drain rest olds news s e = subst (λ l. Stands h l) (sym e.after) (stands_emptied olds e.place e.old e.new e.stands e.emptied.conn e.emptied.held e.emptied.is_cut e.emptied.is_lost h s)
 
-  pub length_one : (c : ℕ) (drain : Taking Item History) (rest : List Item) (olds news : List (Row S)) → EmptiesOne c drain rest olds news → length news ≡ length olds
+  pub length_one : (c : ℕ) (drain : Taking Item (Kept History)) (rest : List Item) (olds news : List (Row S)) → EmptiesOne c drain rest olds news → length news ≡ length olds
   length_one c drain rest olds news e = ap length e.after ∙ length-set olds e.place e.new
 
   -- either way, the rows stand

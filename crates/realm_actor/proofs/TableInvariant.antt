@@ -18,6 +18,7 @@ use Rattle.realm_actor.specs.LastCut.{NoMarks}
 use Rattle.realm_actor.specs.Handle.{EachUnmarked}
 use Rattle.realm_actor.specs.Settle.{EmptiesOne}
 use Rattle.outbox_queue.specs.Ends.{Taking}
+use Rattle.outbox_queue.specs.Tied.{Kept, history_of}
 use Rattle.session.specs.declared.messages.item.Item.{Item}
 use Rattle.realm_actor.specs.Invariant.{Knows}
 use Rattle.realm_actor.proofs.RowPlaces.{same_place, below_or, one_place, beside, each_set, insert_all, pairs_set}
@@ -132,7 +133,7 @@ module _ {S : Type 0} where
   }
 
   -- a row was emptied
-  pub knows_emptied : (old new : Table S) (c : ℕ) (drain : Taking Item History) (rest : List Item) → EmptiesOne c drain rest old.rows.items new.rows.items
+  pub knows_emptied : (old new : Table S) (c : ℕ) (drain : Taking Item (Kept History)) (rest : List Item) → EmptiesOne c drain rest old.rows.items new.rows.items
       → new.realm ≡ old.realm → new.has_marks ≡ old.has_marks → new.has_ended ≡ old.has_ended → Knows old → Knows new
   knows_emptied old new c drain rest e realm marks ended knows = record {
     marks = λ quiet. subst (λ l. NoMarks l) (sym e.after)
@@ -152,7 +153,7 @@ module _ {S : Type 0} where
     ended = λ quiet. subst (λ l. Each (λ r. live new.realm r.conn ≡ true) l) (sym rows) (subst (λ h. Each (λ r. live h r.conn ≡ true) old.rows.items) (sym realm) (knows.ended (sym ended ∙ quiet)));
   }
 
-  pub knows_settled : {T E : Type 0} (r : Result T E) (old new : Table S) (c : ℕ) (drain : Taking Item History) (rest : T → List Item) (Q : E → Type 0) → IfOk r (λ x. EmptiesOne c drain (rest x) old.rows.items new.rows.items)
+  pub knows_settled : {T E : Type 0} (r : Result T E) (old new : Table S) (c : ℕ) (drain : Taking Item (Kept History)) (rest : T → List Item) (Q : E → Type 0) → IfOk r (λ x. EmptiesOne c drain (rest x) old.rows.items new.rows.items)
       → IfErr r (λ e. (new.rows.items ≡ old.rows.items) × Q e) → new.realm ≡ old.realm → new.has_marks ≡ old.has_marks → new.has_ended ≡ old.has_ended → Knows old → Knows new
   knows_settled (Ok x) old new c drain rest Q ok err = knows_emptied old new c drain (rest x) ok
   knows_settled (Err e) old new c drain rest Q ok err = knows_same old new err.0

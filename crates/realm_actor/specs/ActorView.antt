@@ -1,5 +1,6 @@
 -- What contracts see of an actor.
 use Rattle.std.specs.Prelude.{ℕ, List, map}
+use Rattle.atomic_table.specs.Seated.{TableId}
 use Rattle.realm.specs.History.{History}
 use Rattle.realm_inbox.specs.declared.act.Act.{Act}
 use Rattle.ghost_state.specs.GhostList.{items_of}
@@ -8,9 +9,10 @@ use Rattle.realm_actor.specs.declared.row.Row.{Row}
 use Rattle.realm_actor.specs.declared.state.State.{State}
 use Rattle.realm_actor.specs.Tables.{Standing}
 
--- the realm's history, the rows of its sessions, the words that were drawn, whom the last post found full, or cut, and the acts
+-- which chronicle the realm's history is told to, the history, the rows of its sessions, the words that were drawn, whom the last post found full, or cut, and the acts
 -- that were handled, each with its connection, the oldest first
 pub record Acting (S : Type 0) : Type 0 where
+  pub chronicle : TableId
   pub history : History
   pub rows : List (Row S)
   pub words : List ℕ
@@ -32,7 +34,7 @@ module _ {S : Type 0} where
 
 -- what contracts see of an actor's fields, where these words were drawn
 abbrev pub acting : {S W : Type 0} → List ℕ → State S W → Acting S
-acting words s = record { history = s.table.realm; rows = s.table.rows.items; words = words; last_cut = s.last_cut.items; handled = map said (items_of s.handled) }
+acting words s = record { chronicle = s.table.chronicle.chronicle; history = s.table.realm; rows = s.table.rows.items; words = words; last_cut = s.last_cut.items; handled = map said (items_of s.handled) }
 
 -- what the handling of a post works on, of the same fields
 abbrev pub working : {S W : Type 0} → List ℕ → State S W → Working S

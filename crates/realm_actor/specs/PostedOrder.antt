@@ -1,7 +1,8 @@
 -- How the history keeps the order of the posts.
-use Rattle.std.specs.Prelude.{◌≡◌, ◌⊎◌, ◌==◌, if◌then◌else◌, ℕ, true, false, List, [], ◌∷◌, ◌++◌}
+use Rattle.std.specs.Prelude.{◌≡◌, ◌⊎◌, ◌==◌, if◌then◌else◌, Option, ℕ, true, false, List, [], ◌∷◌, ◌++◌}
 use mathlib.Core.Option.{some}
 use lib.ListN.{get_elem?}
+use Rattle.atomic_table.specs.Seated.{TableId}
 use Rattle.wamp_ids.specs.Numbers.{seat_of}
 use Rattle.realm.specs.declared.entry.Entry.{Entry}
 use Rattle.realm.specs.Grants.{Grants}
@@ -60,8 +61,8 @@ HandledKeepsOrder S = (grants : Grants) (handled : List (Post S)) (h : History) 
 -- where, seat by seat, what was received was handled: at every moment of the inbox the entries of c are some of what was posted for c at its seat, in that order, each once
 abbrev pub HistoryKeepsOrder : Type 0 → Type 0
 HistoryKeepsOrder S = (grants : Grants) (handled : List (Post S)) (h : History) → MakesAll (begun grants) handled h
-    → (items : List (Post S)) (views : List (View S)) (reader seat n c : ℕ) (got : List (Post S)) (posted : List (ℕ × Act S)) → Keeps items views
-    → get_elem? views reader ≡ some (Reader n got) → get_elem? views seat ≡ some (Seat (seat_of c) posted) → ((k : ℕ) → at_seat k handled ≡ at_seat k got)
+    → (items : List (Post S)) (views : List (View S)) (b : Option TableId) (reader seat n c : ℕ) (got : List (Post S)) (posted : List (ℕ × Act S)) → Keeps items views
+    → get_elem? views reader ≡ some (Reader b n got) → get_elem? views seat ≡ some (Seat b (seat_of c) posted) → ((k : ℕ) → at_seat k handled ≡ at_seat k got)
     → KeepsOrder c (acts_for c posted) h
 
 -- what a run makes of the history, and in which order

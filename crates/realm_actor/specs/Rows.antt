@@ -4,7 +4,8 @@ use Rattle.session.specs.declared.messages.item.Item.{Item}
 use Rattle.realm.specs.History.{History}
 use Rattle.realm.specs.Given.{items_for}
 use Rattle.realm_actor.specs.declared.row.Row.{Row}
-use Rattle.realm_actor.specs.OutboxHistory.{Box, Follows, Goes}
+use Rattle.realm_actor.specs.OutboxHistory.{Box, Follows, Goes, IsHome}
+use Rattle.atomic_table.specs.Seated.{TableId}
 
 -- what becomes of a row's outbox, if it is held, where items are offered
 abbrev pub BoxGoes : Option Box → Option Box → Type 0
@@ -38,6 +39,14 @@ module _ {S : Type 0} where
   -- P of each row
   abbrev pub Each : (Row S → Type 0) → List (Row S) → Type 0
   Each P rows = (k : ℕ) (r : Row S) → slice_get rows k ≡ Some r → P r
+
+  -- where a chronicle is picked for the row's outbox, it is this one
+  abbrev pub RowHome : TableId → Row S → Type 0
+  RowHome own r = (o : Box) → box_in r ≡ Some o → IsHome own o
+
+  -- the same of each row
+  abbrev pub EachHome : TableId → List (Row S) → Type 0
+  EachHome own rows = Each (RowHome own) rows
 
   -- ascending by connection, so that each connection stands once
   abbrev pub Ascending : List (Row S) → Type 0

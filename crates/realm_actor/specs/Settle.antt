@@ -2,6 +2,7 @@
 use Rattle.std.specs.Prelude.{◌≡◌, ◌≢◌, ◌<◌, ℕ, true, false, List, ◌++◌, length, Option, Some, None, slice_get, set}
 use mathlib.Core.List.{IsPrefix}
 use Rattle.outbox_queue.specs.Ends.{Taking}
+use Rattle.outbox_queue.specs.Tied.{Kept, history_of}
 use Rattle.outbox_queue.specs.Rule.{Grows}
 use Rattle.session.specs.declared.messages.item.Item.{Item}
 use Rattle.realm.specs.History.{History, Begins}
@@ -14,18 +15,18 @@ use Rattle.realm_actor.specs.LastCut.{outbox_of}
 use Rattle.realm_actor.specs.ActorView.{Acting}
 
 -- the drain is the other end of this outbox, which is held
-abbrev pub IsOther : Taking Item History → Option Box → Type 0
+abbrev pub IsOther : Taking Item (Kept History) → Option Box → Type 0
 IsOther drain None = ⊥
 IsOther drain (Some o) = o.queue ≡ drain.queue
 
 -- what was taken, followed by the rest, is what was added, and the drain saw no history but one that begins the outbox's
-pub record Joins (drain : Taking Item History) (rest : List Item) (o : Box) : Type 0 where
+pub record Joins (drain : Taking Item (Kept History)) (rest : List Item) (o : Box) : Type 0 where
   pub whole : drain.taken ++ rest ≡ o.added
-  pub seen : Grows Begins drain.seen o.history
+  pub seen : Grows Begins (history_of drain.seen) (history_of o.history)
 
 module _ {S : Type 0} where
   -- the row's outbox was put together with its drain, and is held no longer
-  pub record Emptied (drain : Taking Item History) (rest : List Item) (old new : Row S) : Type 0 where
+  pub record Emptied (drain : Taking Item (Kept History)) (rest : List Item) (old new : Row S) : Type 0 where
     pub outbox : Box
     pub was : box_in old ≡ Some outbox
     pub joins : Joins drain rest outbox
@@ -35,7 +36,7 @@ module _ {S : Type 0} where
     pub held : new.held ≡ None
 
   -- the row of c was emptied, and the others stay
-  pub record EmptiesOne (c : ℕ) (drain : Taking Item History) (rest : List Item) (olds news : List (Row S)) : Type 0 where
+  pub record EmptiesOne (c : ℕ) (drain : Taking Item (Kept History)) (rest : List Item) (olds news : List (Row S)) : Type 0 where
     pub place : ℕ
     pub old : Row S
     pub new : Row S
@@ -47,14 +48,14 @@ module _ {S : Type 0} where
   -- the outbox of c was put together with its drain: what was taken, followed by the rest, is what was added; it begins what the
   -- realm's history owes c, and is all of that unless a step found the outbox full, since when nothing was added; what the drain
   -- saw begins the realm's history. The outbox is held no longer, and nothing else changed
-  pub record Settles (c : ℕ) (drain : Taking Item History) (rest : List Item) (old new : Acting S) : Type 0 where
+  pub record Settles (c : ℕ) (drain : Taking Item (Kept History)) (rest : List Item) (old new : Acting S) : Type 0 where
     pub outbox : Box
     pub was : outbox_of old.rows c ≡ Some outbox
     pub added : drain.taken ++ rest ≡ outbox.added
     pub begins : IsPrefix (drain.taken ++ rest) (owed old.history c)
     pub whole : outbox.full_finds ≡ 0 → drain.taken ++ rest ≡ owed old.history c
     pub stood : 0 < outbox.full_finds → length (drain.taken ++ rest) ≡ outbox.added_at_find
-    pub seen : Grows Begins drain.seen (Some old.history)
+    pub seen : Grows Begins (history_of drain.seen) (Some old.history)
     pub gone : outbox_of new.rows c ≡ None
     pub others : (d : ℕ) → d ≢ c → outbox_of new.rows d ≡ outbox_of old.rows d
     pub history : new.history ≡ old.history

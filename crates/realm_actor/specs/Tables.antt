@@ -33,6 +33,7 @@ pub record Went (o p : Box) : Type 0 where
   pub queue : p.queue ≡ o.queue
   pub capacity : p.capacity ≡ o.capacity
   pub conn : p.conn ≡ o.conn
+  pub chronicle : p.chronicle ≡ o.chronicle
   pub added : IsPrefix o.added p.added
   pub finds : o.full_finds ≤ p.full_finds
   pub marked : 0 < o.full_finds → (p.added ≡ o.added) × (p.full_finds ≡ o.full_finds)

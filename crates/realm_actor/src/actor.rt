@@ -1,5 +1,6 @@
 //! The actor of a realm.
-ghost use Rattle.std.specs.Prelude.{◌≡◌, [], IfOk, IfErr, is_some};
+ghost use Rattle.std.specs.Prelude.{◌≡◌, Some, [], IfOk, IfErr, is_some};
+ghost use Rattle.realm_inbox.specs.Seats.{IsHomed};
 ghost use Rattle.realm.specs.Grants.{pairs_of};
 ghost use Rattle.realm.specs.History.{begun};
 ghost use Rattle.realm.specs.Publications.{is_retained_full};
@@ -14,7 +15,7 @@ use crate::outcome::Outcome;
 use crate::state::State;
 use outbox_queue::{Drain, Rest};
 use realm::{Fault, RealmConfig};
-use realm_inbox::{IdSource, Post, RealmHistory, Shut};
+use realm_inbox::{IdSource, Post, RealmChronicle, RealmHistory, Shut};
 use session::Item;
 use std::alloc::{AllocError, Global};
 use std::marker::Model;
@@ -23,7 +24,7 @@ use wamp_ids::Conn;
 
 /// The actor of a realm: it alone changes the realm, and adds what each entry of its history gives to the sessions' outboxes.
 ///
-/// Contracts see the realm's history, the rows of its sessions, the words that were drawn, whom the last post found full, or cut,
+/// Contracts see the chronicle of the realm's history, the history, the rows of its sessions, the words that were drawn, whom the last post found full, or cut,
 /// and the acts that were handled, each with its connection.
 #[derive(Drop)]
 pub struct Actor<S: Shut, W: IdSource> {
@@ -56,6 +57,7 @@ impl<S: Shut, W: IdSource> Actor<S, W> {
     /// `NoMemory` where memory for the realm was refused.
     pub fn new(alloc: Global, config: RealmConfig, words: W) -> Result<Actor<S, W>, Fault>
         ensures { IfOk result (λ a. a ≡ record {
+          chronicle = a.chronicle;
           history = begun (pairs_of config.grants.items);
           rows = [];
           words = W.given words;
@@ -107,7 +109,7 @@ impl<S: Shut, W: IdSource> Actor<S, W> {
         self.state.last_cut()
     }
 
-    /// Handles a post, which is the next of its seat: adds what it gives to the outboxes, cuts whom that found full, and wakes the
+    /// Handles a post, which is the next of its seat, and whose outbox, if it is a Join's, is of the actor's chronicle or of none: adds what it gives to the outboxes, cuts whom that found full, and wakes the
     /// writers of those that got something.
     ///
     /// An act of a connection enters the history (`Applied`), or it is `Dropped`: a Join that may not join, whose transport is
@@ -116,7 +118,9 @@ impl<S: Shut, W: IdSource> Actor<S, W> {
     /// where one had to be cut instead.
     pub fn handle<R: Wait>(&mut self, rt: &R, alloc: Global, post: Post<S>) -> Outcome
         requires next { IsNextOf self.old.handled post }
+        requires home { IsHomed (Some self.old.chronicle) post }
         ensures handles { Handles result post self.old self.new }
+        ensures chronicle { self.new.chronicle ≡ self.old.chronicle }
     {
         let outcome = self.take(rt, alloc, post);
         self.wake();
@@ -125,7 +129,9 @@ impl<S: Shut, W: IdSource> Actor<S, W> {
 
     // The same, but a writer is woken only where its outbox has got a quarter of what it can hold.
     pub(crate) fn take<R: Wait>(&mut self, rt: &R, alloc: Global, post: Post<S>) -> Outcome
+        requires home { IsHomed (Some self.old.chronicle) post }
         ensures handles { Handles result post self.old self.new }
+        ensures chronicle { self.new.chronicle ≡ self.old.chronicle }
     {
         let state = &mut self.state;
         state.handle(rt, alloc, post)
@@ -138,7 +144,8 @@ impl<S: Shut, W: IdSource> Actor<S, W> {
 
     /// Forgets the sessions that aren't live: their outboxes are dropped, if they are held.
     pub fn sweep(&mut self)
-        ensures { Sweeps self.old self.new }
+        ensures sweeps { Sweeps self.old self.new }
+        ensures chronicle { self.new.chronicle ≡ self.old.chronicle }
     {
         let state = &mut self.state;
         state.sweep();
@@ -159,8 +166,20 @@ impl<S: Shut, W: IdSource> Actor<S, W> {
         ensures ok { IfOk result (λ rest.
             Settles drain.conn drain rest.items.items self.old self.new) }
         ensures err { IfErr result (λ back. (self.new ≡ self.old) × (back.1 ≡ drain)) }
+        ensures chronicle { self.new.chronicle ≡ self.old.chronicle }
     {
         let state = &mut self.state;
         state.settle(rt, alloc, drain)
+    }
+
+    /// The chronicle of the realm's history, which has the history of the actor. What a drain saw of it can be tied to it
+    /// ([`outbox_queue::tie`]).
+    pub fn into_chronicle(self) -> RealmChronicle
+        ensures { result ≡ record {
+          chronicle = self.chronicle;
+          history = Some self.history;
+        } }
+    {
+        self.state.table.chronicle
     }
 }

@@ -80,6 +80,7 @@ impl<S: Shut> Table<S> {
         ensures realm { self.new.realm ≡ self.old.realm }
         ensures rows { EachMarked conn self.old.rows.items self.new.rows.items }
         ensures knows { Knows self.old → Knows self.new }
+        ensures chronicle { self.new.chronicle.chronicle ≡ self.old.chronicle.chronicle }
     {
         self.has_marks = true;
         mark_in(&mut self.rows, conn);
@@ -94,6 +95,7 @@ impl<S: Shut> Table<S> {
         ensures rows { EachWent self.old.rows.items self.new.rows.items }
         ensures sound { Sound self.new.realm self.new.rows.items }
         ensures knows { Knows self.old → Knows self.new }
+        ensures chronicle { self.new.chronicle.chronicle ≡ self.old.chronicle.chronicle }
     {
         let told = Entry::Cut {
             conn,
@@ -112,6 +114,7 @@ impl<S: Shut> Table<S> {
         ensures rows { EachWent self.old.rows.items self.new.rows.items }
         ensures sound { Sound self.new.realm self.new.rows.items }
         ensures knows { Knows self.old → Knows self.new }
+        ensures chronicle { self.new.chronicle.chronicle ≡ self.old.chronicle.chronicle }
     {
         let silent = Entry::Cut { conn, word: None };
         match self.enter(rt, alloc, silent, conn) {
@@ -129,6 +132,7 @@ impl<S: Shut> Table<S> {
         ensures none { NoneFull self.new.rows.items }
         ensures sound { Sound self.new.realm self.new.rows.items }
         ensures knows { Knows self.old → Knows self.new }
+        ensures chronicle { self.new.chronicle.chronicle ≡ self.old.chronicle.chronicle }
     {
         for _ in rt.forever() {
             let Some(conn) = least_full(self.rows.as_slice()) else {
@@ -156,6 +160,7 @@ impl<S: Shut> Table<S> {
         ensures none { NoneFull self.new.rows.items }
         ensures sound { Sound self.new.realm self.new.rows.items }
         ensures knows { Knows self.old → Knows self.new }
+        ensures chronicle { self.new.chronicle.chronicle ≡ self.old.chronicle.chronicle }
     {
         if is_full {
             self.cut_full(rt, alloc, words);
@@ -180,6 +185,7 @@ impl<S: Shut> Table<S> {
             × (W.given words.new ≡ W.given words.old ++ drawn)) }
         ensures sound { OnOk result (Sound self.new.realm self.new.rows.items) }
         ensures knows { OnOk result (Knows self.old → Knows self.new) }
+        ensures chronicle { self.new.chronicle.chronicle ≡ self.old.chronicle.chronicle }
         ensures err { OnErr result (self.new ≡ self.old) }
         ensures words { OnErr result (words.new ≡ words.old) }
     {
@@ -198,6 +204,7 @@ impl<S: Shut> Table<S> {
             × (W.given words.new ≡ W.given words.old ++ word ∷ drawn) }
         ensures sound { Sound self.new.realm self.new.rows.items }
         ensures knows { Knows self.old → Knows self.new }
+        ensures chronicle { self.new.chronicle.chronicle ≡ self.old.chronicle.chronicle }
     {
         self.mark_lost(conn);
         let word = words.next_word();

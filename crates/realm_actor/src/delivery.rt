@@ -1,13 +1,13 @@
 //! What an entry gave goes to the outboxes.
-ghost use Rattle.std.specs.Prelude.{◌≡◌, ◌||◌, ℕ, List, ◌∷◌, [], false};
+ghost use Rattle.std.specs.Prelude.{◌≡◌, ◌||◌, ℕ, List, ◌∷◌, [], Some, false};
 ghost use Rattle.session.specs.declared.messages.item.Item.{Item as AnItem};
-ghost use Rattle.realm_actor.specs.Rows.{Ascending, EachDue, EachGoes, NoneRose};
+ghost use Rattle.realm_actor.specs.Rows.{Ascending, EachDue, EachGoes, EachHome, NoneRose};
 
 use crate::row::Row;
 use crate::row_search::find_by_seat;
 use crate::seat_guesses::SeatGuesses;
 use realm::Realm;
-use realm_inbox::Shut;
+use realm_inbox::{RealmChronicle, Shut};
 use session::Item;
 use std::sync::Wait;
 use wamp_ids::Conn;
@@ -35,13 +35,17 @@ fn offer_one<S: Shut, R: Wait>(
     conn: Conn,
     item: Item,
     realm: &Realm,
+    chronicle: &mut RealmChronicle,
 ) -> Pass
     requires ascending { Ascending rows.old }
     requires due { (rest : List (ℕ × AnItem)) × EachDue realm.now ((conn, item) ∷ rest) rows.old }
+    requires told { chronicle.old.history ≡ Some realm.now }
+    requires home { EachHome chronicle.old.chronicle rows.old }
     ensures due { (rest : List (ℕ × AnItem)) → EachDue realm.now ((conn, item) ∷ rest) rows.old
         → EachDue realm.now rest rows.new }
     ensures goes { EachGoes rows.old rows.new }
     ensures none { result.is_full ≡ false → (pass.is_full ≡ false) × NoneRose rows.old rows.new }
+    ensures kept { chronicle.new ≡ chronicle.old }
 {
     let Some(place) = find_by_seat(rows, pass.place, guesses, conn) else {
         return pass;
@@ -50,7 +54,7 @@ fn offer_one<S: Shut, R: Wait>(
         leave(rows, pass.place);
     }
     let row = &mut rows[place];
-    let is_full = row.offer(rt, item, realm);
+    let is_full = row.offer(rt, item, realm, chronicle);
     Pass {
         place,
         is_full: either(pass.is_full, is_full),
@@ -71,19 +75,23 @@ pub fn offer_all<S: Shut, R: Wait>(
     guesses: &mut SeatGuesses,
     given: &mut Vec<(Conn, Item)>,
     realm: &Realm,
+    chronicle: &mut RealmChronicle,
 ) -> bool
     requires ascending { Ascending rows.old }
     requires due { EachDue realm.now given.old.items rows.old }
+    requires told { chronicle.old.history ≡ Some realm.now }
+    requires home { EachHome chronicle.old.chronicle rows.old }
     ensures due { EachDue realm.now [] rows.new }
     ensures goes { EachGoes rows.old rows.new }
     ensures none { result ≡ false → NoneRose rows.old rows.new }
+    ensures kept { chronicle.new ≡ chronicle.old }
 {
     let mut pass = Pass {
         place: rows.len(),
         is_full: false,
     };
     for (conn, item) in given.drain(..) {
-        pass = offer_one(rt, rows, guesses, pass, conn, item, realm);
+        pass = offer_one(rt, rows, guesses, pass, conn, item, realm, chronicle);
     }
     leave(rows, pass.place);
     pass.is_full

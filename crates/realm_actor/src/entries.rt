@@ -4,6 +4,7 @@ ghost use Rattle.realm.specs.Sessions.{may_join};
 ghost use Rattle.realm_inbox.specs.declared.act.Act.TheVariants.{Join as AJoin};
 ghost use Rattle.realm_inbox.specs.Joins.{is_join};
 ghost use Rattle.realm_actor.specs.declared.outcome.Outcome.TheVariants.{Dropped};
+ghost use Rattle.realm_actor.specs.OutboxHistory.{IsHome};
 ghost use Rattle.realm_actor.specs.Tables.{Sound};
 ghost use Rattle.realm_actor.specs.Invariant.{IsRoomy, Knows};
 ghost use Rattle.realm_actor.specs.ActorView.{working};
@@ -69,6 +70,8 @@ impl<S: Shut, W: IdSource> State<S, W> {
         ensures last_cut { self.new.last_cut ≡ self.old.last_cut }
         ensures room { IsRoomy self.old → IsRoomy self.new }
         ensures handled { self.new.handled ≡ self.old.handled }
+        ensures chronicle { self.new.table.chronicle.chronicle
+            ≡ self.old.table.chronicle.chronicle }
         ensures sound { Sound self.new.table.realm self.new.table.rows.items }
         ensures knows { Knows self.old.table → Knows self.new.table }
     {
@@ -90,6 +93,7 @@ impl<S: Shut, W: IdSource> State<S, W> {
         requires sound { Sound self.old.table.realm self.old.table.rows.items }
         requires none { NoneFull self.old.table.rows.items }
         requires own { joining.outbox.conn ≡ conn }
+        requires home { IsHome self.old.table.chronicle.chronicle joining.outbox }
         ensures outcome { Acts result conn (AJoin joining)
             (working (W.given self.old.words) self.old)
             (working (W.given self.new.words) self.new) }
@@ -98,6 +102,8 @@ impl<S: Shut, W: IdSource> State<S, W> {
         ensures last_cut { self.new.last_cut.items ≡ self.old.last_cut.items }
         ensures room { IsRoomy self.old → IsRoomy self.new }
         ensures handled { self.new.handled ≡ self.old.handled }
+        ensures chronicle { self.new.table.chronicle.chronicle
+            ≡ self.old.table.chronicle.chronicle }
         ensures sound { Sound self.new.table.realm self.new.table.rows.items }
         ensures knows { Knows self.old.table → Knows self.new.table }
     {
@@ -136,6 +142,8 @@ impl<S: Shut, W: IdSource> State<S, W> {
         ensures rows { self.new.table.rows.items ≡ self.old.table.rows.items }
         ensures words { self.new.words ≡ self.old.words }
         ensures handled { self.new.handled ≡ self.old.handled }
+        ensures chronicle { self.new.table.chronicle.chronicle
+            ≡ self.old.table.chronicle.chronicle }
         ensures knows { Knows self.old.table → Knows self.new.table }
         ensures last_cut { self.new.last_cut.items ≡ self.old.last_cut.items }
         ensures row { OnOk result (vec_len self.new.table.rows < vec_capacity self.new.table.rows) }

@@ -1,5 +1,5 @@
 //! A post is handled.
-ghost use Rattle.std.specs.Prelude.{◌≡◌, true};
+ghost use Rattle.std.specs.Prelude.{◌≡◌, Some, true};
 ghost use Rattle.realm_actor.specs.declared.outcome.Outcome.TheVariants.{Dropped};
 ghost use Rattle.realm_actor.specs.Tables.{Sound};
 ghost use Rattle.realm_actor.specs.Cuts.{NoneFull};
@@ -7,7 +7,7 @@ ghost use Rattle.realm_actor.specs.Handle.{is_dropped, Acts, Does};
 ghost use Rattle.realm_actor.specs.ActorView.{acting, working};
 ghost use Rattle.realm_actor.specs.Run.{Handles};
 ghost use Rattle.realm_actor.specs.Invariant.{IsRoomy, Knows, Stands};
-ghost use Rattle.realm_inbox.specs.Seats.{conn_of_letter, act_of_letter};
+ghost use Rattle.realm_inbox.specs.Seats.{conn_of_letter, act_of_letter, BringsHome, IsHomed};
 
 use crate::last_cut::name_all;
 use crate::outcome::Outcome;
@@ -24,6 +24,8 @@ impl<S: Shut, W: IdSource> State<S, W> {
     fn act<R: Wait>(&mut self, rt: &R, alloc: Global, letter: Letter<S>) -> Outcome
         requires sound { Sound self.old.table.realm self.old.table.rows.items }
         requires none { NoneFull self.old.table.rows.items }
+        requires home { BringsHome (Some self.old.table.chronicle.chronicle)
+            (act_of_letter letter) }
         ensures outcome { Acts result (conn_of_letter letter) (act_of_letter letter)
             (working (W.given self.old.words) self.old)
             (working (W.given self.new.words) self.new) }
@@ -34,6 +36,8 @@ impl<S: Shut, W: IdSource> State<S, W> {
         ensures knows { Knows self.old.table → Knows self.new.table }
         ensures last_cut { self.new.last_cut.items ≡ self.old.last_cut.items }
         ensures handled { self.new.handled ≡ self.old.handled }
+        ensures chronicle { self.new.table.chronicle.chronicle
+            ≡ self.old.table.chronicle.chronicle }
         ensures room { IsRoomy self.old → IsRoomy self.new }
     {
         let (conn, act, _weight) = letter.into_parts();
@@ -45,6 +49,8 @@ impl<S: Shut, W: IdSource> State<S, W> {
 
     // Handles an act of a connection, and names whom it found full, or cut for want of memory.
     fn handle_act<R: Wait>(&mut self, rt: &R, alloc: Global, letter: Letter<S>) -> Outcome
+        requires home { BringsHome (Some self.old.table.chronicle.chronicle)
+            (act_of_letter letter) }
         requires stands { Stands self.old.table.realm self.old.table.rows.items }
         requires knows { Knows self.old.table }
         requires room { IsRoomy self.old }
@@ -53,6 +59,8 @@ impl<S: Shut, W: IdSource> State<S, W> {
         ensures exact { is_dropped self.old.table.realm (conn_of_letter letter)
             (act_of_letter letter) ≡ true → result ≡ Dropped }
         ensures handled { self.new.handled ≡ self.old.handled }
+        ensures chronicle { self.new.table.chronicle.chronicle
+            ≡ self.old.table.chronicle.chronicle }
         ensures stands { Stands self.new.table.realm self.new.table.rows.items }
         ensures knows { Knows self.new.table }
         ensures room { IsRoomy self.new }
@@ -70,6 +78,7 @@ impl<S: Shut, W: IdSource> State<S, W> {
 
     /// Handles a post, and names whom it found full, or cut for want of memory.
     pub fn handle<R: Wait>(&mut self, rt: &R, alloc: Global, post: Post<S>) -> Outcome
+        requires home { IsHomed (Some self.old.table.chronicle.chronicle) post }
         requires stands { Stands self.old.table.realm self.old.table.rows.items }
         requires knows { Knows self.old.table }
         requires room { IsRoomy self.old }
@@ -78,6 +87,8 @@ impl<S: Shut, W: IdSource> State<S, W> {
         ensures stands { Stands self.new.table.realm self.new.table.rows.items }
         ensures knows { Knows self.new.table }
         ensures room { IsRoomy self.new }
+        ensures chronicle { self.new.table.chronicle.chronicle
+            ≡ self.old.table.chronicle.chronicle }
     {
         match post {
             Post::Act(letter) => {

@@ -69,6 +69,7 @@ impl<S: Shut> Table<S> {
         requires empty { last_cut.old.items ≡ [] }
         ensures named { last_cut.new.items ≡ named_conns self.old.rows.items }
         ensures realm { self.new.realm ≡ self.old.realm }
+        ensures chronicle { self.new.chronicle.chronicle ≡ self.old.chronicle.chronicle }
         ensures rows { EachUnmarked self.old.rows.items self.new.rows.items }
         ensures knows { Knows self.new }
         ensures capacity { vec_capacity last_cut.new ≡ vec_capacity last_cut.old }

@@ -17,6 +17,7 @@
 mod actor;
 mod cuts;
 mod delivery;
+mod entering;
 mod entries;
 mod handle;
 mod last_cut;

@@ -3,31 +3,37 @@ ghost use Rattle.std.specs.Prelude.{◌≡◌, ◌<◌, false, true, ◌∷◌, 
 ghost use Rattle.std.specs.Option.{ForSome};
 ghost use Rattle.session.specs.declared.messages.item.Item.{Item as AnItem};
 ghost use Rattle.realm.specs.Yield.{owed};
-ghost use Rattle.realm_actor.specs.OutboxHistory.{Follows, Goes};
+ghost use Rattle.realm_actor.specs.OutboxHistory.{Follows, Goes, IsHome};
 
 use outbox_queue::{Full, Outbox, Stamped};
 use realm::Realm;
-use realm_inbox::{RealmHistory, Shut};
+use realm_inbox::{RealmChronicle, RealmHistory, RealmMoment, Shut};
 use session::Item;
 use std::cell::Cell;
 use std::sync::Wait;
 use wamp_ids::Conn;
 
-// Stamps the item, which is the next that the realm's history owes the outbox's session, by that history.
+// Stamps the item, which is the next that the realm's history owes the outbox's session, by that history, which its chronicle
+// has recorded, and records once more.
 fn stamp(
     outbox: &Outbox<Item, RealmHistory>,
     item: Item,
     realm: &Realm,
+    chronicle: &mut RealmChronicle,
 ) -> Stamped<Item, RealmHistory>
-    requires { slice_get (owed realm.now outbox.now.conn) (length outbox.now.added) ≡ Some item }
-    ensures { result ≡ record {
+    requires next { slice_get (owed realm.now outbox.now.conn) (length outbox.now.added)
+        ≡ Some item }
+    requires told { chronicle.old.history ≡ Some realm.now }
+    ensures stamped { result ≡ record {
       item = item;
       conn = outbox.now.conn;
       place = length outbox.now.added;
-      history = realm.now;
+      history = record { chronicle = chronicle.old.chronicle; history = realm.now };
     } }
+    ensures kept { chronicle.new ≡ chronicle.old }
 {
-    outbox.stamp(item, RealmHistory::of(realm))
+    let history = RealmHistory::by(chronicle, &RealmMoment::of(realm));
+    outbox.stamp(item, history)
 }
 
 /// The outbox of a session, its transport, and whether a step found the outbox full.
@@ -45,19 +51,28 @@ pub struct Held<S: Shut> {
 impl<S: Shut> Held<S> {
     /// Adds the item, which is the next that the realm's history owes, unless the outbox was found full before or is now. True
     /// where it is now.
-    pub fn offer<R: Wait>(&mut self, rt: &R, item: Item, realm: &Realm) -> bool
-        requires { (due : List AnItem) × Follows realm.now (item ∷ due) self.old.outbox }
+    pub fn offer<R: Wait>(
+        &mut self,
+        rt: &R,
+        item: Item,
+        realm: &Realm,
+        chronicle: &mut RealmChronicle,
+    ) -> bool
+        requires follows { (due : List AnItem) × Follows realm.now (item ∷ due) self.old.outbox }
+        requires told { chronicle.old.history ≡ Some realm.now }
+        requires home { IsHome chronicle.old.chronicle self.old.outbox }
         ensures follows { (due : List AnItem) → Follows realm.now (item ∷ due) self.old.outbox
             → Follows realm.now due self.new.outbox }
         ensures goes { Goes self.old.outbox self.new.outbox }
         ensures rose { result ≡ true → self.old.outbox.full_finds < self.new.outbox.full_finds }
         ensures same { result ≡ false → self.new.outbox.full_finds ≡ self.old.outbox.full_finds }
         ensures transport { self.new.transport ≡ self.old.transport }
+        ensures kept { chronicle.new ≡ chronicle.old }
     {
         if self.is_full {
             return false;
         }
-        let stamped = stamp(&self.outbox, item, realm);
+        let stamped = stamp(&self.outbox, item, realm, chronicle);
         if let Err(Full(_)) = self.outbox.add(rt, stamped) {
             self.is_full = true;
             self.transport.note_full();
@@ -103,22 +118,31 @@ pub struct Row<S: Shut> {
 }
 
 impl<S: Shut> Row<S> {
-    ghost use Rattle.realm_actor.specs.Rows.{Rose, RowDue, RowGoes, box_in};
+    ghost use Rattle.realm_actor.specs.Rows.{Rose, RowDue, RowGoes, RowHome, box_in};
     ghost use Rattle.realm_actor.specs.Tables.{BoxEnds};
 
     /// Offers the item, which is the next that the realm's history owes, to the row's outbox, if it is held. True where that is
     /// found full.
-    pub fn offer<R: Wait>(&mut self, rt: &R, item: Item, realm: &Realm) -> bool
-        requires { (due : List AnItem) × RowDue realm.now (item ∷ due) self.old }
+    pub fn offer<R: Wait>(
+        &mut self,
+        rt: &R,
+        item: Item,
+        realm: &Realm,
+        chronicle: &mut RealmChronicle,
+    ) -> bool
+        requires due { (due : List AnItem) × RowDue realm.now (item ∷ due) self.old }
+        requires told { chronicle.old.history ≡ Some realm.now }
+        requires home { RowHome chronicle.old.chronicle self.old }
         ensures due { (due : List AnItem) → RowDue realm.now (item ∷ due) self.old
             → RowDue realm.now due self.new }
         ensures goes { RowGoes self.old self.new }
         ensures same { result ≡ false → Rose (box_in self.old) (box_in self.new) → ⊥ }
+        ensures kept { chronicle.new ≡ chronicle.old }
     {
         let Some(held) = &mut self.held else {
             return false;
         };
-        if held.offer(rt, item, realm) {
+        if held.offer(rt, item, realm, chronicle) {
             self.is_cut = true;
             return true;
         }

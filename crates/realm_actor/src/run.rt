@@ -2,9 +2,9 @@
 ghost use Rattle.std.specs.Prelude.{◌≡◌, ℕ, ◌++◌, [], ◌∷◌, true, false, List, MatchOption};
 ghost use Rattle.realm.specs.History.{Begins};
 ghost use Rattle.realm_inbox.specs.declared.letter.Post.{Post as APost};
-ghost use Rattle.realm_inbox.specs.Seats.{InOrder};
-ghost use Rattle.realm_inbox.specs.EndViews.{received};
-ghost use Rattle.realm_actor.specs.ReceivedAhead.{NoneBehindStop, TakesNext};
+ghost use Rattle.realm_inbox.specs.Seats.{InOrder, EachHomed};
+ghost use Rattle.realm_inbox.specs.EndViews.{received, home_of};
+ghost use Rattle.realm_actor.specs.ReceivedAhead.{AreHomed, IsAt, NoneBehindStop, TakesNext};
 ghost use Rattle.realm_actor.specs.PostedOrder.{KeepsOrderSince, acts_for};
 ghost use Rattle.realm_actor.specs.Run.{KeepsHeld, Ran, SameAtSeats, is_stop};
 
@@ -57,6 +57,7 @@ impl<S: Shut, W: IdSource> Actor<S, W> {
     /// for them is refused, it receives one by one. Writers are woken after at most 64 posts, and always before it waits.
     pub fn run<R: Wait>(self, rt: &R, alloc: Global, inbox: &mut Inbox<S>) -> Actor<S, W>
         requires in_turn { SameAtSeats self.handled (received inbox.old) }
+        requires home { IsAt self.chronicle (home_of inbox.old) }
         ensures ran { (came : List (APost S)) × (received inbox.new ≡ received inbox.old ++ came)
             × InOrder (received inbox.old) came × Ran self came result }
         ensures begins { Begins self.history result.history }
@@ -64,6 +65,7 @@ impl<S: Shut, W: IdSource> Actor<S, W> {
         ensures order { (c : ℕ) → KeepsOrderSince self.history c (acts_for c result.handled)
             result.history }
         ensures held { KeepsHeld self result }
+        ensures chronicle { result.chronicle ≡ self.chronicle }
     {
         self.run_before(rt, alloc, inbox, &mut Nobody)
     }
@@ -77,6 +79,7 @@ impl<S: Shut, W: IdSource> Actor<S, W> {
         onlooker: &mut O,
     ) -> Actor<S, W>
         requires in_turn { SameAtSeats self.handled (received inbox.old) }
+        requires home { IsAt self.chronicle (home_of inbox.old) }
         ensures ran { (came : List (APost S)) × (received inbox.new ≡ received inbox.old ++ came)
             × InOrder (received inbox.old) came × Ran self came result }
         ensures begins { Begins self.history result.history }
@@ -84,6 +87,7 @@ impl<S: Shut, W: IdSource> Actor<S, W> {
         ensures order { (c : ℕ) → KeepsOrderSince self.history c (acts_for c result.handled)
             result.history }
         ensures held { KeepsHeld self result }
+        ensures chronicle { result.chronicle ≡ self.chronicle }
     {
         self.shows();
         let mut ahead = VecDeque::new(alloc);
@@ -112,9 +116,12 @@ impl<S: Shut, W: IdSource> Actor<S, W> {
         ahead: &mut VecDeque<Post<S>>,
         unwoken: &mut u64,
     ) -> Option<Post<S>>
-        ensures { MatchOption result ((received inbox.new ≡ received inbox.old)
+        ensures next { MatchOption result ((received inbox.new ≡ received inbox.old)
             × (ahead.old.items ≡ []) × (ahead.new.items ≡ []))
             (TakesNext (received inbox.old) (received inbox.new) ahead.old.items ahead.new.items) }
+        ensures home { EachHomed (home_of inbox.old) ahead.old.items
+            → AreHomed (home_of inbox.old) result ahead.new.items }
+        ensures same { home_of inbox.new ≡ home_of inbox.old }
     {
         let ready = ready_post(rt, inbox, ahead);
         self.wake_in_time(unwoken, ready.is_none());
@@ -141,9 +148,12 @@ fn ready_post<S: Shut, R: Wait>(
     inbox: &mut Inbox<S>,
     ahead: &mut VecDeque<Post<S>>,
 ) -> Option<Post<S>>
-    ensures { MatchOption result ((received inbox.new ≡ received inbox.old) × (ahead.old.items ≡ [])
-        × (ahead.new.items ≡ []))
+    ensures next { MatchOption result ((received inbox.new ≡ received inbox.old)
+        × (ahead.old.items ≡ []) × (ahead.new.items ≡ []))
         (TakesNext (received inbox.old) (received inbox.new) ahead.old.items ahead.new.items) }
+    ensures home { EachHomed (home_of inbox.old) ahead.old.items
+        → AreHomed (home_of inbox.old) result ahead.new.items }
+    ensures same { home_of inbox.new ≡ home_of inbox.old }
 {
     if let Some(post) = ahead.pop_front() {
         return Some(post);
@@ -155,9 +165,12 @@ fn ready_post<S: Shut, R: Wait>(
 
 // Receives the posts that are there, none behind a stop. Room for them is made first, so that none is lost for want of memory.
 fn receive_ahead<S: Shut, R: Wait>(rt: &R, inbox: &mut Inbox<S>, ahead: &mut VecDeque<Post<S>>)
-    ensures { (more : List (APost S)) × (received inbox.new ≡ received inbox.old ++ more)
+    ensures received { (more : List (APost S)) × (received inbox.new ≡ received inbox.old ++ more)
         × InOrder (received inbox.old) more × (ahead.new.items ≡ ahead.old.items ++ more)
         × NoneBehindStop more }
+    ensures home { EachHomed (home_of inbox.old) ahead.old.items
+        → EachHomed (home_of inbox.old) ahead.new.items }
+    ensures same { home_of inbox.new ≡ home_of inbox.old }
 {
     if ahead.try_reserve(MOST_AHEAD).is_err() {
         return;

@@ -119,6 +119,8 @@ impl<S: Shut, W: IdSource> State<S, W> {
         ensures err { IfErr result (λ back. (self.new.table.rows.items ≡ self.old.table.rows.items)
             × (back.1 ≡ drain)) }
         ensures realm { self.new.table.realm ≡ self.old.table.realm }
+        ensures chronicle { self.new.table.chronicle.chronicle
+            ≡ self.old.table.chronicle.chronicle }
         ensures knows { Knows self.old.table → Knows self.new.table }
         ensures words { self.new.words ≡ self.old.words }
         ensures last_cut { self.new.last_cut ≡ self.old.last_cut }
@@ -133,6 +135,8 @@ impl<S: Shut, W: IdSource> State<S, W> {
         ensures rows { self.new.table.rows.items ≡ filter (λ r. live self.old.table.realm r.conn)
             self.old.table.rows.items }
         ensures realm { self.new.table.realm ≡ self.old.table.realm }
+        ensures chronicle { self.new.table.chronicle.chronicle
+            ≡ self.old.table.chronicle.chronicle }
         ensures knows { Knows self.old.table → Knows self.new.table }
         ensures words { self.new.words ≡ self.old.words }
         ensures last_cut { self.new.last_cut ≡ self.old.last_cut }

@@ -13,11 +13,12 @@ ghost use Rattle.realm_actor.specs.Handle.{MatchOutcome};
 ghost use Rattle.realm_actor.specs.Invariant.{Knows};
 
 use crate::delivery::wake_all;
+use crate::entering::tell;
 use crate::outcome::Outcome;
 use crate::seat_guesses::SeatGuesses;
 use crate::table::Table;
 use realm::{Entry, Fault, Realm, RealmConfig};
-use realm_inbox::{GhostList, IdSource, Letter, Shut};
+use realm_inbox::{GhostList, IdSource, Letter, RealmChronicle, Shut};
 use std::alloc::Global;
 use std::sync::Wait;
 use wamp_ids::Conn;
@@ -43,9 +44,12 @@ impl<S: Shut, W: IdSource> State<S, W> {
         ensures knows { IfOk result (λ a. Knows a.table) }
     {
         let realm = Realm::new(alloc, config)?;
+        let mut chronicle = RealmChronicle::new(alloc)?;
+        tell(&mut chronicle, &realm);
         Ok(State {
             table: Table {
                 realm,
+                chronicle,
                 rows: Vec::new(alloc),
                 guesses: SeatGuesses::new(),
                 has_marks: false,
@@ -108,6 +112,8 @@ impl<S: Shut, W: IdSource> State<S, W> {
             × (W.given self.new.words ≡ W.given self.old.words ++ word ∷ drawn)) }
         ensures last_cut { self.new.last_cut ≡ self.old.last_cut }
         ensures handled { self.new.handled ≡ self.old.handled }
+        ensures chronicle { self.new.table.chronicle.chronicle
+            ≡ self.old.table.chronicle.chronicle }
         ensures sound { Sound self.new.table.realm self.new.table.rows.items }
         ensures knows { Knows self.old.table → Knows self.new.table }
     {

@@ -33,6 +33,7 @@ impl<S: Shut> Table<S> {
         ensures sound { Sound self.new.realm self.new.rows.items }
         ensures none { NoneFull self.new.rows.items }
         ensures knows { Knows self.old → Knows self.new }
+        ensures chronicle { self.new.chronicle.chronicle ≡ self.old.chronicle.chronicle }
     {
         let conn = self.rows[place].conn;
         if !self.realm.is_live(conn) {
@@ -59,6 +60,7 @@ impl<S: Shut> Table<S> {
         ensures sound { Sound self.new.realm self.new.rows.items }
         ensures none { NoneFull self.new.rows.items }
         ensures knows { Knows self.old → Knows self.new }
+        ensures chronicle { self.new.chronicle.chronicle ≡ self.old.chronicle.chronicle }
     {
         let mut all_closed = true;
         for place in 0..self.rows.len() {
@@ -84,6 +86,8 @@ impl<S: Shut, W: IdSource> State<S, W> {
         ensures stops { Stops result (working (W.given self.old.words) self.old)
             (working (W.given self.new.words) self.new) self.new.last_cut.items }
         ensures handled { self.new.handled ≡ self.old.handled }
+        ensures chronicle { self.new.table.chronicle.chronicle
+            ≡ self.old.table.chronicle.chronicle }
         ensures stands { Stands self.new.table.realm self.new.table.rows.items }
         ensures knows { Knows self.new.table }
         ensures room { IsRoomy self.new }

@@ -1,171 +1,23 @@
 //! A realm with a row for each session that is live or held.
-ghost use Rattle.std.specs.Prelude.{◌≡◌, true, false, [], OnOk, OnErr, IfOk, IfErr, IsOk, List, ℕ, ◌<◌, ◌≤◌, vec_len, vec_capacity};
-ghost use Rattle.std.specs.List.{insert};
-ghost use Rattle.realm.specs.History.{◌▷◌};
-ghost use Rattle.realm.specs.Words.{is_silent};
-ghost use Rattle.realm.specs.Sessions.{may_come, may_join, conn_of};
-ghost use Rattle.realm_actor.specs.declared.row.Row.{Row as ARow};
-ghost use Rattle.realm_actor.specs.Rows.{Ascending, EachDue, EachGoes, NoneRose};
-ghost use Rattle.realm_actor.specs.Tables.{EachEnds, EachWent, IsNewRow, Ready, Sound};
-ghost use Rattle.realm_actor.specs.Cuts.{NoneFull};
-ghost use Rattle.realm_actor.specs.Invariant.{Knows};
+ghost use Rattle.std.specs.Prelude.{◌≡◌, Some};
+ghost use Rattle.realm_actor.specs.Rows.{EachHome};
 
-use crate::delivery::{either, offer_all};
 use crate::row::Row;
-use crate::row_search::{find, place_in};
 use crate::seat_guesses::SeatGuesses;
-use realm::{Entry, Fault, Realm};
-use realm_inbox::Shut;
-use session::Item;
-use std::alloc::Global;
-use std::sync::Wait;
-use wamp_ids::Conn;
+use realm::Realm;
+use realm_inbox::{RealmChronicle, Shut};
 
-/// A realm, and a row for each of its sessions that is live or held, ascending by connection.
+/// A realm, the chronicle of its history, and a row for each of its sessions that is live or held, ascending by connection.
 #[derive(Drop)]
 pub struct Table<S: Shut> {
     pub realm: Realm,
+    pub chronicle: RealmChronicle,
     pub rows: Vec<Row<S>>,
     pub guesses: SeatGuesses,
     /// Whether a row may have a mark.
     pub has_marks: bool,
     /// Whether a row's session may have ended.
     pub has_ended: bool,
-}
-
-// Closes the outbox of the connection, unless its session is live.
-fn close_ended<S: Shut>(rows: &mut [Row<S>], conn: Conn, is_live: bool)
-    requires { Ascending rows.old }
-    ensures { EachEnds conn is_live rows.old rows.new }
-{
-    if is_live {
-        return;
-    }
-    let Some(place) = find(rows, rows.len(), conn) else {
-        return;
-    };
-    let row = &mut rows[place];
-    row.close();
-}
-
-// Adds what an entry gave, and closes the outbox of its connection, unless its session is live. True where an outbox was found
-// full.
-fn deliver<S: Shut, R: Wait>(
-    rt: &R,
-    rows: &mut Vec<Row<S>>,
-    guesses: &mut SeatGuesses,
-    given: &mut Vec<(Conn, Item)>,
-    realm: &Realm,
-    conn: Conn,
-    is_live: bool,
-) -> bool
-    requires ascending { Ascending rows.old.items }
-    requires due { EachDue realm.now given.old.items rows.old.items }
-    ensures rows { (mid : List (ARow _)) × EachGoes rows.old.items mid × EachDue realm.now [] mid
-        × EachEnds conn is_live mid rows.new.items }
-    ensures none { result ≡ false → NoneRose rows.old.items rows.new.items }
-{
-    let rows = rows.as_mut_slice();
-    let is_full = offer_all(rt, rows, guesses, given, realm);
-    close_ended(rows, conn, is_live);
-    is_full
-}
-
-impl<S: Shut> Table<S> {
-    /// The entry enters, and what it gives is added to the outboxes; that of its connection is closed where its session
-    /// isn't live any more. True where an outbox was found full.
-    pub fn enter<R: Wait>(
-        &mut self,
-        rt: &R,
-        alloc: Global,
-        entry: Entry,
-        conn: Conn,
-    ) -> Result<bool, Fault>
-        requires ready { Ready entry self.old.realm self.old.rows.items }
-        requires comes { may_come self.old.realm entry ≡ true }
-        requires own { conn_of entry ≡ conn }
-        ensures history { OnOk result (self.new.realm ≡ self.old.realm ▷ entry) }
-        ensures rows { OnOk result (EachWent self.old.rows.items self.new.rows.items) }
-        ensures sound { OnOk result (Sound self.new.realm self.new.rows.items) }
-        ensures none { IfOk result (λ is_full. is_full ≡ false → NoneFull self.old.rows.items
-            → NoneFull self.new.rows.items) }
-        ensures knows { OnOk result (Knows self.old → Knows self.new) }
-        ensures err { OnErr result (self.new ≡ self.old) }
-        ensures silent { is_silent entry ≡ true → IsOk result }
-    {
-        let mut given = self.realm.apply(alloc, entry)?;
-        let is_live = self.realm.is_live(conn);
-        let is_full = deliver(
-            rt,
-            &mut self.rows,
-            &mut self.guesses,
-            &mut given,
-            &self.realm,
-            conn,
-            is_live,
-        );
-        self.realm.give_back(given);
-        self.has_marks = either(self.has_marks, is_full);
-        self.has_ended = either(self.has_ended, !is_live);
-        Ok(is_full)
-    }
-
-    /// The Join enters with the row of its connection, and what it gives is added. True where an outbox was found full. Where
-    /// the Join is refused, the row comes back.
-    pub fn admit<R: Wait>(
-        &mut self,
-        rt: &R,
-        alloc: Global,
-        entry: Entry,
-        conn: Conn,
-        row: Row<S>,
-    ) -> Result<bool, Row<S>>
-        requires sound { Sound self.old.realm self.old.rows.items }
-        requires may { may_join self.old.realm conn ≡ true }
-        requires comes { may_come self.old.realm entry ≡ true }
-        requires own { conn_of entry ≡ conn }
-        requires new { IsNewRow conn row }
-        requires room { vec_len self.old.rows < vec_capacity self.old.rows }
-        ensures history { OnOk result (self.new.realm ≡ self.old.realm ▷ entry) }
-        ensures rows { OnOk result ((place : ℕ)
-            × EachWent (insert self.old.rows.items place row) self.new.rows.items) }
-        ensures sound { OnOk result (Sound self.new.realm self.new.rows.items) }
-        ensures none { IfOk result (λ is_full. is_full ≡ false → NoneFull self.old.rows.items
-            → NoneFull self.new.rows.items) }
-        ensures knows { OnOk result (Knows self.old → Knows self.new) }
-        ensures err { OnErr result (self.new ≡ self.old) }
-        ensures back { IfErr result (λ r. r ≡ row) }
-    {
-        let Ok(mut given) = self.realm.apply(alloc, entry) else {
-            return Err(row);
-        };
-        let is_live = self.realm.is_live(conn);
-        let place = place_in(self.rows.as_slice(), conn);
-        put(&mut self.rows, place, row);
-        let is_full = deliver(
-            rt,
-            &mut self.rows,
-            &mut self.guesses,
-            &mut given,
-            &self.realm,
-            conn,
-            is_live,
-        );
-        self.realm.give_back(given);
-        self.has_marks = either(self.has_marks, is_full);
-        self.has_ended = either(self.has_ended, !is_live);
-        Ok(is_full)
-    }
-}
-
-// Puts the row at the place, for which there is room.
-fn put<S: Shut>(rows: &mut Vec<Row<S>>, place: usize, row: Row<S>)
-    requires place { place ≤ vec_len rows.old }
-    requires room { vec_len rows.old < vec_capacity rows.old }
-    ensures { rows.new.items ≡ insert rows.old.items place row }
-{
-    match rows.insert(place, row) {
-        Ok(()) => {}
-        Err(_) => unreachable!(),
-    }
+    ghost told: { chronicle.history ≡ Some realm },
+    ghost home: { EachHome chronicle.chronicle rows.items },
 }

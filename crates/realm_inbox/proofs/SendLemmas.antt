@@ -31,8 +31,11 @@ use Rattle.crossbeam_utils.proofs.sync.parker.RuledParker.TheSendSync as parker
 use Rattle.crossbeam_utils.proofs.sync.parker.RuledUnparker.TheSendSync as unparker
 use Rattle.message_tree.proofs.SendLemmas.{octets_send, text_send}
 use Rattle.message_tree.specs.contracts.owned.Octets as Octets
-use Rattle.outbox_queue.proofs.SendLemmas.{outbox_send}
+use Rattle.outbox_queue.proofs.SendLemmas.{outbox_send, recorded_send}
 use Rattle.outbox_queue.specs.contracts.outbox.Outbox as Outbox
+use Rattle.outbox_queue.specs.contracts.recorded.Recorded as Recorded
+use Rattle.outbox_queue.specs.contracts.recorded.RecordedOwed.TheImpl as owed
+use Rattle.outbox_queue.specs.declared.owed.Owed as what
 use Rattle.session.proofs.SendLemmas.{item_send, said_send}
 use Rattle.session.specs.contracts.messages.item.Item as Item
 use Rattle.realm_inbox.specs.contracts.act.Act as Act
@@ -43,9 +46,8 @@ use Rattle.realm_inbox.specs.contracts.ends.Door as Door
 use Rattle.realm_inbox.specs.contracts.ends.Inbox as Inbox
 use Rattle.realm_inbox.specs.contracts.ends.Poster as Poster
 use Rattle.realm_inbox.specs.contracts.ends.Seat as Seat
-use Rattle.realm_inbox.specs.contracts.history.RealmHistory as RealmHistory
-use Rattle.realm_inbox.specs.contracts.history.RealmHistory.TheInside as history
-use Rattle.realm_inbox.specs.contracts.history.RealmHistoryOwedItem.TheImpl as owed
+use Rattle.realm_inbox.specs.contracts.history.RealmMoment as RealmMoment
+use Rattle.realm_inbox.specs.contracts.history.RealmMomentOwedItem.TheImpl as moment_owed
 use Rattle.realm_inbox.specs.contracts.joining.Joining as Joining
 use Rattle.realm_inbox.specs.contracts.letter.Halt as Halt
 use Rattle.realm_inbox.specs.contracts.letter.Letter as Letter
@@ -91,15 +93,22 @@ weight_send = declared_send Weight.the_type (held_send, tt)
 bells_send : IsSend Bells.the_row
 bells_send = declared_send Bells.the_type (as_row_send (Arc.the_field RoomBell.the_row Global.the_row global.ghosts) room_send, (search (unparker.the_field_send, unparker.the_send, crosses, heap.send, heap.sync, heap.frees, sendable) depth 60, tt))
 
-pub history_send : IsSend RealmHistory.the_row
-history_send = view_send _ _ _ _ _ (declared_send history.the_type (search (crosses, sendable) depth 60, tt))
+-- a realm's history, as its chronicle recorded it, and what it owes
+abbrev pub history : RattleType
+history = Recorded.the_row Item.the_row RealmMoment.the_row
 
-items_send : IsSend (Outbox.the_row Item.the_row RealmHistory.the_row owed.ghosts)
-items_send = outbox_send Item.the_row RealmHistory.the_row owed.ghosts item_send history_send
+abbrev pub history_owed : what.Ghosts history.Denot Item.the_row.Denot
+history_owed = owed.ghosts Item.the_row RealmMoment.the_row moment_owed.ghosts owed.no_dict owed.no_dict
+
+pub history_send : IsSend history
+history_send = recorded_send Item.the_row RealmMoment.the_row
+
+items_send : IsSend (Outbox.the_row Item.the_row history history_owed)
+items_send = outbox_send Item.the_row history history_owed item_send history_send
 
 module _ (S : RattleType) where
   joining_send : IsSend S → IsSend (Joining.the_row S)
-  joining_send s = declared_send (Joining.the_type S) (search (text_send, crosses, sendable) depth 60, (as_row_send (Outbox.the_field Item.the_row RealmHistory.the_row owed.ghosts) items_send, (as_row_send (row_field S) s, tt)))
+  joining_send s = declared_send (Joining.the_type S) (search (text_send, crosses, sendable) depth 60, (as_row_send (Outbox.the_field Item.the_row history history_owed) items_send, (as_row_send (row_field S) s, tt)))
 
   act_send : IsSend S → IsSend (Act.the_row S)
   act_send s = variants_send (Act.enum S) ((joining_send s, tt), ((said_send, tt), ((as_row_send (Octets.the_field) octets_send, tt), (tt, (tt, tt)))))

@@ -1,5 +1,6 @@
 -- What contracts see of an inbox's ends.
-use Rattle.std.specs.Prelude.{◌≡◌, ℕ, ◌+◌, ◌<◌, List, [], map, length, slice_index_or}
+use Rattle.std.specs.Prelude.{◌≡◌, Option, ℕ, ◌+◌, ◌<◌, List, [], map, length, slice_index_or}
+use Rattle.atomic_table.specs.Seated.{TableId}
 use Rattle.crossbeam_channel.specs.Claims.{view}
 use Rattle.crossbeam_channel.specs.Ends.{receives_on, ruled_capacity}
 use Rattle.realm_inbox.specs.declared.act.Act.{Act}
@@ -8,7 +9,7 @@ use Rattle.realm_inbox.specs.declared.ends.Door.{Door}
 use Rattle.realm_inbox.specs.declared.ends.Inbox.{Inbox}
 use Rattle.realm_inbox.specs.declared.ends.Seat.{Seat}
 use Rattle.realm_inbox.specs.declared.ends.Poster.{Poster}
-use Rattle.realm_inbox.specs.Ends.{Place, place_of, posted_in, received_in, stops_in}
+use Rattle.realm_inbox.specs.Ends.{home_in, Place, place_of, posted_in, received_in, stops_in}
 
 module _ {S : Type 0} where
   -- what the inbox gave so far, the oldest first
@@ -41,6 +42,16 @@ module _ {S : Type 0} where
   -- how many stops a door has posted
   abbrev pub stops : Door S → ℕ
   stops d = stops_in (view d.pass)
+
+  -- the chronicle of an inbox's realm, if one is picked
+  abbrev pub home_of : Inbox S → Option TableId
+  home_of i = home_in (view i.pass)
+
+  abbrev pub home_of_seat : Seat S → Option TableId
+  home_of_seat s = home_in (view s.pass)
+
+  abbrev pub home_of_poster : Poster S → Option TableId
+  home_of_poster p = home_of_seat p.seat
 
   -- which inbox an end belongs to
   abbrev pub inbox_of : Inbox S → Place S

@@ -1,5 +1,6 @@
 -- What was posted at a seat, of a list of posts, and which post is the next of its seat.
-use Rattle.std.specs.Prelude.{◌≡◌, ℕ, ◌+◌, ◌==◌, if◌then◌else◌, List, [], ◌∷◌, ◌++◌}
+use Rattle.std.specs.Prelude.{◌≡◌, Option, Some, ℕ, ◌+◌, ◌==◌, if◌then◌else◌, List, [], ◌∷◌, ◌++◌}
+use Rattle.atomic_table.specs.Seated.{TableId}
 use Rattle.wamp_ids.specs.Numbers.{seat_of}
 use Rattle.realm_inbox.specs.declared.joining.Joining.{Joining}
 use Rattle.realm_inbox.specs.declared.act.Act.{Act}
@@ -13,6 +14,10 @@ module _ {S : Type 0} where
   -- a Join brings an outbox of this connection
   abbrev pub BringsOwn : ℕ → Act S → Type 0
   BringsOwn c act = (joining : Joining S) → act ≡ Join joining → joining.outbox.conn ≡ c
+
+  -- where a Join brings an outbox of a chronicle, it is this one
+  abbrev pub BringsHome : Option TableId → Act S → Type 0
+  BringsHome home act = (joining : Joining S) (chronicle : TableId) → act ≡ Join joining → joining.outbox.chronicle ≡ Some chronicle → home ≡ Some chronicle
 
   abbrev pub conn_of_letter : Letter S → ℕ
   conn_of_letter l = l.conn
@@ -58,3 +63,13 @@ module _ {S : Type 0} where
   abbrev pub InOrder : List (Post S) → List (Post S) → Type 0
   InOrder front [] = Unit {0}
   InOrder front (p ∷ ps) = IsNext front p × InOrder (front ++ p ∷ []) ps
+
+  -- the same of a post
+  abbrev pub IsHomed : Option TableId → Post S → Type 0
+  IsHomed home (post.Act l) = BringsHome home (act_of_letter l)
+  IsHomed home (post.Stop halt) = Unit {0}
+
+  -- and of each of these posts
+  abbrev pub EachHomed : Option TableId → List (Post S) → Type 0
+  EachHomed home [] = Unit {0}
+  EachHomed home (p ∷ ps) = IsHomed home p × EachHomed home ps

@@ -5,7 +5,7 @@ ghost use Rattle.crossbeam_channel.specs.Ends.{sends_on, receives_on};
 ghost use Rattle.wamp_ids.specs.Numbers.{seat_of};
 ghost use Rattle.ghost_state.specs.GhostList.{items_of};
 ghost use mathlib.Core.List.{IsPrefix};
-ghost use Rattle.realm_inbox.specs.Seats.{IsNext, BringsOwn, at_seat};
+ghost use Rattle.realm_inbox.specs.Seats.{IsNext, IsHomed, BringsHome, BringsOwn, at_seat};
 ghost use Rattle.realm_inbox.specs.Ends.{place_of, posted_in, received_in, number_in, is_seat, is_reader, is_door, reads_any, posts_any};
 
 use crate::act::Act;
@@ -83,10 +83,10 @@ pub struct Inbox<S: Shut> {
 }
 
 impl<S: Shut> Inbox<S> {
-    ghost use Rattle.realm_inbox.specs.EndViews.{received, capacity, posted, poster_conn, inbox_of, inbox_of_poster};
+    ghost use Rattle.realm_inbox.specs.EndViews.{received, capacity, posted, poster_conn, home_of, inbox_of, inbox_of_poster};
 
     /// Waits for a post. It is the next of its seat: what had been posted there before it is exactly what was received of the seat.
-    /// `None` once each sender is gone: the door, each poster and each seat. It wakes who waits for room: with each post that it
+    /// A Join brings an outbox of the inbox's chronicle, or one for which none is picked. `None` once each sender is gone: the door, each poster and each seat. It wakes who waits for room: with each post that it
     /// gives, and before it waits itself.
     ///
     /// No post is missed, nor that the last sender is gone: each turn looks first, and then sleeps; a sender posts, or goes, and then
@@ -95,6 +95,7 @@ impl<S: Shut> Inbox<S> {
         ensures given { MatchOption result (received self.new ≡ received self.old)
             (λ p. received self.new ≡ received self.old ++ p ∷ []) }
         ensures in_turn { IfSome result (λ p. IsNext (received self.old) p) }
+        ensures home { IfSome result (λ p. IsHomed (home_of self.old) p) }
         ensures same { (inbox_of self.new ≡ inbox_of self.old)
             × (capacity self.new ≡ capacity self.old) }
     {
@@ -120,6 +121,7 @@ impl<S: Shut> Inbox<S> {
         ensures given { MatchOption result (received self.new ≡ received self.old)
             (λ p. received self.new ≡ received self.old ++ p ∷ []) }
         ensures in_turn { IfSome result (λ p. IsNext (received self.old) p) }
+        ensures home { IfSome result (λ p. IsHomed (home_of self.old) p) }
         ensures same { (inbox_of self.new ≡ inbox_of self.old)
             × (capacity self.new ≡ capacity self.old) }
     {
@@ -131,6 +133,7 @@ impl<S: Shut> Inbox<S> {
         ensures given { MatchResult result (λ p. received self.new ≡ received self.old ++ p ∷ [])
             (λ _. received self.new ≡ received self.old) }
         ensures in_turn { IfOk result (λ p. IsNext (received self.old) p) }
+        ensures home { IfOk result (λ p. IsHomed (home_of self.old) p) }
         ensures same { (inbox_of self.new ≡ inbox_of self.old)
             × (capacity self.new ≡ capacity self.old) }
     {
@@ -201,7 +204,7 @@ impl<S: Shut> Drop for Inbox<S> {
 }
 
 impl<S: Shut> Seat<S> {
-    ghost use Rattle.realm_inbox.specs.EndViews.{posted, posted_at, poster_conn, seat_number, inbox_of_poster, inbox_of_seat};
+    ghost use Rattle.realm_inbox.specs.EndViews.{posted, posted_at, poster_conn, seat_number, home_of_poster, home_of_seat, inbox_of_poster, inbox_of_seat};
 
     /// Its number, from 1 to 256. The connections of this seat take turns there.
     pub fn number(&self) -> u64
@@ -255,6 +258,7 @@ impl<S: Shut> Seat<S> {
     ) -> Result<(), Act<S>>
         requires seat { seat_of conn ≡ seat_number self.old }
         requires own { BringsOwn conn act }
+        requires home { BringsHome (home_of_seat self.old) act }
         ensures posted { MatchResult result (λ _.
             posted_at self.new ≡ posted_at self.old ++ (conn, act) ∷ []) (λ back. (back ≡ act)
             × (posted_at self.new ≡ posted_at self.old)) }
@@ -301,10 +305,10 @@ impl<S: Shut> Drop for Seat<S> {
 }
 
 impl<S: Shut> Poster<S> {
-    ghost use Rattle.realm_inbox.specs.EndViews.{posted, posted_at, poster_conn, seat_number, inbox_of_poster, inbox_of_seat};
+    ghost use Rattle.realm_inbox.specs.EndViews.{posted, posted_at, poster_conn, seat_number, home_of_poster, home_of_seat, inbox_of_poster, inbox_of_seat};
 
     /// Posts an act of its connection, which was read from so many octets of the client's, or from none. A Join brings an outbox of
-    /// this connection.
+    /// this connection, and of the chronicle of its inbox, if one is picked for the outbox.
     ///
     /// It waits while the inbox is full; and, where the octets are 256 or more, while [`MOST_WAITING`](crate::MOST_WAITING) of its
     /// seat wait that weren't handled yet: once it waits, until fewer than half of them do. Who ends that wait is who drops the
@@ -316,6 +320,7 @@ impl<S: Shut> Poster<S> {
     /// The act, where the inbox is gone. Nothing was posted then.
     pub fn post<R: Wait>(&mut self, rt: &R, act: Act<S>, octets: usize) -> Result<(), Act<S>>
         requires own { BringsOwn (poster_conn self.old) act }
+        requires home { BringsHome (home_of_poster self.old) act }
         ensures posted { MatchResult result (λ _.
             posted self.new ≡ posted self.old ++ (poster_conn self.old, act) ∷ [])
             (λ back. (back ≡ act) × (posted self.new ≡ posted self.old)) }

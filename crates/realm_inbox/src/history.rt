@@ -1,19 +1,19 @@
 //! A realm's history, as the outboxes know it.
-ghost use Rattle.std.specs.Prelude.{◌≡◌};
+ghost use Rattle.std.specs.Prelude.{◌≡◌, Some};
 
-use outbox_queue::Owed;
+use outbox_queue::{Book, Owed, Recorded};
 use realm::Realm;
 use session::Item;
 use std::marker::Model;
 use std::snapshot::Snapshot;
 
-/// The history of a realm at one moment. It takes no bytes.
+/// The history of a realm at one moment. It takes no bytes, and is tied to no chronicle.
 #[derive(Drop)]
-pub struct RealmHistory {
+pub struct RealmMoment {
     of: Snapshot<Realm>,
 }
 
-impl Model for RealmHistory {
+impl Model for RealmMoment {
     ghost use Rattle.realm.specs.History.{History};
     ghost use Rattle.realm.specs.body.HistoryCode.{history_code};
 
@@ -24,7 +24,7 @@ impl Model for RealmHistory {
     ghost view = { λ h. h.of.value };
 }
 
-impl Owed<Item> for RealmHistory {
+impl Owed<Item> for RealmMoment {
     ghost use Rattle.std.specs.Prelude.{⊤};
     ghost use Rattle.realm.specs.History.{Begins};
     ghost use Rattle.realm.specs.Yield.{owed as owed_by};
@@ -43,13 +43,19 @@ impl Owed<Item> for RealmHistory {
     ghost is_of = { λ h chronicle. ⊤ };
 }
 
-impl RealmHistory {
+impl RealmMoment {
     /// The history of the realm as it is now.
-    pub fn of(realm: &Realm) -> RealmHistory
+    pub fn of(realm: &Realm) -> RealmMoment
         ensures { result ≡ realm.now }
     {
-        RealmHistory {
+        RealmMoment {
             of: Snapshot::of(realm),
         }
     }
 }
+
+/// The chronicle of a realm's history, which the realm's actor alone makes longer.
+pub type RealmChronicle = Book<Item, RealmMoment>;
+
+/// The history of a realm at one moment, as its chronicle recorded it. It takes no bytes.
+pub type RealmHistory = Recorded<Item, RealmMoment>;

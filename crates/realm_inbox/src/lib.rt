@@ -12,8 +12,8 @@
 //!
 //! Nothing is promised of time: neither that a call returns while the inbox is full or empty, nor which seat comes first.
 //!
-//! It stands on `session` (what is posted), `message_tree` and `wamp_ids` (what that is made of), `outbox_queue` and `realm` (what a
-//! Join brings: an outbox of what a realm's history owes), and `ghost_state`.
+//! It stands on `session` (what is posted), `message_tree` and `wamp_ids` (what that is made of), `outbox_queue`, `chronicle` and
+//! `realm` (what a Join brings: an outbox of what a realm's history owes), and `ghost_state`.
 #![tactic(auto)]
 
 mod act;
@@ -34,7 +34,7 @@ pub use act::Act;
 pub use backlog::{Backlog, MOST_WAITING, Weight};
 pub use ends::{Door, Inbox, Poster, Seat};
 pub use ghost_state::GhostList;
-pub use history::RealmHistory;
+pub use history::{RealmChronicle, RealmHistory, RealmMoment};
 pub use joining::Joining;
 pub use letter::{Halt, Letter, Post};
 pub use posting::Posting;

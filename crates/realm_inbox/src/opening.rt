@@ -1,34 +1,36 @@
 //! How an inbox is made.
-ghost use Rattle.std.specs.Prelude.{◌≡◌, ℕ, ◌+◌, ◌<◌, ◌≤◌, List, [], ◌∷◌, ◌++◌, true, length, IfOk};
+ghost use Rattle.std.specs.Prelude.{◌≡◌, ℕ, ◌+◌, ◌<◌, ◌≤◌, List, [], ◌∷◌, ◌++◌, true, length, Option, Some, None, IfOk};
 ghost use Rattle.crossbeam_channel.specs.Claims.{view, IsSeatAt};
 ghost use Rattle.crossbeam_channel.specs.Ends.{sends_on};
-ghost use Rattle.realm_inbox.specs.Ends.{place_of, received_in, stops_in, is_reader, is_door};
-ghost use Rattle.realm_inbox.specs.EndViews.{received, capacity, stops, inbox_of, inbox_of_door, IsNewSeat, AreNewSeats};
+ghost use Rattle.atomic_table.specs.Seated.{TableId};
+ghost use Rattle.realm_inbox.specs.Ends.{home_in, place_of, received_in, stops_in, is_reader, is_door};
+ghost use Rattle.realm_inbox.specs.EndViews.{home_of, received, capacity, stops, inbox_of, inbox_of_door, IsNewSeat, AreNewSeats};
 
 use crate::backlog::Backlog;
 use crate::bells::Bells;
 use crate::ends::{Door, Inbox, Seat, Sending, Ticket};
 use crate::letter::Post;
 use crate::room_bell::RoomBell;
-use crate::rule::{CutDoor, CutSeat, InTurn, View};
+use crate::rule::{CutDoor, CutSeat, InTurn, Naming, View};
 use crate::transport::Shut;
 use crossbeam_channel::bounded_with;
 use crossbeam_utils::sync::Parker;
 use ghost_state::GhostList;
 use std::alloc::{AllocError, Global};
+use std::marker::Brand;
 use std::sync::Arc;
 use wamp_ids::SEATS;
 
-// What the door knows, cut before any seat.
-fn cut_door<S: Shut>(sender: &Sending<S>, pass: &mut Ticket<S>) -> Ticket<S>
+// What the door knows, cut before any seat. The caller picks the chronicle.
+fn cut_door<S: Shut, J: Naming>(sender: &Sending<S>, pass: &mut Ticket<S>) -> Ticket<S>
     requires pass { IsSeatAt (sends_on sender.now) pass.old × (is_reader 0 (view pass.old) ≡ true) }
     ensures pass { IsSeatAt (sends_on sender.now) pass.new × (is_reader 1 (view pass.new) ≡ true)
         × (received_in (view pass.new) ≡ received_in (view pass.old))
-        × (place_of pass.new ≡ place_of pass.old) }
+        × (home_in (view pass.new) ≡ J.home) }
     ensures door { IsSeatAt (sends_on sender.now) result × (is_door (view result) ≡ true)
-        × (stops_in (view result) ≡ 0) × (place_of result ≡ place_of pass.old) }
+        × (stops_in (view result) ≡ 0) × (place_of result ≡ place_of pass.new) }
 {
-    sender.another::<CutDoor>(pass)
+    sender.another::<CutDoor<J>>(pass)
 }
 
 // The next seat.
@@ -44,7 +46,8 @@ fn cut_seat<S: Shut>(
         × (is_reader number (view pass.old) ≡ true) }
     ensures pass { IfOk result (λ _. IsSeatAt (sends_on sender.now) pass.new
         × (is_reader (number + 1) (view pass.new) ≡ true)
-        × (received_in (view pass.new) ≡ received_in (view pass.old))) }
+        × (received_in (view pass.new) ≡ received_in (view pass.old))
+        × (place_of pass.new ≡ place_of pass.old)) }
     ensures seat { IfOk result (λ s. IsNewSeat (place_of pass.old) number s) }
 {
     let own = sender.try_clone()?;
@@ -73,7 +76,8 @@ fn cut_seats<S: Shut>(
         × (received_in (view pass.old) ≡ []) }
     requires count { count ≤ 256 }
     ensures pass { IfOk result (λ _. IsSeatAt (sends_on sender.now) pass.new
-        × (is_reader (count + 1) (view pass.new) ≡ true) × (received_in (view pass.new) ≡ [])) }
+        × (is_reader (count + 1) (view pass.new) ≡ true) × (received_in (view pass.new) ≡ [])
+        × (place_of pass.new ≡ place_of pass.old)) }
     ensures seats { IfOk result (λ s. (length s.items ≡ count)
         × AreNewSeats (place_of pass.old) s.items) }
 {
@@ -95,7 +99,8 @@ fn backlogs_of<S: Shut>(alloc: Global, seats: &[Seat<S>]) -> Result<Vec<Arc<Back
 }
 
 /// An inbox in which at most `cap` posts wait, 1 or more, with its door and its seats, from 1 to 256 in order. Nothing was posted
-/// or received yet.
+/// or received yet. No chronicle is picked for its realm: see [`inbox_of_chronicle`]. So a Join brings an outbox for which none is
+/// picked either.
 ///
 /// # Errors
 /// Where a growth of memory was refused. All that the ends ever take is taken here.
@@ -107,12 +112,46 @@ pub fn inbox<S: Shut>(
     ensures count { IfOk result (λ r. length r.1.items ≡ 256) }
     ensures seats { IfOk result (λ r. AreNewSeats (inbox_of r.2) r.1.items) }
     ensures inbox { IfOk result (λ r. (received r.2 ≡ []) × (capacity r.2 ≡ cap)) }
+    ensures home { IfOk result (λ r. home_of r.2 ≡ None) }
+    ensures door { IfOk result (λ r. (stops r.0 ≡ 0) × (inbox_of_door r.0 ≡ inbox_of r.2)) }
+{
+    make(alloc, cap)
+}
+
+/// The same as [`inbox`], where the caller picks the chronicle of the realm: a Join brings an outbox of that chronicle, or one for
+/// which none is picked.
+///
+/// # Errors
+/// Where a growth of memory was refused. All that the ends ever take is taken here.
+pub fn inbox_of_chronicle<S: Shut>(
+    alloc: Global,
+    cap: usize,
+) -> Result<(Door<S>, Vec<Seat<S>>, Inbox<S>), AllocError>
+    ghost chronicle: { TableId }
+    requires { 1 ≤ cap }
+    ensures count { IfOk result (λ r. length r.1.items ≡ 256) }
+    ensures seats { IfOk result (λ r. AreNewSeats (inbox_of r.2) r.1.items) }
+    ensures inbox { IfOk result (λ r. (received r.2 ≡ []) × (capacity r.2 ≡ cap)) }
+    ensures home { IfOk result (λ r. home_of r.2 ≡ Some chronicle) }
+    ensures door { IfOk result (λ r. (stops r.0 ≡ 0) × (inbox_of_door r.0 ≡ inbox_of r.2)) }
+{
+    make(alloc, cap)
+}
+
+// Makes an inbox, for the chronicle that the caller picks, or for none.
+fn make<S: Shut>(alloc: Global, cap: usize) -> Result<(Door<S>, Vec<Seat<S>>, Inbox<S>), AllocError>
+    ghost picked: { Option TableId }
+    requires { 1 ≤ cap }
+    ensures count { IfOk result (λ r. length r.1.items ≡ 256) }
+    ensures seats { IfOk result (λ r. AreNewSeats (inbox_of r.2) r.1.items) }
+    ensures inbox { IfOk result (λ r. (received r.2 ≡ []) × (capacity r.2 ≡ cap)) }
+    ensures home { IfOk result (λ r. home_of r.2 ≡ picked) }
     ensures door { IfOk result (λ r. (stops r.0 ≡ 0) × (inbox_of_door r.0 ≡ inbox_of r.2)) }
 {
     let (sender, receiver, mut pass) = bounded_with::<Post<S>, View<S>, InTurn, Global>(
         alloc, cap,
     )?;
-    let door = cut_door(&sender, &mut pass);
+    let door = cut_door::<S, Brand>(&sender, &mut pass);
     let parker = Parker::new(alloc)?;
     let room = Arc::new(alloc, RoomBell::new())?;
     let bells = Bells {

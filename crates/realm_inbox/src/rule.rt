@@ -2,25 +2,28 @@
 use crate::act::Act;
 use crate::letter::Post;
 use crate::transport::Shut;
+use chronicle::Name;
 use crossbeam_channel::protocol::{Join, Lesson, Outcome, Protocol, Split};
 use std::collections::LinkedList;
+use std::marker::{Brand, PhantomData};
 use wamp_ids::Conn;
 
-/// What an end of an inbox knows. No value of it is made.
+/// What an end of an inbox knows: the chronicle of its realm, if one is picked, and more. No value of it is made.
 pub enum View<S: Shut> {
     /// The receiving end: which number is cut next, and what was received, the oldest first. The number 0 is the door's.
-    Reader(u64, LinkedList<Post<S>>),
+    Reader(Option<Name>, u64, LinkedList<Post<S>>),
     /// A seat: its number, and what was posted there, the oldest first.
-    Seat(u64, LinkedList<(Conn, Act<S>)>),
+    Seat(Option<Name>, u64, LinkedList<(Conn, Act<S>)>),
     /// The door: how many stops it has posted.
-    Door(u64),
+    Door(Option<Name>, u64),
     /// The receiving end and a seat in one hand: what both know.
-    Both(u64, LinkedList<Post<S>>, u64, LinkedList<(Conn, Act<S>)>),
+    Both(Option<Name>, u64, LinkedList<Post<S>>, Option<Name>, u64, LinkedList<(Conn, Act<S>)>),
     /// No end.
     Nobody,
 }
 
-/// The rule of an inbox: what was posted at a seat is what was received of it, and then what waits of it.
+/// The rule of an inbox: what was posted at a seat is what was received of it, and then what waits of it, and no
+/// Join brings an outbox of another chronicle than the inbox's.
 pub struct InTurn;
 
 impl<S: Shut> Protocol<Post<S>, View<S>> for InTurn {
@@ -42,15 +45,31 @@ impl<S: Shut> Split<View<S>> for CutSeat {
     ghost right = { next_seat };
 }
 
-// Cuts the pass of the door from the reader's, before any seat's.
-pub(crate) struct CutDoor;
+/// The chronicle of an inbox's realm, which who makes the inbox picks.
+pub(crate) trait Naming {
+    ghost use Rattle.std.specs.Prelude.{Option};
+    ghost use Rattle.atomic_table.specs.Seated.{TableId};
 
-impl<S: Shut> Split<View<S>> for CutDoor {
-    ghost use Rattle.realm_inbox.specs.InTurn.{after_cut, new_door};
+    ghost home: { Option TableId };
+}
 
-    ghost left = { after_cut };
+impl Naming for Brand {
+    ghost use Rattle.std.specs.Prelude.{None};
 
-    ghost right = { λ v. new_door };
+    ghost home = { None };
+}
+
+// Cuts the pass of the door from the reader's, before any seat's, and names the chronicle.
+pub(crate) struct CutDoor<J> {
+    of: PhantomData<J>,
+}
+
+impl<S: Shut, J: Naming> Split<View<S>> for CutDoor<J> {
+    ghost use Rattle.realm_inbox.specs.InTurn.{after_door, new_door};
+
+    ghost left = { after_door J.home };
+
+    ghost right = { λ v. new_door J.home };
 }
 
 // A seat's pass is lent to the reader's, and comes back.

@@ -20,10 +20,8 @@ use Rattle.outbox_queue.specs.contracts.drain.Drain as Drain
 use Rattle.rawsocket.proofs.handshake.Serializer.TheSendSync as serializer
 use Rattle.rawsocket.specs.contracts.handshake.Serializer as Serializer
 use Rattle.connection.specs.contracts.pongs.OwedPongs as OwedPongs
-use Rattle.realm_inbox.proofs.SendLemmas.{backlog_send, backlog_sync, history_send, inbox_send, poster_send}
+use Rattle.realm_inbox.proofs.SendLemmas.{backlog_send, backlog_sync, history, history_owed, history_send, inbox_send, poster_send}
 use Rattle.realm_inbox.specs.contracts.ends.Poster as Poster
-use Rattle.realm_inbox.specs.contracts.history.RealmHistory as RealmHistory
-use Rattle.realm_inbox.specs.contracts.history.RealmHistoryOwedItem.TheImpl as owed
 use Rattle.realm_inbox.specs.declared.transport.Shut.{Ghosts}
 use Rattle.session.proofs.SendLemmas.{item_send}
 use Rattle.session.specs.contracts.messages.item.Item as Item
@@ -59,14 +57,14 @@ fate_send = search (maps, crosses, sendable) depth 60 fits 20000
 fate_sync : IsSync Fate.the_row
 fate_sync = search (maps, crosses, sendable) depth 60 fits 20000
 
-items_send : IsSend (Drain.the_row Item.the_row RealmHistory.the_row owed.ghosts)
-items_send = drain_send Item.the_row RealmHistory.the_row owed.ghosts item_send history_send
+items_send : IsSend (Drain.the_row Item.the_row history history_owed)
+items_send = drain_send Item.the_row history history_owed item_send history_send
 
 pongs_send : IsSend OwedPongs.the_row
 pongs_send = search (backlog_send, backlog_sync, crosses, sendable) depth 60
 
 pub writer_send : (O S : RattleType) → IsSend O → IsSend S → IsSend (Writer.the_row O S)
-writer_send O S o s = declared_send (Writer.the_type O S) (search (heap.send, crosses, sendable) depth 60, (search (plan_send, plan_sync, crosses, sendable) depth 60 fits 20000, (search (fate_send, fate_sync, crosses, sendable) depth 60 fits 20000, (search sendable, (as_row_send (Drain.the_field Item.the_row RealmHistory.the_row owed.ghosts) items_send, (pongs_send, (as_row_send (row_field O) o, (as_row_send (row_field S) s, (as_row_send Serializer.the_field serializer.the_field_send, (search sendable, tt))))))))))
+writer_send O S o s = declared_send (Writer.the_type O S) (search (heap.send, crosses, sendable) depth 60, (search (plan_send, plan_sync, crosses, sendable) depth 60 fits 20000, (search (fate_send, fate_sync, crosses, sendable) depth 60 fits 20000, (search sendable, (as_row_send (Drain.the_field Item.the_row history history_owed) items_send, (pongs_send, (as_row_send (row_field O) o, (as_row_send (row_field S) s, (as_row_send Serializer.the_field serializer.the_field_send, (search sendable, tt))))))))))
 
 option_send : (R : RattleType) → IsSend R → IsSend (Option.the_row R)
 option_send R s = search (sendable, crosses) depth 40

@@ -1,6 +1,6 @@
 //! The thread of a realm's actor.
-ghost use Rattle.std.specs.Prelude.{◌≡◌, length};
-ghost use Rattle.realm_inbox.specs.EndViews.{received};
+ghost use Rattle.std.specs.Prelude.{◌≡◌, None, length};
+ghost use Rattle.realm_inbox.specs.EndViews.{home_of, received};
 
 use crate::id_words::IdWords;
 use crate::plan::Plan;
@@ -29,6 +29,7 @@ pub struct ActorThread<S: Shut> {
     pub teller: Sender<bool>,
     pub marks: Arc<SeatTable>,
     ghost new: { length (received inbox) ≡ 0 },
+    ghost unpicked: { home_of inbox ≡ None },
 }
 
 impl<R: Wait + Copy, S: Shut> Work<R> for ActorThread<S> {

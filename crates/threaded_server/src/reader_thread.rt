@@ -1,5 +1,5 @@
 //! The thread that reads what a client sends.
-ghost use Rattle.std.specs.Prelude.{◌≡◌, option_map, IfOk, IfSome};
+ghost use Rattle.std.specs.Prelude.{◌≡◌, None, option_map, IfOk, IfSome};
 ghost use Rattle.std.specs.String.{string_bytes};
 
 use crate::closing::Closing;
@@ -255,6 +255,7 @@ fn begin<
     S: Shut + Send + 'static,
 >(rt: R, session: Session<O, S>, conn: Conn) -> Result<Begun<S>, Refused>
     ensures own { IfOk result (λ b. b.joining.outbox.conn ≡ conn) }
+    ensures unpicked { IfOk result (λ b. b.joining.outbox.chronicle ≡ None) }
     ensures authid { IfOk result (λ b. b.joining.authid ≡ option_map string_bytes
         session.entry.opened.authid) }
     ensures frames { IfOk result (λ b. (b.opened.early ≡ session.entry.opened.early)
@@ -297,6 +298,7 @@ fn make<O: Sink + Drop, S: Shut>(
     conn: Conn,
 ) -> Option<(Made<S>, Writer<O, S>)>
     ensures own { IfSome result (λ r. r.0.joining.outbox.conn ≡ conn) }
+    ensures unpicked { IfSome result (λ r. r.0.joining.outbox.chronicle ≡ None) }
     ensures authid { IfSome result (λ r. r.0.joining.authid ≡ option_map string_bytes
         session.entry.opened.authid) }
     ensures frames { IfSome result (λ r. (r.0.opened.early ≡ session.entry.opened.early)
@@ -344,6 +346,7 @@ fn joining<S: Shut>(
     transport: &S,
 ) -> Option<(Joining<S>, Drain<Item, RealmHistory>)>
     ensures own { IfSome result (λ r. r.0.outbox.conn ≡ conn) }
+    ensures unpicked { IfSome result (λ r. r.0.outbox.chronicle ≡ None) }
     ensures authid { IfSome result (λ r. r.0.authid ≡ option_map string_bytes authid) }
     ensures drain { IfSome result (λ r. r.1.conn ≡ conn) }
     ensures pair { IfSome result (λ r. r.0.outbox.queue ≡ r.1.queue) }

@@ -7,8 +7,14 @@ use Rattle.realm_actor.proofs.delivery.offer_one.Goals as goal
 pub returns-in_default-clause-due : goal.returns-in_default-clause-due
 returns-in_default-clause-due g c = λ rest due. due_nowhere c.args.realm.now c.args.rows.now c.args.conn c.args.item rest c.in_default.ensures due
 
-pub offer-is_full-requires : goal.offer-is_full-requires
-offer-is_full-requires g c =
+pub offer-is_full-requires-clause-home : goal.offer-is_full-requires-clause-home
+offer-is_full-requires-clause-home g c =
+    let s = c.in-Some.ensures in
+    let row = row_at c.args.rows.now c.in-Some.place c.index-rows-place.result s.1 s.0 s.2 in
+    c.requires.home c.in-Some.place _ row.0
+
+pub offer-is_full-requires-clause-due : goal.offer-is_full-requires-clause-due
+offer-is_full-requires-clause-due g c =
     let s = c.in-Some.ensures in
     let row = row_at c.args.rows.now c.in-Some.place c.index-rows-place.result s.1 s.0 s.2 in
     let due = c.requires.due in

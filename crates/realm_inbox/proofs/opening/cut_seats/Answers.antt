@@ -6,7 +6,7 @@ use Rattle.realm_inbox.proofs.opening.cut_seats.Goals as goal
 pub loop-i-preserved : goal.loop-i-preserved
 loop-i-preserved g c =
     let old = c.loop-i.invariant in let now = c.in_ok-seat.ensures.pass in let one = c.in_ok-seat.ensures.seat in let items = c.in_ok-push.ensures.items in
-    let same : place_of c.cut_seat.new.pass ≡ place_of c.loop-i.pass = λ i. ((now.0.0 ∙ sym old.0.0) i, (now.0.1 ∙ sym old.0.1) i) in (
+    let same : place_of c.cut_seat.new.pass ≡ place_of c.loop-i.pass = now.3 in (
       now.0,
       now.1,
       now.2 ∙ old.2,

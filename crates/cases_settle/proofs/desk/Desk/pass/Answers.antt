@@ -4,7 +4,7 @@ use Rattle.realm_inbox.specs.EndViews.{received, posted, poster_conn}
 use Rattle.realm_actor.specs.LastCut.{outbox_of}
 use Rattle.realm_actor.specs.OutboxHistory.{Box}
 use Rattle.cases_settle.specs.Posts.{is_of}
-use Rattle.cases_settle.proofs.SideLemmas.{own_back, goes_handled, joined_by}
+use Rattle.cases_settle.proofs.SideLemmas.{own_back, goes_handled, homed_here, joined_by}
 use Rattle.cases_settle.proofs.desk.Desk.pass.Goals as goal
 
 pub returns-then-is_own-clause-goes_on : goal.returns-then-is_own-clause-goes_on
@@ -33,3 +33,9 @@ returns-then-is_own-clause-joined g c = λ joining joins applied.
     (ap (λ k. is_of k c.in_ok-post.post) (sym c.conn.ensures) ∙ sym c.is_of-is_own.ensures ∙ c.if-is_own.true) in
     subst (λ k. (p : Box) × (outbox_of c.handle-outcome.new.self.rows k ≡ Some p) × (p.queue ≡ joining.outbox.queue)) w.2
     (joined_by c.handle-outcome.result c.in_ok-post.post w.0 c.args.self.now.actor c.handle-outcome.new.self joining w.1 c.handle-outcome.ensures.handles (w.3 ∙ joins) applied)
+
+pub post-requires-clause-home : goal.post-requires-clause-home
+post-requires-clause-home g c = λ joining picked is told. absurd (cc (sym (c.requires.home joining is) ∙ told))
+
+pub handle-outcome-requires-clause-home : goal.handle-outcome-requires-clause-home
+handle-outcome-requires-clause-home g c = homed_here c.args.self.now c.in_ok-post.post c.requires.same.1 c.in_ok-post.ensures.home

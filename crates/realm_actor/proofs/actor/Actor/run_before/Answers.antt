@@ -1,5 +1,8 @@
-use Rattle.std.proofs.Common.{sym, ◌∙◌}
-use Rattle.realm_inbox.specs.EndViews.{received}
+use Rattle.std.proofs.Common.{refl, sym, ◌∙◌, subst}
+use Rattle.realm_inbox.specs.EndViews.{received, home_of}
+use Rattle.realm_inbox.specs.Seats.{IsHomed, EachHomed}
+use Rattle.realm_actor.specs.ReceivedAhead.{IsAt}
+use Rattle.realm_actor.proofs.Homes.{homed_at}
 use Rattle.realm_actor.proofs.RunLemmas.{progress_none, progress_on, ends_left, ends_stopped}
 use Rattle.realm_actor.proofs.RunHistory.{ran_begins}
 use Rattle.realm_actor.proofs.LiveThroughRun.{ran_holds}
@@ -7,33 +10,52 @@ use Rattle.realm_actor.proofs.MadeHistory.{run_order, run_same}
 use Rattle.realm_actor.proofs.actor.Actor.run_before.Goals as goal
 
 pub loop-init : goal.loop-init
-loop-init g c = progress_none c.args.self (received c.args.inbox.now) c.new-ahead.result.items c.requires.in_turn c.new-ahead.ensures.items
+loop-init g c = record {
+  progress = progress_none c.args.self (received c.args.inbox.now) c.new-ahead.result.items c.requires.in_turn c.new-ahead.ensures.items;
+  home = subst (λ l. EachHomed (home_of c.args.inbox.now) l) (sym c.new-ahead.ensures.items) tt;
+  same = refl;
+  chronicle = refl;
+}
+
+pub take-requires : goal.take-requires
+take-requires g c =
+    let i = c.loop.invariant in
+    let h = c.in-Some-next_post in
+    let home = home_of c.args.inbox.now in
+    let at = subst (λ own. IsAt own home) (sym (c.sweep.ensures.chronicle ∙ i.chronicle)) c.requires.home in
+    record { home = homed_at c.sweep.new.self.chronicle home h.post at (subst (λ k. IsHomed k h.post) i.same (h.ensures.home (subst (λ k. EachHomed k c.loop.ahead.items) (sym i.same) i.home)).0) }
 
 pub returns-in_default : goal.returns-in_default
 returns-in_default g c =
-    let none = c.in_default.ensures in
-    let e = ends_left c.args.self c.loop.self c.sweep.new.self (received c.args.inbox.now) (received c.loop.inbox) (received c.next_post.new.inbox) c.loop.ahead.items c.loop.invariant c.sweep.ensures none.0 none.1 in
+    let none = c.in_default.ensures.next in
+    let e = ends_left c.args.self c.loop.self c.sweep.new.self (received c.args.inbox.now) (received c.loop.inbox) (received c.next_post.new.inbox) c.loop.ahead.items c.loop.invariant.progress c.sweep.ensures.sweeps none.0 none.1 in
     record {
       ran = e;
       begins = ran_begins e.3;
       in_turn = run_same c.args.self c.sweep.new.self (received c.args.inbox.now) (received c.next_post.new.inbox) c.requires.in_turn e;
       order = run_order c.args.self c.sweep.new.self e.0 c.shows.ensures.made e.3;
       held = ran_holds e.3;
+      chronicle = c.sweep.ensures.chronicle ∙ c.loop.invariant.chronicle;
     }
 
 pub loop-preserved : goal.loop-preserved
-loop-preserved g c =
-    progress_on c.args.self c.loop.self c.sweep.new.self c.take.new.self (received c.args.inbox.now) (received c.loop.inbox) (received c.next_post.new.inbox) c.loop.ahead.items c.next_post.new.ahead.items c.take.result c.in-Some-next_post.post
-    (sym c.is_stop-ends.ensures ∙ c.if-ends.false) c.loop.invariant c.sweep.ensures c.in-Some-next_post.ensures c.take.ensures.handles
+loop-preserved g c = let i = c.loop.invariant in record {
+  progress = progress_on c.args.self c.loop.self c.sweep.new.self c.take.new.self (received c.args.inbox.now) (received c.loop.inbox) (received c.next_post.new.inbox) c.loop.ahead.items c.next_post.new.ahead.items c.take.result c.in-Some-next_post.post
+      (sym c.is_stop-ends.ensures ∙ c.if-ends.false) c.loop.invariant.progress c.sweep.ensures.sweeps c.in-Some-next_post.ensures.next c.take.ensures.handles;
+  home = subst (λ k. EachHomed k c.next_post.new.ahead.items) i.same (c.in-Some-next_post.ensures.home (subst (λ k. EachHomed k c.loop.ahead.items) (sym i.same) i.home)).1;
+  same = c.in-Some-next_post.ensures.same ∙ i.same;
+  chronicle = c.take.ensures.chronicle ∙ c.sweep.ensures.chronicle ∙ i.chronicle;
+}
 
 pub returns-then-ends : goal.returns-then-ends
 returns-then-ends g c =
     let e = ends_stopped c.args.self c.loop.self c.sweep.new.self c.take.new.self (received c.args.inbox.now) (received c.loop.inbox) (received c.next_post.new.inbox) c.loop.ahead.items c.next_post.new.ahead.items c.take.result c.in-Some-next_post.post
-    (sym c.is_stop-ends.ensures ∙ c.if-ends.true) c.loop.invariant c.sweep.ensures c.in-Some-next_post.ensures c.take.ensures.handles in
+    (sym c.is_stop-ends.ensures ∙ c.if-ends.true) c.loop.invariant.progress c.sweep.ensures.sweeps c.in-Some-next_post.ensures.next c.take.ensures.handles in
     record {
       ran = e;
       begins = ran_begins e.3;
       in_turn = run_same c.args.self c.take.new.self (received c.args.inbox.now) (received c.next_post.new.inbox) c.requires.in_turn e;
       order = run_order c.args.self c.take.new.self e.0 c.shows.ensures.made e.3;
       held = ran_holds e.3;
+      chronicle = c.take.ensures.chronicle ∙ c.sweep.ensures.chronicle ∙ c.loop.invariant.chronicle;
     }

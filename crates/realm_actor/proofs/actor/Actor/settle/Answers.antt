@@ -32,8 +32,8 @@ returns-clause-ok g c =
     let a = c.self.inside.state in
     let b = c.settle.new.self in
     let n = c.settle.ensures in
-    let old : Acting g.row.S.Denot = record { history = a.table.realm; rows = a.table.rows.items; words = g.W.IdSource.given a.words; last_cut = a.last_cut.items; handled = map said (items_of a.handled) } in
-    let new : Acting g.row.S.Denot = record { history = b.table.realm; rows = b.table.rows.items; words = g.W.IdSource.given b.words; last_cut = b.last_cut.items; handled = map said (items_of b.handled) } in
+    let old : Acting g.row.S.Denot = record { chronicle = a.table.chronicle.chronicle; history = a.table.realm; rows = a.table.rows.items; words = g.W.IdSource.given a.words; last_cut = a.last_cut.items; handled = map said (items_of a.handled) } in
+    let new : Acting g.row.S.Denot = record { chronicle = b.table.chronicle.chronicle; history = b.table.realm; rows = b.table.rows.items; words = g.W.IdSource.given b.words; last_cut = b.last_cut.items; handled = map said (items_of b.handled) } in
     subst (λ (o : Acting g.row.S.Denot). IfOk c.settle.result (λ rest. Settles c.args.drain.conn c.args.drain rest.items.items o new)) c.self.view_is
     (IfOk-weaker c.settle.result _ _
     (λ rest e. settles c.args.drain.conn c.args.drain rest.items.items old new c.self.invariant.0 e n.realm (ap (g.W.IdSource.given) n.words) (ap (λ v. v.items) n.last_cut) (ap (λ (p : GhostList _). map said (items_of p)) n.handled))

@@ -1,4 +1,7 @@
-use Rattle.std.proofs.Common.{refl}
+use Rattle.std.proofs.Common.{refl, sym, subst}
+use Rattle.realm.specs.Sessions.{live}
+use Rattle.realm_actor.specs.Rows.{EachHome}
+use Rattle.realm_actor.proofs.Homes.{home_swept}
 use Rattle.realm_actor.proofs.TableInvariant.{knows_swept, none_swept}
 use Rattle.realm_actor.proofs.state.State.sweep.Goals as goal
 
@@ -7,3 +10,9 @@ returns-then-not-has_ended-clause-rows g c = none_swept c.args.self.now.table.re
 
 pub returns-clause-knows : goal.returns-clause-knows
 returns-clause-knows g c = knows_swept c.args.self.now.table _ c.sweep.ensures refl refl
+
+pub invariant_of-self-2 : goal.invariant_of-self-2
+invariant_of-self-2 g c =
+    let table = c.args.self.now.table in
+    let own = table.chronicle.chronicle in
+    record { told = table.told; home = subst (λ l. EachHome own l) (sym c.sweep.ensures) (home_swept own (λ r. live table.realm r.conn) table.rows.items table.home) }

@@ -1,7 +1,11 @@
 use Rattle.std.proofs.Common.{◌≡◌, refl, sym, ap, ◌∙◌, subst, []}
 use Rattle.std.specs.List.{insert}
 use Rattle.realm.specs.Sessions.{live}
-use Rattle.realm_actor.specs.Rows.{Ascending, PartsAt, EachDue, NoneRose}
+use Rattle.std.specs.Prelude.{Some}
+use Rattle.chronicle.specs.Recorded.{Reaches}
+use Rattle.realm.specs.History.{Begins, ◌▷◌, same, longer}
+use Rattle.realm_actor.specs.Rows.{Ascending, PartsAt, EachDue, EachHome, NoneRose}
+use Rattle.realm_actor.proofs.Homes.{home_inserted}
 use Rattle.realm_actor.specs.Tables.{EachEnds, EachWent, Ready, Sound}
 use Rattle.realm_actor.specs.Cuts.{NoneFull}
 use Rattle.realm_actor.proofs.EntryLemmas.{due_all, went_all, sound_after}
@@ -24,6 +28,18 @@ deliver-is_full-requires-clause-ascending g c =
     let put : c.put.new.rows.items ≡ insert table.rows.items i c.args.row = c.put.ensures in
     let ready = ready_join table.realm c.args.entry c.args.conn table.rows.items i c.args.row new.outbox c.requires.own c.requires.may c.requires.sound parts new.conn new.box new.of_conn new.empty new.unseen new.fresh new.never in
     subst (λ l. Ascending l) (sym put) ready.ascending
+
+pub tell-requires : goal.tell-requires
+tell-requires g c =
+    let table = c.args.self.now in
+    subst (λ k. Reaches Begins table.chronicle.history (Some k)) (sym c.in-Ok.ensures.history) (subst (λ a. Reaches Begins a (Some (table.realm ▷ c.args.entry))) (sym table.told) (longer same))
+
+pub deliver-is_full-requires-clause-home : goal.deliver-is_full-requires-clause-home
+deliver-is_full-requires-clause-home g c =
+    let table = c.args.self.now in
+    let own = table.chronicle.chronicle in
+    subst (λ k. EachHome k c.put.new.rows.items) (sym (ap (λ b. b.chronicle) c.tell.ensures))
+    (subst (λ l. EachHome own l) (sym c.put.ensures) (home_inserted own table.rows.items c.place_in-place.result c.args.row c.requires.home table.home))
 
 pub deliver-is_full-requires-clause-due : goal.deliver-is_full-requires-clause-due
 deliver-is_full-requires-clause-due g c =
@@ -105,3 +121,11 @@ returns-clause-knows g c =
     knows_join table _ table.realm c.args.entry c.args.conn i c.args.row c.deliver-is_full.result c.is_live-is_live.result c.requires.own (c.give_back.ensures ∙ is) refl lives new.conn new.is_cut new.is_lost
     (subst (λ l. EachWent l c.deliver-is_full.new.rows.items) put went)
     (λ quiet. subst (λ l. NoneRose l c.deliver-is_full.new.rows.items) put (c.deliver-is_full.ensures.none quiet)) c.either-self.ensures c.either-self-2.ensures
+
+pub invariant_of-self-2 : goal.invariant_of-self-2
+invariant_of-self-2 g c =
+    let d = c.deliver-is_full.ensures in
+    record {
+      told = ap (λ b. b.history) d.kept ∙ ap (λ b. b.history) c.tell.ensures ∙ ap (λ r. Some r) (sym c.give_back.ensures);
+      home = subst (λ own. EachHome own c.deliver-is_full.new.rows.items) (sym (ap (λ b. b.chronicle) d.kept)) d.home;
+    }

@@ -12,4 +12,5 @@ invariant-loop-place g l = record {
   sound : Sound l.self.realm l.self.rows.items;
   none : NoneFull l.self.rows.items;
   knows : Knows l.initial.self → Knows l.self;
+  chronicle : l.self.chronicle.chronicle ≡ l.initial.self.chronicle.chronicle;
 }

@@ -11,3 +11,4 @@ invariant-loop g l =
     × ((drawn : List ℕ) × Cuts (standing l.initial.self) drawn (standing l.self) × (g.W.IdSource.given l.words ≡ g.W.IdSource.given l.initial.words ++ drawn))
     × Sound l.self.realm l.self.rows.items
     × (Knows l.initial.self → Knows l.self)
+    × (l.self.chronicle.chronicle ≡ l.initial.self.chronicle.chronicle)

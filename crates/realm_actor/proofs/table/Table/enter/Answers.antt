@@ -1,10 +1,21 @@
 use Rattle.std.proofs.Common.{refl, sym, ap, ◌∙◌, subst, []}
 use Rattle.realm.specs.Sessions.{live}
-use Rattle.realm_actor.specs.Rows.{EachDue}
+use Rattle.std.specs.Prelude.{Some}
+use Rattle.chronicle.specs.Recorded.{Reaches}
+use Rattle.realm.specs.History.{Begins, ◌▷◌, same, longer}
+use Rattle.realm_actor.specs.Rows.{EachDue, EachHome}
 use Rattle.realm_actor.specs.Tables.{EachEnds, Sound}
 use Rattle.realm_actor.proofs.EntryLemmas.{due_all, went_all, sound_after}
 use Rattle.realm_actor.proofs.TableInvariant.{still_none, knows_entry}
 use Rattle.realm_actor.proofs.table.Table.enter.Goals as goal
+
+pub tell-requires : goal.tell-requires
+tell-requires g c =
+    let table = c.args.self.now in
+    subst (λ k. Reaches Begins table.chronicle.history (Some k)) (sym c.in_ok-given.ensures.history) (subst (λ a. Reaches Begins a (Some (table.realm ▷ c.args.entry))) (sym table.told) (longer same))
+
+pub deliver-is_full-requires-clause-home : goal.deliver-is_full-requires-clause-home
+deliver-is_full-requires-clause-home g c = let table = c.args.self.now in subst (λ own. EachHome own table.rows.items) (sym (ap (λ b. b.chronicle) c.tell.ensures)) table.home
 
 pub deliver-is_full-requires-clause-due : goal.deliver-is_full-requires-clause-due
 deliver-is_full-requires-clause-due g c =

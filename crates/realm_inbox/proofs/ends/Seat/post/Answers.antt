@@ -1,10 +1,10 @@
-use Rattle.std.proofs.Common.{[], ◌∷◌, ◌++◌, sym, ap, ◌∙◌}
+use Rattle.std.proofs.Common.{[], ◌∷◌, ◌++◌, refl, sym, ap, ◌∙◌}
 use Rattle.ghost_state.specs.GhostList.{items_of}
 use Rattle.realm_inbox.proofs.StepEffects.{posts_by, post_told}
 use Rattle.realm_inbox.proofs.ends.Seat.post.Goals as goal
 
 pub send-requires-clause-rule : goal.send-requires-clause-rule
-send-requires-clause-rule g c = let p = c.args.self.now in posts_by _ _ p.number _ _ p.sits c.requires.seat (ap items_of c.of-before.ensures ∙ p.told)
+send-requires-clause-rule g c = let p = c.args.self.now in posts_by _ _ p.number _ _ p.sits c.requires.seat (ap items_of c.of-before.ensures ∙ p.told) c.requires.home
 
 pub invariant_of-self : goal.invariant_of-self
 invariant_of-self g c =
@@ -19,3 +19,8 @@ invariant_of-self g c =
 
 pub returns-in-Ok-clause-posted : goal.returns-in-Ok-clause-posted
 returns-in-Ok-clause-posted g c = (post_told _ _ _ _ c.args.self.now.sits c.requires.seat c.in-Ok.ensures.rule).1
+
+pub returns-in-Ok-clause-same : goal.returns-in-Ok-clause-same
+returns-in-Ok-clause-same g c =
+    let now = c.send.ensures.channel.0 in let old = c.args.self.now.at in let home = (post_told _ _ _ _ c.args.self.now.sits c.requires.seat c.in-Ok.ensures.rule).2 in
+    (refl, λ i. ((now.0 ∙ sym old.0) i, (now.1 ∙ sym old.1) i, home i))

@@ -1,7 +1,7 @@
 use Rattle.std.proofs.Common.{ap, ◌∙◌}
 use Rattle.realm_actor.proofs.RowDelivery.{row_at}
 use Rattle.realm_actor.proofs.EntryLemmas.{ends_live, ends_nowhere, ends_here}
-use Rattle.realm_actor.proofs.table.close_ended.Goals as goal
+use Rattle.realm_actor.proofs.entering.close_ended.Goals as goal
 
 pub returns-then-is_live : goal.returns-then-is_live
 returns-then-is_live g c = ends_live c.args.conn c.args.is_live c.args.rows.now c.if-is_live.true

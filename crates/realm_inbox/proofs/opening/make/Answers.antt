@@ -1,5 +1,5 @@
 use Rattle.realm_inbox.proofs.RuleSteps.{begins}
-use Rattle.realm_inbox.proofs.opening.inbox.Goals as goal
+use Rattle.realm_inbox.proofs.opening.make.Goals as goal
 
 pub bounded_with-requires-clause-rule : goal.bounded_with-requires-clause-rule
 bounded_with-requires-clause-rule g c = begins
