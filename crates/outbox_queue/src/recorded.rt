@@ -100,8 +100,9 @@ impl<T, H: Owed<T>> Recorded<T, H> {
     }
 }
 
-// The same of what a drain saw last, if anything.
-fn check_seen<T, H: Owed<T>>(chronicle: &mut Book<T, H>, seen: Option<Recorded<T, H>>)
+/// Takes in what a drain saw last, if anything ([`Drain::into_seen`]), which is of this chronicle ([`Drain::shows`]), and shows that it
+/// begins the history that the chronicle has. So a drain needn't be kept to be tied ([`tie`]) later.
+pub fn check_seen<T, H: Owed<T>>(chronicle: &mut Book<T, H>, seen: Option<Recorded<T, H>>)
     requires { IsOf (λ h name. h.chronicle ≡ name) seen (Some chronicle.old.chronicle) }
     ensures same { chronicle.new ≡ chronicle.old }
     ensures begins { Reaches H.begins (history_of seen) chronicle.old.history }

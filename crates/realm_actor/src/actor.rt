@@ -1,5 +1,5 @@
 //! The actor of a realm.
-ghost use Rattle.std.specs.Prelude.{◌≡◌, Some, [], IfOk, IfErr, is_some};
+ghost use Rattle.std.specs.Prelude.{◌≡◌, Some, None, [], IfOk, IfErr, is_some};
 ghost use Rattle.realm_inbox.specs.Seats.{IsHomed};
 ghost use Rattle.realm.specs.Grants.{pairs_of};
 ghost use Rattle.realm.specs.History.{begun};
@@ -51,7 +51,8 @@ impl<S: Shut, W: IdSource> Model for Actor<S, W> {
 }
 
 impl<S: Shut, W: IdSource> Actor<S, W> {
-    /// An actor of a realm with an empty history. Each entry that draws a word gets the next one of `words`.
+    /// An actor of a realm with an empty history, and with a chronicle of its own. Each entry that draws a word gets the next one of
+    /// `words`.
     ///
     /// # Errors
     /// `NoMemory` where memory for the realm was refused.
@@ -65,8 +66,31 @@ impl<S: Shut, W: IdSource> Actor<S, W> {
           handled = [];
         }) }
     {
+        Actor::of_chronicle(alloc, RealmChronicle::new(alloc)?, config, words)
+    }
+
+    /// The same, with a chronicle that knows no history yet, as it was made: each outbox of that chronicle can join the realm.
+    ///
+    /// # Errors
+    /// `NoMemory` where memory for the realm was refused.
+    pub fn of_chronicle(
+        alloc: Global,
+        chronicle: RealmChronicle,
+        config: RealmConfig,
+        words: W,
+    ) -> Result<Actor<S, W>, Fault>
+        requires new { chronicle.history ≡ None }
+        ensures { IfOk result (λ a. a ≡ record {
+          chronicle = chronicle.chronicle;
+          history = begun (pairs_of config.grants.items);
+          rows = [];
+          words = W.given words;
+          last_cut = [];
+          handled = [];
+        }) }
+    {
         Ok(Actor {
-            state: State::new(alloc, config, words)?,
+            state: State::new(alloc, chronicle, config, words)?,
         })
     }
 

@@ -1,5 +1,5 @@
 //! What an actor keeps.
-ghost use Rattle.std.specs.Prelude.{◌≡◌, [], ◌∷◌, ◌++◌, true, false, List, ℕ, IfOk};
+ghost use Rattle.std.specs.Prelude.{◌≡◌, [], ◌∷◌, ◌++◌, true, false, List, ℕ, None, IfOk};
 ghost use Rattle.realm.specs.Grants.{pairs_of};
 ghost use Rattle.realm.specs.History.{begun};
 ghost use Rattle.realm.specs.Publications.{is_retained_full};
@@ -34,8 +34,15 @@ pub struct State<S: Shut, W: IdSource> {
 }
 
 impl<S: Shut, W: IdSource> State<S, W> {
-    /// An actor of a realm with an empty history.
-    pub fn new(alloc: Global, config: RealmConfig, words: W) -> Result<State<S, W>, Fault>
+    /// An actor of a realm with an empty history, which it tells the chronicle.
+    pub fn new(
+        alloc: Global,
+        mut chronicle: RealmChronicle,
+        config: RealmConfig,
+        words: W,
+    ) -> Result<State<S, W>, Fault>
+        requires new { chronicle.history ≡ None }
+        ensures chronicle { IfOk result (λ a. a.table.chronicle.chronicle ≡ chronicle.chronicle) }
         ensures history { IfOk result (λ a. a.table.realm ≡ begun (pairs_of config.grants.items)) }
         ensures rows { IfOk result (λ a. a.table.rows.items ≡ []) }
         ensures words { IfOk result (λ a. a.words ≡ words) }
@@ -44,7 +51,6 @@ impl<S: Shut, W: IdSource> State<S, W> {
         ensures knows { IfOk result (λ a. Knows a.table) }
     {
         let realm = Realm::new(alloc, config)?;
-        let mut chronicle = RealmChronicle::new(alloc)?;
         tell(&mut chronicle, &realm);
         Ok(State {
             table: Table {

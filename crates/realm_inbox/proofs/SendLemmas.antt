@@ -29,10 +29,15 @@ use Rattle.crossbeam_channel.specs.contracts.flavors.array.ruled.Receiving as Re
 use Rattle.crossbeam_channel.specs.contracts.flavors.array.ruled.Sending as Sending
 use Rattle.crossbeam_utils.proofs.sync.parker.RuledParker.TheSendSync as parker
 use Rattle.crossbeam_utils.proofs.sync.parker.RuledUnparker.TheSendSync as unparker
+use Rattle.chronicle.proofs.SendLemmas.{chronicle_send as book_send}
+use Rattle.chronicle.specs.contracts.chronicle.Chronicle as Chronicle
+use Rattle.chronicle.specs.declared.history.History as recorded
 use Rattle.message_tree.proofs.SendLemmas.{octets_send, text_send}
 use Rattle.message_tree.specs.contracts.owned.Octets as Octets
 use Rattle.outbox_queue.proofs.SendLemmas.{outbox_send, recorded_send}
 use Rattle.outbox_queue.specs.contracts.outbox.Outbox as Outbox
+use Rattle.outbox_queue.specs.contracts.recorded.Moment as Moment
+use Rattle.outbox_queue.specs.contracts.recorded.MomentHistory.TheImpl as moment_history
 use Rattle.outbox_queue.specs.contracts.recorded.Recorded as Recorded
 use Rattle.outbox_queue.specs.contracts.recorded.RecordedOwed.TheImpl as owed
 use Rattle.outbox_queue.specs.declared.owed.Owed as what
@@ -102,6 +107,16 @@ history_owed = owed.ghosts Item.the_row RealmMoment.the_row moment_owed.ghosts o
 
 pub history_send : IsSend history
 history_send = recorded_send Item.the_row RealmMoment.the_row
+
+-- the chronicle of a realm's history
+abbrev pub moment : RattleType
+moment = Moment.the_row Item.the_row RealmMoment.the_row
+
+abbrev pub moment_recorded : recorded.Ghosts moment.Denot
+moment_recorded = moment_history.ghosts Item.the_row RealmMoment.the_row moment_owed.ghosts moment_history.no_dict moment_history.no_dict
+
+pub chronicle_send : IsSend (Chronicle.the_row moment moment_recorded)
+chronicle_send = book_send moment moment_recorded
 
 items_send : IsSend (Outbox.the_row Item.the_row history history_owed)
 items_send = outbox_send Item.the_row history history_owed item_send history_send

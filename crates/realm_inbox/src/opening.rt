@@ -9,6 +9,7 @@ ghost use Rattle.realm_inbox.specs.EndViews.{home_of, received, capacity, stops,
 use crate::backlog::Backlog;
 use crate::bells::Bells;
 use crate::ends::{Door, Inbox, Seat, Sending, Ticket};
+use crate::history::RealmChronicle;
 use crate::letter::Post;
 use crate::room_bell::RoomBell;
 use crate::rule::{CutDoor, CutSeat, InTurn, Naming, View};
@@ -115,31 +116,35 @@ pub fn inbox<S: Shut>(
     ensures home { IfOk result (λ r. home_of r.2 ≡ None) }
     ensures door { IfOk result (λ r. (stops r.0 ≡ 0) × (inbox_of_door r.0 ≡ inbox_of r.2)) }
 {
-    make(alloc, cap)
+    make(alloc, cap, None)
 }
 
-/// The same as [`inbox`], where the caller picks the chronicle of the realm: a Join brings an outbox of that chronicle, or one for
-/// which none is picked.
+/// The same as [`inbox`], of a realm whose history this chronicle records: a Join brings an outbox of this chronicle, or one for which
+/// none is picked.
 ///
 /// # Errors
 /// Where a growth of memory was refused. All that the ends ever take is taken here.
 pub fn inbox_of_chronicle<S: Shut>(
     alloc: Global,
     cap: usize,
+    chronicle: &RealmChronicle,
 ) -> Result<(Door<S>, Vec<Seat<S>>, Inbox<S>), AllocError>
-    ghost chronicle: { TableId }
     requires { 1 ≤ cap }
     ensures count { IfOk result (λ r. length r.1.items ≡ 256) }
     ensures seats { IfOk result (λ r. AreNewSeats (inbox_of r.2) r.1.items) }
     ensures inbox { IfOk result (λ r. (received r.2 ≡ []) × (capacity r.2 ≡ cap)) }
-    ensures home { IfOk result (λ r. home_of r.2 ≡ Some chronicle) }
+    ensures home { IfOk result (λ r. home_of r.2 ≡ Some chronicle.now.chronicle) }
     ensures door { IfOk result (λ r. (stops r.0 ≡ 0) × (inbox_of_door r.0 ≡ inbox_of r.2)) }
 {
-    make(alloc, cap)
+    make(alloc, cap, Some(chronicle))
 }
 
-// Makes an inbox, for the chronicle that the caller picks, or for none.
-fn make<S: Shut>(alloc: Global, cap: usize) -> Result<(Door<S>, Vec<Seat<S>>, Inbox<S>), AllocError>
+// Makes an inbox of the chronicle, or of none: the caller picks which by it.
+fn make<S: Shut>(
+    alloc: Global,
+    cap: usize,
+    chronicle: Option<&RealmChronicle>,
+) -> Result<(Door<S>, Vec<Seat<S>>, Inbox<S>), AllocError>
     ghost picked: { Option TableId }
     requires { 1 ≤ cap }
     ensures count { IfOk result (λ r. length r.1.items ≡ 256) }
@@ -148,6 +153,7 @@ fn make<S: Shut>(alloc: Global, cap: usize) -> Result<(Door<S>, Vec<Seat<S>>, In
     ensures home { IfOk result (λ r. home_of r.2 ≡ picked) }
     ensures door { IfOk result (λ r. (stops r.0 ≡ 0) × (inbox_of_door r.0 ≡ inbox_of r.2)) }
 {
+    let _ = chronicle;
     let (sender, receiver, mut pass) = bounded_with::<Post<S>, View<S>, InTurn, Global>(
         alloc, cap,
     )?;

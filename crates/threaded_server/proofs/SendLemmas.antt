@@ -15,12 +15,13 @@ use Rattle.std.specs.contracts.option.Option as Option
 use Rattle.std.specs.contracts.sync.Arc as Arc
 use Rattle.std.specs.contracts.sync.Mutex as Mutex
 use Rattle.std.specs.contracts.vec.Vec as Vec
+use Rattle.chronicle.specs.contracts.chronicle.Chronicle as Chronicle
 use Rattle.outbox_queue.proofs.SendLemmas.{drain_send}
 use Rattle.outbox_queue.specs.contracts.drain.Drain as Drain
 use Rattle.rawsocket.proofs.handshake.Serializer.TheSendSync as serializer
 use Rattle.rawsocket.specs.contracts.handshake.Serializer as Serializer
 use Rattle.connection.specs.contracts.pongs.OwedPongs as OwedPongs
-use Rattle.realm_inbox.proofs.SendLemmas.{backlog_send, backlog_sync, history, history_owed, history_send, inbox_send, poster_send}
+use Rattle.realm_inbox.proofs.SendLemmas.{backlog_send, backlog_sync, chronicle_send, history, history_owed, history_send, moment, moment_recorded, inbox_send, poster_send}
 use Rattle.realm_inbox.specs.contracts.ends.Poster as Poster
 use Rattle.realm_inbox.specs.declared.transport.Shut.{Ghosts}
 use Rattle.session.proofs.SendLemmas.{item_send}
@@ -96,7 +97,7 @@ module _ (I O S : RattleType) (shut : Ghosts S.Denot) where
 module _ (S : RattleType) (shut : Ghosts S.Denot) where
   pub actor_work_send : IsSend S → IsSend (ActorThread.the_row S shut)
   actor_work_send s = declared_send (ActorThread.the_type S shut)
-      (search (heap.send, crosses, sendable) depth 60, (search (plan_send, plan_sync, crosses, sendable) depth 60 fits 20000, (search sendable, (search (maps, crosses, sendable) depth 60 fits 20000, (search (words_send, maps, crosses, sendable) depth 60 fits 20000, (inbox_send S shut s, (search (crosses, sendable) depth 60 fits 20000, (search (marks_send, marks_sync, crosses, sendable) depth 60 fits 20000, tt))))))))
+      (search (heap.send, crosses, sendable) depth 60, (search (plan_send, plan_sync, crosses, sendable) depth 60 fits 20000, (search sendable, (search (maps, crosses, sendable) depth 60 fits 20000, (search (words_send, maps, crosses, sendable) depth 60 fits 20000, (as_row_send (Chronicle.the_field moment moment_recorded) chronicle_send, (inbox_send S shut s, (search (crosses, sendable) depth 60 fits 20000, (search (marks_send, marks_sync, crosses, sendable) depth 60 fits 20000, tt)))))))))
 
 -- a handle that marks a fate
 pub marked_send : (S : RattleType) → IsSend S → IsSend (Marked.the_row S)

@@ -1,5 +1,5 @@
 //! The thread of a realm's actor.
-ghost use Rattle.std.specs.Prelude.{◌≡◌, None, length};
+ghost use Rattle.std.specs.Prelude.{◌≡◌, Some, None, length};
 ghost use Rattle.realm_inbox.specs.EndViews.{home_of, received};
 
 use crate::id_words::IdWords;
@@ -10,7 +10,7 @@ use crate::work::Work;
 use crossbeam_channel::Sender;
 use realm::RealmConfig;
 use realm_actor::{Actor, Onlooker};
-use realm_inbox::{Act, Inbox, Post, Shut};
+use realm_inbox::{Act, Inbox, Post, RealmChronicle, Shut};
 use std::alloc::Global;
 use std::sync::{Arc, Wait};
 use wamp_ids::SEATS;
@@ -24,12 +24,15 @@ pub struct ActorThread<S: Shut> {
     pub realm: usize,
     pub config: RealmConfig,
     pub words: IdWords,
+    /// Of the realm's history: nothing is recorded yet.
+    pub chronicle: RealmChronicle,
     pub inbox: Inbox<S>,
     /// It is told whether there was memory for the realm, and then, once the actor has ended, that the marks are set.
     pub teller: Sender<bool>,
     pub marks: Arc<SeatTable>,
     ghost new: { length (received inbox) ≡ 0 },
-    ghost unpicked: { home_of inbox ≡ None },
+    ghost begun: { chronicle.history ≡ None },
+    ghost home: { home_of inbox ≡ Some chronicle.chronicle },
 }
 
 impl<R: Wait + Copy, S: Shut> Work<R> for ActorThread<S> {
@@ -44,11 +47,12 @@ impl<R: Wait + Copy, S: Shut> Work<R> for ActorThread<S> {
             realm,
             config,
             words,
+            chronicle,
             mut inbox,
             teller,
             marks,
         } = self;
-        let Ok(actor) = Actor::new(alloc, config, words) else {
+        let Ok(actor) = Actor::of_chronicle(alloc, chronicle, config, words) else {
             let _ = teller.send(&rt, false);
             return;
         };

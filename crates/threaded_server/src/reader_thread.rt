@@ -1,6 +1,8 @@
 //! The thread that reads what a client sends.
-ghost use Rattle.std.specs.Prelude.{◌≡◌, None, option_map, IfOk, IfSome};
+ghost use Rattle.std.specs.Prelude.{◌≡◌, Option, option_map, IfOk, IfSome};
 ghost use Rattle.std.specs.String.{string_bytes};
+ghost use Rattle.atomic_table.specs.Seated.{TableId};
+ghost use Rattle.realm_inbox.specs.EndViews.{home_of_poster, poster_conn};
 
 use crate::closing::Closing;
 use crate::farewell::FarewellPoster;
@@ -13,7 +15,7 @@ use crate::writer_thread::{Writer, Written};
 use connection::{AskedPongs, EncodingPoster, PongPoster, ReadEnd, Using, read_posts, share_pongs};
 use message_tree::Text;
 use notices::Reason;
-use outbox_queue::{Drain, pair};
+use outbox_queue::{Drain, pair_of};
 use rawsocket::devices::{Sink, Source};
 use realm_inbox::{Act, Joining, Poster, RealmHistory, Shut};
 use session::{Fault, Item, Opened, open_session};
@@ -147,7 +149,7 @@ fn run_session<
     let broker = session.broker;
     let alloc = broker.alloc;
     let limit = session.opened.limit.min(MOST_OCTETS);
-    let begun = match begin(rt, session, poster.conn()) {
+    let begun = match begin(rt, session, &poster) {
         Ok(begun) => begun,
         Err(refused) => return (poster, refused.reason()),
     };
@@ -253,16 +255,16 @@ fn begin<
     R: Threads + Wait + Copy + Send + 'static,
     O: Sink + Drop + Send + 'static,
     S: Shut + Send + 'static,
->(rt: R, session: Session<O, S>, conn: Conn) -> Result<Begun<S>, Refused>
-    ensures own { IfOk result (λ b. b.joining.outbox.conn ≡ conn) }
-    ensures unpicked { IfOk result (λ b. b.joining.outbox.chronicle ≡ None) }
+>(rt: R, session: Session<O, S>, poster: &Poster<S>) -> Result<Begun<S>, Refused>
+    ensures own { IfOk result (λ b. b.joining.outbox.conn ≡ poster_conn poster.now) }
+    ensures home { IfOk result (λ b. b.joining.outbox.chronicle ≡ home_of_poster poster.now) }
     ensures authid { IfOk result (λ b. b.joining.authid ≡ option_map string_bytes
         session.entry.opened.authid) }
     ensures frames { IfOk result (λ b. (b.opened.early ≡ session.entry.opened.early)
         × (b.opened.deframer ≡ session.entry.opened.deframer)
         × (b.opened.serializer ≡ session.entry.opened.serializer)) }
 {
-    let Some((made, writer)) = make(session, conn) else {
+    let Some((made, writer)) = make(session, poster) else {
         return Err(Refused::Memory);
     };
     let Made {
@@ -295,10 +297,13 @@ struct Made<S: Shut> {
 // What a session begins with. None where memory was refused.
 fn make<O: Sink + Drop, S: Shut>(
     session: Session<O, S>,
-    conn: Conn,
+    poster: &Poster<S>,
 ) -> Option<(Made<S>, Writer<O, S>)>
-    ensures own { IfSome result (λ r. r.0.joining.outbox.conn ≡ conn) }
-    ensures unpicked { IfSome result (λ r. r.0.joining.outbox.chronicle ≡ None) }
+    ensures own { IfSome result (λ r. r.0.joining.outbox.conn ≡ poster_conn poster.now) }
+    ensures home { IfSome result (λ r. r.0.joining.outbox.chronicle ≡ home_of_poster poster.now) }
+    ensures drain { IfSome result (λ r. (r.1.drain.conn ≡ poster_conn poster.now)
+        × (r.1.drain.chronicle ≡ home_of_poster poster.now)
+        × (r.1.drain.queue ≡ r.0.joining.outbox.queue)) }
     ensures authid { IfSome result (λ r. r.0.joining.authid ≡ option_map string_bytes
         session.entry.opened.authid) }
     ensures frames { IfSome result (λ r. (r.0.opened.early ≡ session.entry.opened.early)
@@ -314,7 +319,7 @@ fn make<O: Sink + Drop, S: Shut>(
     let Broker { alloc, plan, fate } = broker;
     let in_use = plan.in_use.get(opened.realm)?;
     let using = in_use.enter(opened.serializer).ok()?;
-    let (joining, drain) = joining(alloc, plan, opened.authid.take(), conn, transport)?;
+    let (joining, drain) = joining(alloc, plan, opened.authid.take(), poster, transport)?;
     let (pongs, owed) = share_pongs(alloc).ok()?;
     let writer = Writer {
         alloc,
@@ -337,21 +342,22 @@ fn make<O: Sink + Drop, S: Shut>(
     Some((made, writer))
 }
 
-// What the connection brings to join, with an outbox of its own, and the other end of that.
+// What the connection brings to join, with an outbox of its own, whose chronicle the caller picks, and the other end of that.
 fn joining<S: Shut>(
     alloc: Global,
     plan: &Plan,
     authid: Option<String>,
-    conn: Conn,
+    poster: &Poster<S>,
     transport: &S,
 ) -> Option<(Joining<S>, Drain<Item, RealmHistory>)>
-    ensures own { IfSome result (λ r. r.0.outbox.conn ≡ conn) }
-    ensures unpicked { IfSome result (λ r. r.0.outbox.chronicle ≡ None) }
+    ghost home: { Option TableId }
+    ensures own { IfSome result (λ r. r.0.outbox.conn ≡ poster_conn poster.now) }
+    ensures home { IfSome result (λ r. r.0.outbox.chronicle ≡ home) }
     ensures authid { IfSome result (λ r. r.0.authid ≡ option_map string_bytes authid) }
-    ensures drain { IfSome result (λ r. r.1.conn ≡ conn) }
+    ensures drain { IfSome result (λ r. (r.1.conn ≡ poster_conn poster.now) × (r.1.chronicle ≡ home)) }
     ensures pair { IfSome result (λ r. r.0.outbox.queue ≡ r.1.queue) }
 {
-    let (outbox, drain) = pair::<Item, RealmHistory>(alloc, conn.value(), plan.outbox).ok()?;
+    let (outbox, drain) = pair_of::<Item, RealmHistory>(alloc, poster.conn().value(), plan.outbox).ok()?;
     let joining = Joining {
         authid: authid.map(Text::from_string),
         outbox,

@@ -20,8 +20,8 @@ use crossbeam_channel::bounded;
 use notices::Refusal;
 use rawsocket::devices::{Sink, Source};
 use realm::RealmConfig;
-use realm_inbox::Shut;
-use realm_inbox::opening::inbox;
+use realm_inbox::opening::inbox_of_chronicle;
+use realm_inbox::{RealmChronicle, Shut};
 use std::alloc::{AllocError, Global};
 use std::random::RandomSource;
 use std::sync::atomic::{AtomicBool, Ordering};
@@ -159,7 +159,8 @@ fn open_realm<R: Threads + Wait + RandomSource + Copy + Send + 'static, S: Shut 
     name: &Topic,
 ) -> Result<(), AllocError> {
     let alloc = connection_table.alloc;
-    let (door, seats, inbox) = inbox::<S>(alloc, MOST_POSTS)?;
+    let chronicle = RealmChronicle::new(alloc)?;
+    let (door, seats, inbox) = inbox_of_chronicle::<S>(alloc, MOST_POSTS, &chronicle)?;
     let (teller, told) = bounded(alloc, 1)?;
     let Ok(words) = IdWords::new(&rt, config.ids) else {
         return Err(AllocError);
@@ -170,6 +171,7 @@ fn open_realm<R: Threads + Wait + RandomSource + Copy + Send + 'static, S: Shut 
         realm: connection_table.realms.len(),
         config: realm_config(alloc, name, config)?,
         words,
+        chronicle,
         inbox,
         teller,
         marks: Arc::try_clone(&connection_table.marks)?,

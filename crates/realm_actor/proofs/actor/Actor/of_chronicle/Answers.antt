@@ -2,7 +2,7 @@ use Rattle.std.proofs.Common.{ap, map, length, arith}
 use Rattle.realm_inbox.specs.Seats.{said}
 use Rattle.realm_actor.proofs.RowRemoval.{stands_new}
 use Rattle.realm_actor.proofs.MadeHistory.{made_new}
-use Rattle.realm_actor.proofs.actor.Actor.new.Goals as goal
+use Rattle.realm_actor.proofs.actor.Actor.of_chronicle.Goals as goal
 
 pub invariant_of-result : goal.invariant_of-result
 invariant_of-result g c =
