@@ -3,7 +3,7 @@ ghost use Rattle.std.specs.Prelude.{◌≡◌, ℕ, ◌++◌, [], ◌∷◌, tru
 ghost use Rattle.realm.specs.History.{Begins};
 ghost use Rattle.realm_inbox.specs.declared.letter.Post.{Post as APost};
 ghost use Rattle.realm_inbox.specs.Seats.{InOrder, EachHomed};
-ghost use Rattle.realm_inbox.specs.EndViews.{received, home_of};
+ghost use Rattle.realm_inbox.specs.EndViews.{received, home_of, inbox_of};
 ghost use Rattle.realm_actor.specs.ReceivedAhead.{AreHomed, IsAt, NoneBehindStop, TakesNext};
 ghost use Rattle.realm_actor.specs.PostedOrder.{KeepsOrderSince, acts_for};
 ghost use Rattle.realm_actor.specs.Run.{KeepsHeld, Ran, SameAtSeats, is_stop};
@@ -66,6 +66,7 @@ impl<S: Shut, W: IdSource> Actor<S, W> {
             result.history }
         ensures held { KeepsHeld self result }
         ensures chronicle { result.chronicle ≡ self.chronicle }
+        ensures same { inbox_of inbox.new ≡ inbox_of inbox.old }
     {
         self.run_before(rt, alloc, inbox, &mut Nobody)
     }
@@ -88,6 +89,7 @@ impl<S: Shut, W: IdSource> Actor<S, W> {
             result.history }
         ensures held { KeepsHeld self result }
         ensures chronicle { result.chronicle ≡ self.chronicle }
+        ensures same { inbox_of inbox.new ≡ inbox_of inbox.old }
     {
         self.shows();
         let mut ahead = VecDeque::new(alloc);
@@ -121,7 +123,7 @@ impl<S: Shut, W: IdSource> Actor<S, W> {
             (TakesNext (received inbox.old) (received inbox.new) ahead.old.items ahead.new.items) }
         ensures home { EachHomed (home_of inbox.old) ahead.old.items
             → AreHomed (home_of inbox.old) result ahead.new.items }
-        ensures same { home_of inbox.new ≡ home_of inbox.old }
+        ensures same { inbox_of inbox.new ≡ inbox_of inbox.old }
     {
         let ready = ready_post(rt, inbox, ahead);
         self.wake_in_time(unwoken, ready.is_none());
@@ -153,7 +155,7 @@ fn ready_post<S: Shut, R: Wait>(
         (TakesNext (received inbox.old) (received inbox.new) ahead.old.items ahead.new.items) }
     ensures home { EachHomed (home_of inbox.old) ahead.old.items
         → AreHomed (home_of inbox.old) result ahead.new.items }
-    ensures same { home_of inbox.new ≡ home_of inbox.old }
+    ensures same { inbox_of inbox.new ≡ inbox_of inbox.old }
 {
     if let Some(post) = ahead.pop_front() {
         return Some(post);
@@ -170,7 +172,7 @@ fn receive_ahead<S: Shut, R: Wait>(rt: &R, inbox: &mut Inbox<S>, ahead: &mut Vec
         × NoneBehindStop more }
     ensures home { EachHomed (home_of inbox.old) ahead.old.items
         → EachHomed (home_of inbox.old) ahead.new.items }
-    ensures same { home_of inbox.new ≡ home_of inbox.old }
+    ensures same { inbox_of inbox.new ≡ inbox_of inbox.old }
 {
     if ahead.try_reserve(MOST_AHEAD).is_err() {
         return;

@@ -1,3 +1,6 @@
+pub mod Acts
 pub mod Answers
 pub mod Closing
+pub mod Talks
 pub mod Words
+pub mod Writes

@@ -6,12 +6,13 @@ use crate::id_words::IdWords;
 use crate::plan::Plan;
 use crate::seat_table::SeatTable;
 use crate::told::tell_retained_full;
-use crate::work::Work;
+use crate::work::{Task, Work};
 use crossbeam_channel::Sender;
 use realm::RealmConfig;
 use realm_actor::{Actor, Onlooker};
 use realm_inbox::{Act, Inbox, Post, RealmChronicle, Shut};
 use std::alloc::Global;
+use std::snapshot::Snapshot;
 use std::sync::{Arc, Wait};
 use wamp_ids::SEATS;
 
@@ -35,12 +36,33 @@ pub struct ActorThread<S: Shut> {
     ghost home: { home_of inbox ≡ Some chronicle.chronicle },
 }
 
-impl<R: Wait + Copy, S: Shut> Work<R> for ActorThread<S> {
-    type Done = ();
+/// What it gives back.
+#[derive(Drop)]
+pub struct Acted<S: Shut> {
+    /// The chronicle of the realm's history.
+    pub chronicle: RealmChronicle,
+    /// The actor, as it ended. It takes no bytes.
+    pub actor: Snapshot<Actor<S, IdWords>>,
+    /// The inbox, as the actor left it. It takes no bytes.
+    pub inbox: Snapshot<Inbox<S>>,
+}
+
+impl<S: Shut + 'static> Task for ActorThread<S> {
+    ghost use Rattle.threaded_server.specs.Acts.{ActsIfBegun};
+
+    type Done = Option<Acted<S>>;
+
+    ghost does = { ActsIfBegun };
+}
+
+impl<R: Wait + Copy, S: Shut + 'static> Work<R> for ActorThread<S> {
+    ghost use Rattle.threaded_server.specs.Acts.{ActsIfBegun};
 
     /// Makes the actor, which runs until it is stopped, marks whose sessions it holds then, and tells that they are marked. What is
-    /// posted behind the stop is turned away until each sender is gone.
-    fn run(self, rt: R) {
+    /// posted behind the stop is turned away until each sender is gone. Nothing comes back where there was no memory for the realm.
+    fn run(self, rt: R) -> Option<Acted<S>>
+        ensures { ActsIfBegun self result }
+    {
         let ActorThread {
             alloc,
             plan,
@@ -54,7 +76,7 @@ impl<R: Wait + Copy, S: Shut> Work<R> for ActorThread<S> {
         } = self;
         let Ok(actor) = Actor::of_chronicle(alloc, chronicle, config, words) else {
             let _ = teller.send(&rt, false);
-            return;
+            return None;
         };
         let _ = teller.send(&rt, true);
         let mut onlooker = StoreNotice {
@@ -65,9 +87,14 @@ impl<R: Wait + Copy, S: Shut> Work<R> for ActorThread<S> {
         };
         let actor = actor.run_before(&rt, alloc, &mut inbox, &mut onlooker);
         mark_held(&actor, &marks);
-        drop(actor);
+        let acted = Acted {
+            actor: Snapshot::of(&actor),
+            inbox: Snapshot::of(&inbox),
+            chronicle: actor.into_chronicle(),
+        };
         let _ = teller.send(&rt, true);
         turn_away_rest(&rt, inbox);
+        Some(acted)
     }
 }
 

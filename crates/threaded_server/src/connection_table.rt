@@ -39,7 +39,7 @@ pub struct Arrival<I, O, S> {
 
 /// The connections that are served. The accepting thread alone has it.
 #[derive(Drop)]
-pub struct ConnectionTable<S: Shut> {
+pub struct ConnectionTable<S: Shut + 'static> {
     pub alloc: Global,
     pub plan: Arc<Plan>,
     pub marks: Arc<SeatTable>,
@@ -49,7 +49,7 @@ pub struct ConnectionTable<S: Shut> {
     entries: Vec<Option<Connection<S>>>,
 }
 
-impl<S: Shut> ConnectionTable<S> {
+impl<S: Shut + 'static> ConnectionTable<S> {
     /// Nobody is served, and there are no realms yet.
     pub fn new(alloc: Global, plan: Plan) -> Result<ConnectionTable<S>, AllocError> {
         let mut entries = Vec::with_capacity(alloc, SEATS as usize)?;

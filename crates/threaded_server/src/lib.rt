@@ -30,6 +30,7 @@ mod reader_thread;
 mod realm_handle;
 mod seat_table;
 mod serve;
+mod talk;
 mod tcp;
 mod told;
 mod work;

@@ -1,5 +1,5 @@
 //! The log: who tells its lines, and the thread that writes them.
-use crate::work::{Work, start};
+use crate::work::{Task, Work, start};
 use crossbeam_channel::{Receiver, Sender, bounded};
 use notices::lost;
 use rawsocket::devices::{Sink, Turns, send};
@@ -108,11 +108,21 @@ struct LogWriter<S> {
     sink: S,
 }
 
-impl<R: Wait + Copy, S: Sink + Drop> Work<R> for LogWriter<S> {
+impl<S: Sink + Drop> Task for LogWriter<S> {
+    ghost use Rattle.std.specs.Prelude.{⊤};
+
     type Done = ();
 
+    ghost does = { λ w done. ⊤ };
+}
+
+impl<R: Wait + Copy, S: Sink + Drop> Work<R> for LogWriter<S> {
+    ghost use Rattle.std.specs.Prelude.{⊤};
+
     /// Writes each line, as long as anybody can tell one.
-    fn run(self, rt: R) {
+    fn run(self, rt: R)
+        ensures { ⊤ }
+    {
         let LogWriter {
             alloc,
             receiver,

@@ -1,20 +1,20 @@
 //! What the accepting thread has of a realm.
-use crate::actor_thread::ActorThread;
-use crate::work::start;
+use crate::actor_thread::{Acted, ActorThread};
+use crate::work::{Doing, start};
 use crossbeam_channel::Receiver;
 use realm_inbox::{Door, Poster, Seat, Shut};
 use std::alloc::{AllocError, Global};
 use std::sync::Wait;
-use std::thread::{JoinHandle, Threads};
+use std::thread::{PromisedHandle, Threads};
 use wamp_ids::{Conn, seat};
 
 /// What the accepting thread has of a realm: the door and the free seats of its inbox, its actor's thread, and what that tells.
 #[derive(Drop)]
-pub struct RealmHandle<S: Shut> {
+pub struct RealmHandle<S: Shut + 'static> {
     door: Door<S>,
     // By number, from 1: a seat that isn't here is at a connection.
     seats: Vec<Option<Seat<S>>>,
-    actor: Option<JoinHandle<()>>,
+    actor: Option<PromisedHandle<Option<Acted<S>>, Doing<ActorThread<S>>>>,
     told: Receiver<bool>,
 }
 
@@ -37,7 +37,7 @@ impl<S: Shut + Send + 'static> RealmHandle<S> {
     }
 }
 
-impl<S: Shut> RealmHandle<S> {
+impl<S: Shut + 'static> RealmHandle<S> {
     /// A realm whose actor isn't started, with all seats of its inbox, and what its actor will tell by.
     pub fn new(
         alloc: Global,
@@ -96,8 +96,8 @@ impl<S: Shut> RealmHandle<S> {
     }
 
     /// Gives up the door and the seats, and waits for the actor's thread, which ends once no sender is left: so not before each
-    /// seat that is at a connection has come back.
-    pub fn join<R: Threads>(self, rt: &R) {
+    /// seat that is at a connection has come back. It gives back what the thread does.
+    pub fn join<R: Threads>(self, rt: &R) -> Option<Acted<S>> {
         let RealmHandle {
             door,
             seats,
@@ -106,8 +106,9 @@ impl<S: Shut> RealmHandle<S> {
         } = self;
         drop(door);
         drop(seats);
-        if let Some(actor) = actor {
-            actor.join(rt);
+        match actor {
+            Some(actor) => actor.join(rt),
+            None => None,
         }
     }
 }

@@ -233,7 +233,7 @@ fn receive<R: Threads + Wait + Copy + Send + 'static, A: Acceptor>(
 }
 
 // Who is at the other end of a stream, in words, where anybody is told.
-fn peer_of<A: Acceptor, S: Shut>(
+fn peer_of<A: Acceptor, S: Shut + 'static>(
     acceptor: &A,
     connection_table: &ConnectionTable<S>,
     stream: &A::Stream,
@@ -245,7 +245,7 @@ fn peer_of<A: Acceptor, S: Shut>(
 }
 
 // Tells why accepting failed, where anybody is told.
-fn tell_failure<R: Wait, A: Acceptor, S: Shut>(
+fn tell_failure<R: Wait, A: Acceptor, S: Shut + 'static>(
     rt: &R,
     acceptor: &A,
     connection_table: &ConnectionTable<S>,
@@ -278,7 +278,7 @@ fn admit<
 
 // Stops the actors, ends the streams that no session's writer will end, and waits for all threads. Each actor turns away what is posted behind
 // its stop until the realm's door and seats are given up, which is last of all: so no thread waits for what nobody would do.
-fn close<R: Threads + Wait, S: Shut>(rt: &R, connection_table: &mut ConnectionTable<S>) {
+fn close<R: Threads + Wait, S: Shut + 'static>(rt: &R, connection_table: &mut ConnectionTable<S>) {
     connection_table
         .plan
         .is_stopping
@@ -293,7 +293,9 @@ fn close<R: Threads + Wait, S: Shut>(rt: &R, connection_table: &mut ConnectionTa
     connection_table.join_all(rt);
     for _ in rt.forever() {
         match connection_table.realms.pop() {
-            Some(realm) => realm.join(rt),
+            Some(realm) => {
+                realm.join(rt);
+            }
             None => return,
         }
     }

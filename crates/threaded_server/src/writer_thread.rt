@@ -1,10 +1,11 @@
 //! The thread that writes to a client.
 ghost use Rattle.std.specs.Prelude.{◌≤◌};
+ghost use Rattle.threaded_server.specs.Writes.{Writes};
 
 use crate::fate::Fate;
 use crate::herald::Herald;
 use crate::plan::Plan;
-use crate::work::Work;
+use crate::work::{Task, Work};
 use connection::{OwedPongs, WriteEnd, write_watched};
 use outbox_queue::Drain;
 use rawsocket::Serializer;
@@ -12,6 +13,7 @@ use rawsocket::devices::Sink;
 use realm_inbox::{RealmHistory, Shut};
 use session::Item;
 use std::alloc::Global;
+use std::snapshot::Snapshot;
 use std::sync::{Arc, Wait};
 
 /// What a writer's thread has.
@@ -33,19 +35,35 @@ pub struct Writer<O, S> {
 }
 
 /// How a writer ended.
-#[derive(Clone, Copy, Drop)]
-pub struct Written {
-    /// Why it did.
+#[derive(Drop)]
+pub struct Written<O> {
+    /// What it wrote to.
+    pub sink: O,
+    /// The history that the last item named, if it took one.
+    pub seen: Option<RealmHistory>,
+    /// What it took from, as it left that. It takes no bytes.
+    pub drain: Snapshot<Drain<Item, RealmHistory>>,
+    /// Why it ended.
     pub end: WriteEnd,
     /// How many octets the payload of the item has that it couldn't write, where that is known.
     pub octets: Option<usize>,
 }
 
-impl<R: Wait + Copy, O: Sink + Drop, S: Shut> Work<R> for Writer<O, S> {
-    type Done = Written;
+impl<O: Sink + Drop + Send + 'static, S: Shut> Task for Writer<O, S> {
+    ghost use Rattle.threaded_server.specs.Writes.{Writes};
+
+    type Done = Written<O>;
+
+    ghost does = { λ w done. Writes O.taken O.calls O.failures w done };
+}
+
+impl<R: Wait + Copy, O: Sink + Drop + Send + 'static, S: Shut> Work<R> for Writer<O, S> {
+    ghost use Rattle.threaded_server.specs.Writes.{Writes};
 
     /// Writes what the session is owed, and shuts the transport.
-    fn run(self, rt: R) -> Written {
+    fn run(self, rt: R) -> Written<O>
+        ensures { Writes O.taken O.calls O.failures self result }
+    {
         let Writer {
             alloc,
             plan,
@@ -73,8 +91,16 @@ impl<R: Wait + Copy, O: Sink + Drop, S: Shut> Work<R> for Writer<O, S> {
             fate.fail_to_write();
         }
         transport.shut();
-        drop(drain);
+        drain.shows();
+        let left = Snapshot::of(&drain);
+        let seen = drain.into_seen();
         drop(pongs);
-        Written { end, octets }
+        Written {
+            sink,
+            seen,
+            drain: left,
+            end,
+            octets,
+        }
     }
 }

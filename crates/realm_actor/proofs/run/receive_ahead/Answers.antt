@@ -16,8 +16,8 @@ loop-place-preserved g c =
       posts = receiving_on (received c.args.inbox.now) (received c.loop-place.inbox) (received c.try_receive.new.self) c.args.ahead.now.items c.loop-place.ahead.items c.push_back_reserved.new.self.items c.in-Some.post
           i.posts c.in-Some.ensures.given c.in-Some.ensures.in_turn n.items (sym c.is_stop-is_last.ensures ∙ c.if-is_last.false);
       home = λ before. subst (λ l. EachHomed (home_of c.args.inbox.now) l) (sym n.items)
-          (homed_with (home_of c.args.inbox.now) c.loop-place.ahead.items c.in-Some.post (i.home before) (subst (λ h. IsHomed h c.in-Some.post) i.same c.in-Some.ensures.home));
-      same = ap (λ p. p.2) c.try_receive.ensures.same.0 ∙ i.same;
+          (homed_with (home_of c.args.inbox.now) c.loop-place.ahead.items c.in-Some.post (i.home before) (subst (λ h. IsHomed h c.in-Some.post) (ap (λ p. p.2) i.same) c.in-Some.ensures.home));
+      same = c.try_receive.ensures.same.0 ∙ i.same;
       room = omega (arith, len, capacity, room);
     }
 
@@ -37,10 +37,10 @@ pub returns-then-is_last-clause-home : goal.returns-then-is_last-clause-home
 returns-then-is_last-clause-home g c = λ before.
     let i = c.loop-place.invariant in
     subst (λ l. EachHomed (home_of c.args.inbox.now) l) (sym c.push_back_reserved.ensures.items)
-    (homed_with (home_of c.args.inbox.now) c.loop-place.ahead.items c.in-Some.post (i.home before) (subst (λ h. IsHomed h c.in-Some.post) i.same c.in-Some.ensures.home))
+    (homed_with (home_of c.args.inbox.now) c.loop-place.ahead.items c.in-Some.post (i.home before) (subst (λ h. IsHomed h c.in-Some.post) (ap (λ p. p.2) i.same) c.in-Some.ensures.home))
 
 pub returns-then-is_last-clause-same : goal.returns-then-is_last-clause-same
-returns-then-is_last-clause-same g c = ap (λ p. p.2) c.try_receive.ensures.same.0 ∙ c.loop-place.invariant.same
+returns-then-is_last-clause-same g c = c.try_receive.ensures.same.0 ∙ c.loop-place.invariant.same
 
 pub returns-in_default-clause-same : goal.returns-in_default-clause-same
-returns-in_default-clause-same g c = ap (λ p. p.2) c.try_receive.ensures.same.0 ∙ c.loop-place.invariant.same
+returns-in_default-clause-same g c = c.try_receive.ensures.same.0 ∙ c.loop-place.invariant.same

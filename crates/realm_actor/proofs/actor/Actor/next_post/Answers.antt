@@ -23,7 +23,7 @@ pub returns-clause-home : goal.returns-clause-home
 returns-clause-home g c = λ before.
     let home = home_of c.args.inbox.now in
     homed_given home c.receive.result c.ready_post-ready.new.ahead.items (subst (λ r. AreHomed home r c.ready_post-ready.new.ahead.items) c.in_default.is (c.ready_post-ready.ensures.home before))
-    (subst (λ h. IfSome c.receive.result (λ p. IsHomed h p)) c.ready_post-ready.ensures.same c.receive.ensures.home)
+    (subst (λ h. IfSome c.receive.result (λ p. IsHomed h p)) (ap (λ p. p.2) c.ready_post-ready.ensures.same) c.receive.ensures.home)
 
 pub returns-clause-same : goal.returns-clause-same
-returns-clause-same g c = ap (λ p. p.2) c.receive.ensures.same.0 ∙ c.ready_post-ready.ensures.same
+returns-clause-same g c = c.receive.ensures.same.0 ∙ c.ready_post-ready.ensures.same

@@ -1,4 +1,4 @@
-use Rattle.std.proofs.Common.{refl, sym, ◌∙◌, subst}
+use Rattle.std.proofs.Common.{refl, sym, ap, ◌∙◌, subst}
 use Rattle.realm_inbox.specs.EndViews.{received, home_of}
 use Rattle.realm_inbox.specs.Seats.{IsHomed, EachHomed}
 use Rattle.realm_actor.specs.ReceivedAhead.{IsAt}
@@ -23,7 +23,7 @@ take-requires g c =
     let h = c.in-Some-next_post in
     let home = home_of c.args.inbox.now in
     let at = subst (λ own. IsAt own home) (sym (c.sweep.ensures.chronicle ∙ i.chronicle)) c.requires.home in
-    record { home = homed_at c.sweep.new.self.chronicle home h.post at (subst (λ k. IsHomed k h.post) i.same (h.ensures.home (subst (λ k. EachHomed k c.loop.ahead.items) (sym i.same) i.home)).0) }
+    record { home = homed_at c.sweep.new.self.chronicle home h.post at (subst (λ k. IsHomed k h.post) (ap (λ p. p.2) i.same) (h.ensures.home (subst (λ k. EachHomed k c.loop.ahead.items) (sym (ap (λ p. p.2) i.same)) i.home)).0) }
 
 pub returns-in_default : goal.returns-in_default
 returns-in_default g c =
@@ -36,13 +36,14 @@ returns-in_default g c =
       order = run_order c.args.self c.sweep.new.self e.0 c.shows.ensures.made e.3;
       held = ran_holds e.3;
       chronicle = c.sweep.ensures.chronicle ∙ c.loop.invariant.chronicle;
+      same = c.in_default.ensures.same ∙ c.loop.invariant.same;
     }
 
 pub loop-preserved : goal.loop-preserved
 loop-preserved g c = let i = c.loop.invariant in record {
   progress = progress_on c.args.self c.loop.self c.sweep.new.self c.take.new.self (received c.args.inbox.now) (received c.loop.inbox) (received c.next_post.new.inbox) c.loop.ahead.items c.next_post.new.ahead.items c.take.result c.in-Some-next_post.post
       (sym c.is_stop-ends.ensures ∙ c.if-ends.false) c.loop.invariant.progress c.sweep.ensures.sweeps c.in-Some-next_post.ensures.next c.take.ensures.handles;
-  home = subst (λ k. EachHomed k c.next_post.new.ahead.items) i.same (c.in-Some-next_post.ensures.home (subst (λ k. EachHomed k c.loop.ahead.items) (sym i.same) i.home)).1;
+  home = subst (λ k. EachHomed k c.next_post.new.ahead.items) (ap (λ p. p.2) i.same) (c.in-Some-next_post.ensures.home (subst (λ k. EachHomed k c.loop.ahead.items) (sym (ap (λ p. p.2) i.same)) i.home)).1;
   same = c.in-Some-next_post.ensures.same ∙ i.same;
   chronicle = c.take.ensures.chronicle ∙ c.sweep.ensures.chronicle ∙ i.chronicle;
 }
@@ -58,4 +59,5 @@ returns-then-ends g c =
       order = run_order c.args.self c.take.new.self e.0 c.shows.ensures.made e.3;
       held = ran_holds e.3;
       chronicle = c.take.ensures.chronicle ∙ c.sweep.ensures.chronicle ∙ c.loop.invariant.chronicle;
+      same = c.in-Some-next_post.ensures.same ∙ c.loop.invariant.same;
     }
