@@ -2,7 +2,8 @@
 use crate::closing::{full, long, openings, reasons, violations};
 use case_text::{Table, line_of, number_of, part, part_of, text_of};
 use notices::{
-    Opening, Refusal, accept_failed, accepted, listening, lost, opened, refused, retained_full,
+    Opening, Refusal, Stopping, accept_failed, accepted, listening, lost, opened, refused,
+    retained_full, stopping,
 };
 use rawsocket::Serializer;
 use std::alloc::{AllocError, Global};
@@ -24,6 +25,7 @@ impl Table for Case {
             "lacking" => told_refused(alloc, rest, Refusal::NoMemory),
             "store" => in_text(alloc, retained_full(alloc, word_of(alloc, rest)?.as_str())),
             "failed" => told_failed(alloc, rest),
+            "stopping" => told_stopping(alloc, rest),
             "lost" => in_text(alloc, lost(alloc, number_of(rest))),
             "opened" => told_opened(alloc, rest),
             "full" => full(alloc, number_of(rest)),
@@ -79,6 +81,15 @@ fn told_refused(alloc: Global, rest: &str, refusal: Refusal) -> io::Result<Strin
 fn told_failed(alloc: Global, rest: &str) -> io::Result<String> {
     let reason = word_of(alloc, rest)?;
     in_text(alloc, accept_failed(alloc, reason.as_str()))
+}
+
+fn told_stopping(alloc: Global, rest: &str) -> io::Result<String> {
+    let why = match rest {
+        "asked" => Stopping::Asked,
+        "listen_fault" => Stopping::ListenFault,
+        _ => Stopping::NoMemory,
+    };
+    in_text(alloc, stopping(alloc, why))
 }
 
 fn told_opened(alloc: Global, rest: &str) -> io::Result<String> {

@@ -10,6 +10,8 @@ use Rattle.notices.specs.declared.reason.Refusal.{Refusal}
 use Rattle.notices.specs.declared.reason.Refusal.TheVariants.{NoSeat, NoMemory as OutOfMemory}
 use Rattle.notices.specs.declared.reason.Reason.{Reason}
 use Rattle.notices.specs.declared.reason.Reason.TheVariants as reason
+use Rattle.notices.specs.declared.reason.Stopping.{Stopping}
+use Rattle.notices.specs.declared.reason.Stopping.TheVariants as stopping
 
 abbrev pub listening_line : List ℕ → ℕ → List ℕ
 listening_line host port = codes "listening host=" ++ quoted host ++ codes " port=" ++ decimal port ++ 10 ∷ []
@@ -29,6 +31,14 @@ retained_full_line realm = codes "retained_full realm=" ++ quoted realm ++ 10 �
 
 abbrev pub accept_failed_line : List ℕ → List ℕ
 accept_failed_line why = codes "accept_failed reason=" ++ quoted why ++ 10 ∷ []
+
+abbrev pub stopping_word : Stopping → List ℕ
+stopping_word stopping.Asked = codes "asked"
+stopping_word stopping.ListenFault = codes "listen_fault"
+stopping_word stopping.NoMemory = codes "no_memory"
+
+abbrev pub stopping_line : Stopping → List ℕ
+stopping_line why = codes "stopping reason=" ++ stopping_word why ++ 10 ∷ []
 
 abbrev pub lost_line : ℕ → List ℕ
 lost_line lines = codes "lost lines=" ++ decimal lines ++ 10 ∷ []

@@ -1,8 +1,8 @@
 //! The lines.
 ghost use Rattle.std.specs.Prelude.{◌≡◌, ◌++◌, IfOk, OnOk, decimal};
-ghost use Rattle.notices.specs.Lines.{accept_failed_line, accepted_line, closed_line, fault_name, fault_part, listening_line, lost_line, opened_line, reason_more, reason_word, refusal_word, refused_line, retained_full_line, serialization, who_part};
+ghost use Rattle.notices.specs.Lines.{accept_failed_line, accepted_line, closed_line, fault_name, fault_part, listening_line, lost_line, opened_line, reason_more, reason_word, refusal_word, refused_line, retained_full_line, serialization, stopping_line, stopping_word, who_part};
 
-use crate::reason::{Reason, Refusal};
+use crate::reason::{Reason, Refusal, Stopping};
 use crate::values::{put, put_number, put_quoted};
 use rawsocket::Serializer;
 use session::Fault;
@@ -98,6 +98,28 @@ pub fn accept_failed(alloc: Global, reason: &str) -> Result<Vec<u8>, AllocError>
     put_quoted(&mut line, reason)?;
     put(&mut line, "\n")?;
     Ok(line)
+}
+
+/// The broker stops, and accepts no more: live sessions get their GOODBYE from here on.
+pub fn stopping(alloc: Global, why: Stopping) -> Result<Vec<u8>, AllocError>
+    ensures { IfOk result (λ line. line.items ≡ stopping_line why) }
+{
+    let mut line = Vec::new(alloc);
+    put(&mut line, "stopping reason=")?;
+    put(&mut line, stopping_word(why))?;
+    put(&mut line, "\n")?;
+    Ok(line)
+}
+
+/// Why a broker stops, in a word.
+fn stopping_word(why: Stopping) -> &'static str
+    ensures { result.now ≡ stopping_word why }
+{
+    match why {
+        Stopping::Asked => "asked",
+        Stopping::ListenFault => "listen_fault",
+        Stopping::NoMemory => "no_memory",
+    }
 }
 
 /// So many lines weren't written.

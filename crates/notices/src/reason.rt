@@ -49,3 +49,14 @@ pub enum Reason {
     /// The broker was stopped.
     Stop,
 }
+
+/// Why a broker stops.
+#[derive(Clone, Copy, Drop)]
+pub enum Stopping {
+    /// It was asked to.
+    Asked,
+    /// Accepting failed too often in a row.
+    ListenFault,
+    /// Memory, a thread or a seed was refused before anything was accepted.
+    NoMemory,
+}

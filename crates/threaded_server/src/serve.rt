@@ -14,7 +14,7 @@ use crate::id_words::IdWords;
 use crate::log::Log;
 use crate::plan::Plan;
 use crate::realm_handle::RealmHandle;
-use crate::told::{tell_failed, tell_refused};
+use crate::told::{tell_failed, tell_refused, tell_stopping};
 use connection::InUse;
 use crossbeam_channel::bounded;
 use notices::Refusal;
@@ -78,6 +78,7 @@ pub fn serve_logged<R: Threads + Wait + RandomSource + Copy + Send + 'static, A:
     let plan = plan_of(alloc, config, log)?;
     let mut connection_table = ConnectionTable::new(alloc, plan)?;
     let served = open_and_accept(rt, acceptor, &mut connection_table, config);
+    tell_stopping(&rt, &connection_table.plan.log, &served);
     close(&rt, &mut connection_table);
     served
 }

@@ -1,6 +1,9 @@
-//! What is told of connections.
+//! What is told of connections, and of the broker.
+use crate::fault::Fault;
 use crate::log::Log;
-use notices::{Reason, Refusal, accept_failed, accepted, closed, refused, retained_full};
+use notices::{
+    Reason, Refusal, Stopping, accept_failed, accepted, closed, refused, retained_full, stopping,
+};
 use std::sync::Wait;
 use wamp_ids::{Conn, Topic};
 
@@ -35,6 +38,22 @@ pub fn tell_retained_full<R: Wait>(rt: &R, log: &Option<Log>, realm: &Topic) {
 /// Tells why accepting failed.
 pub fn tell_failed<R: Wait>(rt: &R, log: &Log, reason: &Option<String>) {
     log.tell(rt, accept_failed(log.alloc(), text_of(reason)));
+}
+
+/// Tells why the broker stops.
+pub fn tell_stopping<R: Wait>(rt: &R, log: &Option<Log>, served: &Result<(), Fault>) {
+    if let Some(log) = log {
+        log.tell(rt, stopping(log.alloc(), why(served)));
+    }
+}
+
+// Why it does, by how serving ended.
+fn why(served: &Result<(), Fault>) -> Stopping {
+    match served {
+        Ok(()) => Stopping::Asked,
+        Err(Fault::ListenFault) => Stopping::ListenFault,
+        Err(Fault::NoMemory) => Stopping::NoMemory,
+    }
 }
 
 // A text, or nothing.
