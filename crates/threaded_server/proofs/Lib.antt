@@ -1,3 +1,4 @@
 pub mod SendLemmas
 pub mod AcceptLoop
 pub mod CountedWords
+pub mod Talking
