@@ -1,4 +1,4 @@
-// Subscribes to a prefix, publishes, prints the event, and leaves: heat PORT
+// Subscribes to a prefix, publishes, prints the event, and leaves: heat [PORT]
 //
 // It needs Autobahn|C++ (Debian: apt install g++ autobahn-cpp-dev), and a broker that grants its authid:
 //

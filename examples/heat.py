@@ -1,7 +1,7 @@
 #!/usr/bin/python3
-"""Subscribes to a prefix, publishes, prints the event, and leaves: examples/heat.py PORT [json]
+"""Subscribes to a prefix, publishes, prints the event, and leaves: examples/heat.py [PORT [json]]
 
-It needs Autobahn|Python (Debian: apt install python3-autobahn) and a broker: ./wampd serve --port PORT plant.one
+It needs Autobahn|Python (Debian: apt install python3-autobahn) and a broker: ./wampd serve --port 9000 plant.one
 """
 import asyncio
 import sys
@@ -31,5 +31,5 @@ serializer = JsonSerializer() if "json" in sys.argv[2:] else MsgPackSerializer()
 factory = WampRawSocketClientFactory(lambda: Heat(ComponentConfig(realm="plant.one")), serializer=serializer)
 loop = asyncio.new_event_loop()
 asyncio.set_event_loop(loop)
-loop.run_until_complete(loop.create_connection(factory, "127.0.0.1", int(sys.argv[1])))
+loop.run_until_complete(loop.create_connection(factory, "127.0.0.1", int(sys.argv[1]) if sys.argv[1:] else 9000))
 loop.run_forever()

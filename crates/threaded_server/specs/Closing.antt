@@ -6,11 +6,12 @@ use Rattle.connection.specs.declared.writer.WriteEnd.TheVariants as write
 use Rattle.connection.specs.declared.writer.WriteEnd.{WriteEnd}
 use Rattle.notices.specs.declared.reason.Reason.{Reason}
 use Rattle.notices.specs.declared.reason.Reason.TheVariants.{Goodbye, Abort, Ended, Violation, NotAdmitted, OutboxFull, TooLong, Unspelt, ReadFailed, WriteFailed, TooManyTurns, NoMemory, Stop}
+use Rattle.session.specs.declared.fault.Fault.TheVariants.{Shape}
 use Rattle.threaded_server.specs.declared.closing.Closing.{Closing}
 
--- where the stream has ended or failed, which says this for itself: a stop, a session that wasn't admitted, and a write that failed before come first
+-- where the stream has ended or failed, which says this for itself: a second HELLO, a stop, a session that wasn't admitted, and a write that failed before come first
 abbrev pub reason_by_stream : Closing → Reason → Reason
-reason_by_stream c itself = if c.is_stopping then Stop else if not c.is_admitted then NotAdmitted else if c.is_unwritable then WriteFailed else itself
+reason_by_stream c itself = if c.has_greeted then Violation Shape else if c.is_stopping then Stop else if not c.is_admitted then NotAdmitted else if c.is_unwritable then WriteFailed else itself
 
 -- where the client has left: by which word it did
 abbrev pub reason_by_farewell : Closing → Reason

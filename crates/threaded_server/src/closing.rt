@@ -4,6 +4,7 @@ ghost use Rattle.threaded_server.specs.Closing.{reason_by_farewell, reason_by_oc
 
 use connection::{ReadEnd, WriteEnd};
 use notices::Reason;
+use session::Fault;
 
 /// What ended a session.
 #[derive(Clone, Copy, Drop)]
@@ -12,6 +13,8 @@ pub struct Closing {
     pub read: ReadEnd,
     /// Whether its client said ABORT.
     pub has_aborted: bool,
+    /// Whether its client said HELLO once more, which its realm answers by ABORT.
+    pub has_greeted: bool,
     /// How its writer ended.
     pub write: WriteEnd,
     /// How many octets the payload of the item has that its writer couldn't write, where that is known.
@@ -95,7 +98,9 @@ impl Closing {
     fn by_stream(&self, itself: Reason) -> Reason
         ensures { result ≡ reason_by_stream self.now itself }
     {
-        if self.is_stopping {
+        if self.has_greeted {
+            Reason::Violation(Fault::Shape)
+        } else if self.is_stopping {
             Reason::Stop
         } else if !self.is_admitted {
             Reason::NotAdmitted

@@ -1,4 +1,4 @@
-//! Which word a client leaves by.
+//! What a client says that tells why its session ends.
 ghost use Rattle.std.specs.Prelude.{◌≡◌, ◌++◌, ◌∷◌, [], MatchResult, false};
 ghost use Rattle.realm_inbox.specs.Joins.{is_join};
 
@@ -6,13 +6,15 @@ use realm_inbox::{Act, Posting, Shut};
 use session::Said;
 use std::sync::Wait;
 
-/// Posts what a client does by way of `poster`, and remembers whether it said ABORT.
+/// Posts what a client does by way of `poster`, and remembers whether it said ABORT, or HELLO once more.
 #[derive(Drop)]
 pub struct FarewellPoster<P> {
     /// Posts it.
     pub poster: P,
     /// Whether the client said ABORT so far.
     pub has_aborted: bool,
+    /// Whether it said HELLO so far, for a second time then.
+    pub has_greeted: bool,
 }
 
 impl<S: Shut, P: Posting<S>> Posting<S> for FarewellPoster<P> {
@@ -25,8 +27,14 @@ impl<S: Shut, P: Posting<S>> Posting<S> for FarewellPoster<P> {
             × (P.posted self.new.poster ≡ P.posted self.old.poster)) }
     {
         self.has_aborted = self.has_aborted || is_abort(&act);
+        self.has_greeted = self.has_greeted || is_hello(&act);
         self.poster.post(rt, act, octets)
     }
+}
+
+// Whether the client says HELLO, which breaks the protocol in a session.
+fn is_hello<S: Shut>(act: &Act<S>) -> bool {
+    matches!(act, Act::Said(Said::Hello { .. }))
 }
 
 // Whether the client says ABORT.

@@ -84,12 +84,14 @@ pub fn talk<
         poster,
         read,
         has_aborted,
+        has_greeted,
     } = converse(&rt, broker.alloc, source, made, poster);
     let is_unwritable = broker.fate.is_unwritable();
     let written = writer.join(&rt);
     let ends = Ends {
         read,
         has_aborted,
+        has_greeted,
         is_unwritable,
         write: written.end,
         octets: written.octets,
@@ -121,6 +123,7 @@ struct Conversed<S: Shut> {
     poster: Poster<S>,
     read: ReadEnd,
     has_aborted: bool,
+    has_greeted: bool,
 }
 
 // Asks for the session, and posts what is read, until that is over. Where the Join comes back it is let go of here, so that the writer ends.
@@ -148,6 +151,7 @@ fn converse<R: Wait, I: Source, S: Shut>(
             poster,
             read: ReadEnd::ActorGone,
             has_aborted: false,
+            has_greeted: false,
         };
     }
     let encoding = EncodingPoster {
@@ -161,17 +165,20 @@ fn converse<R: Wait, I: Source, S: Shut>(
             poster: encoding,
         },
         has_aborted: false,
+        has_greeted: false,
     };
     let read = read_posts(rt, alloc, source, opened, &mut posting);
     let FarewellPoster {
         poster,
         has_aborted,
+        has_greeted,
     } = posting;
     let PongPoster { poster, .. } = poster;
     Conversed {
         poster: poster.poster,
         read,
         has_aborted,
+        has_greeted,
     }
 }
 
@@ -180,6 +187,7 @@ fn converse<R: Wait, I: Source, S: Shut>(
 struct Ends {
     read: ReadEnd,
     has_aborted: bool,
+    has_greeted: bool,
     // Whether a write had failed before the reader ended.
     is_unwritable: bool,
     write: WriteEnd,
@@ -196,6 +204,7 @@ fn reason_of(broker: Broker<'_>, ends: Ends, limit: u32) -> Reason {
     let closing = Closing {
         read: ends.read,
         has_aborted: ends.has_aborted,
+        has_greeted: ends.has_greeted,
         write: ends.write,
         octets: ends.octets,
         is_admitted: fate.is_admitted(),
