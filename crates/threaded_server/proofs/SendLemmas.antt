@@ -20,12 +20,15 @@ use Rattle.outbox_queue.proofs.SendLemmas.{drain_send}
 use Rattle.outbox_queue.specs.contracts.drain.Drain as Drain
 use Rattle.rawsocket.proofs.handshake.Serializer.TheSendSync as serializer
 use Rattle.rawsocket.specs.contracts.handshake.Serializer as Serializer
+use Rattle.connection.proofs.writer.WriteEnd.TheSendSync as write_end
 use Rattle.connection.specs.contracts.pongs.OwedPongs as OwedPongs
+use Rattle.connection.specs.contracts.writer.WriteEnd as WriteEnd
 use Rattle.realm_inbox.proofs.SendLemmas.{backlog_send, backlog_sync, chronicle_send, history, history_owed, history_send, moment, moment_recorded, inbox_send, poster_send}
 use Rattle.realm_inbox.specs.contracts.ends.Poster as Poster
 use Rattle.realm_inbox.specs.declared.transport.Shut.{Ghosts}
 use Rattle.session.proofs.SendLemmas.{item_send}
 use Rattle.session.specs.contracts.messages.item.Item as Item
+use Rattle.threaded_server.specs.contracts.actor_thread.Acted as Acted
 use Rattle.threaded_server.specs.contracts.actor_thread.ActorThread as ActorThread
 use Rattle.threaded_server.specs.contracts.fate.Fate as Fate
 use Rattle.threaded_server.specs.contracts.fate.Marked as Marked
@@ -36,6 +39,7 @@ use Rattle.threaded_server.specs.contracts.id_words.IdWords as IdWords
 use Rattle.threaded_server.specs.contracts.plan.Plan as Plan
 use Rattle.threaded_server.specs.contracts.reader_thread.Reader as Reader
 use Rattle.threaded_server.specs.contracts.writer_thread.Writer as Writer
+use Rattle.threaded_server.specs.contracts.writer_thread.Written as Written
 
 marks_send : IsSend SeatTable.the_row
 marks_send = search (maps, crosses, sendable) depth 60 fits 20000
@@ -70,6 +74,9 @@ writer_send O S o s = declared_send (Writer.the_type O S) (search (heap.send, cr
 option_send : (R : RattleType) → IsSend R → IsSend (Option.the_row R)
 option_send R s = search (sendable, crosses) depth 40
 
+pub written_send : (O : RattleType) → IsSend O → IsSend (Written.the_row O)
+written_send O o = declared_send (Written.the_type O) (as_row_send (row_field O) o, (option_send history history_send, (search (crosses, sendable) depth 60, (as_row_send WriteEnd.the_field write_end.the_field_send, (search (crosses, sendable) depth 60, tt)))))
+
 module _ (S : RattleType) (shut : Ghosts S.Denot) where
   abbrev posters : RattleType
   posters = Option.the_row (Vec.the_row (Option.the_row (Poster.the_row S shut)) Global.the_row global.ghosts)
@@ -98,6 +105,13 @@ module _ (S : RattleType) (shut : Ghosts S.Denot) where
   pub actor_work_send : IsSend S → IsSend (ActorThread.the_row S shut)
   actor_work_send s = declared_send (ActorThread.the_type S shut)
       (search (heap.send, crosses, sendable) depth 60, (search (plan_send, plan_sync, crosses, sendable) depth 60 fits 20000, (search sendable, (search (maps, crosses, sendable) depth 60 fits 20000, (search (words_send, maps, crosses, sendable) depth 60 fits 20000, (as_row_send (Chronicle.the_field moment moment_recorded) chronicle_send, (inbox_send S shut s, (search (crosses, sendable) depth 60 fits 20000, (search (marks_send, marks_sync, crosses, sendable) depth 60 fits 20000, tt)))))))))
+
+module _ (S : RattleType) (shut : Ghosts S.Denot) where
+  acted_send : IsSend (Acted.the_row S shut)
+  acted_send = declared_send (Acted.the_type S shut) (as_row_send (Chronicle.the_field moment moment_recorded) chronicle_send, (search (crosses, sendable) depth 60, (search (crosses, sendable) depth 60, tt)))
+
+  pub actor_done_send : IsSend (Option.the_row (Acted.the_row S shut))
+  actor_done_send = option_send (Acted.the_row S shut) acted_send
 
 -- a handle that marks a fate
 pub marked_send : (S : RattleType) → IsSend S → IsSend (Marked.the_row S)

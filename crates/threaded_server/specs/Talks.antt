@@ -1,5 +1,5 @@
 -- What became of a session that was opened.
-use Rattle.std.specs.Prelude.{◌≡◌, ◌⊎◌, ◌×◌, ℕ, min, List, [], ◌∷◌, ◌++◌, Option, Some, None}
+use Rattle.std.specs.Prelude.{◌≡◌, ◌⊎◌, ℕ, min, List, [], ◌∷◌, ◌++◌, Option, Some, None}
 use Rattle.atomic_table.specs.Seated.{TableId}
 use Rattle.connection.specs.Reader.{Start, start, ReadsSince, IsReadBy}
 use Rattle.connection.specs.declared.reader.ReadEnd.{ReadEnd}
@@ -35,14 +35,14 @@ module _ {O S : Type 0} (taken : O → List ℕ) (calls failures : O → ℕ) wh
   pub record TalksOn (session : Session) (conn : ℕ) (home : Option TableId) (sink : O) (before now : Passage S) (end : ReadEnd) (written : Written O) : Type 0 where
     pub joining : Joining S
     pub own : joining.outbox.conn ≡ conn
-    pub home : joining.outbox.chronicle ≡ home
+    pub of : joining.outbox.chronicle ≡ home
     pub asks : joining.authid ≡ session.authid
     pub converses : Converses (start_of session) joining before now end
     pub writer : Writer O S
     pub new : IsNewDrain joining.outbox.queue conn home writer.drain
     pub serializer : writer.serializer ≡ session.serializer
     pub limit : writer.limit ≡ min session.limit 16777215
-    pub sink : writer.sink ≡ sink
+    pub writes_to : writer.sink ≡ sink
     pub writes : Writes taken calls failures writer written
 
   -- or no writer could begin, and nothing was read or posted

@@ -1,5 +1,5 @@
 -- What a writer's thread gives back, beside what it was given.
-use Rattle.std.specs.Prelude.{◌≡◌, ◌<◌, ◌×◌, ℕ, List, [], Option, None}
+use Rattle.std.specs.Prelude.{◌≡◌, ◌<◌, ℕ, List, [], Option, None}
 use Rattle.atomic_table.specs.Seated.{TableId}
 use Rattle.connection.specs.Writer.{WritesSince, IsLater, IsWrittenBy, write_told}
 use Rattle.connection.specs.declared.writer.WriteEnd.TheVariants.{Stopped}

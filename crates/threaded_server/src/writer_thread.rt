@@ -1,6 +1,5 @@
 //! The thread that writes to a client.
 ghost use Rattle.std.specs.Prelude.{◌≤◌};
-ghost use Rattle.threaded_server.specs.Writes.{Writes};
 
 use crate::fate::Fate;
 use crate::herald::Herald;
