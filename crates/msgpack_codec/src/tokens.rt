@@ -1,5 +1,5 @@
 //! What stands at the front of octets, with no memory.
-ghost use Rattle.std.specs.Prelude.{◌≡◌, IfOk, IfErr, OnErr, Ok, Err};
+ghost use Rattle.std.specs.Prelude.{◌≡◌, IfOk, IfErr, OnErr, Ok, Err, pos};
 ghost use Rattle.msgpack_codec.specs.Tokens.{IsToken, IsNoToken};
 ghost use Rattle.msgpack_codec.specs.body.Decoder.{leaf_at};
 ghost use Rattle.msgpack_codec.specs.body.Tokens.{data_of, IsLeafToken};
@@ -90,13 +90,8 @@ fn leaf(form: Form, octets: &[u8]) -> Result<(Token<'_>, &[u8]), Fault>
     }
 }
 
-/// The token at the front of octets, by any spelling of MessagePack's table (MessagePack
-/// specification, "Formats"), and the octets after it: those of the first member, behind the head
-/// of a list or dictionary. It takes no memory.
-///
-/// # Errors
-/// [`Malformed`] where the octets begin with no whole token.
-pub fn first_token(octets: &[u8]) -> Result<(Token<'_>, &[u8]), Malformed>
+/// The token at the front, whatever it is.
+fn any_token(octets: &[u8]) -> Result<(Token<'_>, &[u8]), Malformed>
     ensures ok { IfOk result (λ x. IsToken x.0 octets.now x.1.now) }
     ensures err { OnErr result (IsNoToken octets.now) }
 {
@@ -117,4 +112,37 @@ pub fn first_token(octets: &[u8]) -> Result<(Token<'_>, &[u8]), Malformed>
             Err(_) => Err(Malformed),
         },
     }
+}
+
+/// A number that one octet is.
+fn whole<'a>(number: u8) -> Token<'a>
+    ensures { result ≡ Token.Whole (pos number) }
+{
+    Token::Whole(i128::from(number))
+}
+
+/// The token at the front of octets, by any spelling of MessagePack's table (MessagePack
+/// specification, "Formats"), and the octets after it: those of the first member, behind the head
+/// of a list or dictionary. It takes no memory.
+///
+/// # Errors
+/// [`Malformed`] where the octets begin with no whole token.
+pub fn first_token(octets: &[u8]) -> Result<(Token<'_>, &[u8]), Malformed>
+    ensures ok { IfOk result (λ x. IsToken x.0 octets.now x.1.now) }
+    ensures err { OnErr result (IsNoToken octets.now) }
+{
+    let Some((first, rest)) = octets.split_first() else {
+        return any_token(octets);
+    };
+    // What is in one octet is mostly asked for.
+    if *first < 0x80 {
+        return Ok((whole(*first), rest));
+    }
+    if *first < 0x90 {
+        return Ok((Token::Dict(u64::from(*first - 0x80)), rest));
+    }
+    if *first < 0xa0 {
+        return Ok((Token::List(u64::from(*first - 0x90)), rest));
+    }
+    any_token(octets)
 }
