@@ -1,20 +1,24 @@
 //! Values in canonical form.
-ghost use Rattle.std.specs.Prelude.{◌≡◌, ◌&&◌, ℕ, List, IfOk, IfSome, IfNone, Ok, true, false};
+ghost use Rattle.std.specs.Prelude.{◌≡◌, ◌&&◌, ◌++◌, ℕ, List, IfOk, IfSome, IfNone, Ok, true, false};
 ghost use Rattle.message_tree.specs.Data.{Data, no_entries};
 ghost use Rattle.msgpack_codec.specs.Values.{is_text};
 ghost use Rattle.msgpack_codec.specs.body.Decoder.{value_at, dict_at};
 ghost use Rattle.msgpack_codec.specs.body.Passing.{list_at};
 ghost use Rattle.msgpack_canonical.specs.body.Fitting.{IsPut, IsUnread};
-ghost use Rattle.msgpack_canonical.specs.body.Entries.{AreRead, IsEntryPut, IsNoEntry};
+ghost use Rattle.msgpack_canonical.specs.body.Entries.{AreRead, BeginsLeast, IsEntryPut, IsNoEntry};
 
-use crate::entries::{Place, add_place, put_entries, put_in_order};
+use crate::beginnings::front_of;
+use crate::entries::{FEW, Place, add_place, put_entries, put_in_order};
 use crate::heads::put_short_list_head;
 use crate::kinds::{Kind, kind_of};
 use crate::leaves::{put_leaf, put_text};
 use crate::texts::first_text;
 use message_tree::Appender;
-use msgpack_codec::{first_token, pass};
+use msgpack_codec::{first_token, pass, short_text};
 use std::alloc::{AllocError, Global};
+
+/// Room for so many octets of entries is taken at once.
+const FEW_OCTETS: usize = 256;
 
 /// What was done with a value.
 #[derive(Clone, Copy, Drop)]
@@ -140,7 +144,39 @@ fn pass_entry(octets: &[u8], room: u8, written: Vec<u8>) -> Option<Entry<'_>>
     })
 }
 
-/// The key and the value at the front.
+/// The octets after the value at the front, where nothing is inside of it and it is spelled as `encode` writes it.
+fn behind_least(octets: &[u8]) -> Option<&[u8]>
+    ensures { IfSome result (λ rest. BeginsLeast octets.now rest.now) }
+{
+    if let Some((_text, rest)) = short_text(octets) {
+        return Some(rest);
+    }
+    let Ok(passed) = pass(octets, 0) else {
+        return None;
+    };
+    if passed.is_shortest {
+        Some(passed.rest)
+    } else {
+        None
+    }
+}
+
+/// The octets of a key and of its value, and those after them, where the key is a short text, nothing is inside of the value, and
+/// both are spelled as `encode` writes them.
+fn least_entry(octets: &[u8]) -> Option<(&[u8], &[u8])>
+    ensures { IfSome result (λ x. (room : ℕ) (old : List ℕ)
+        → IsEntryPut (value_at room) octets.now x.1.now true old (old ++ x.0.now)) }
+{
+    let Some((_key, value)) = short_text(octets) else {
+        return None;
+    };
+    let Some(rest) = behind_least(value) else {
+        return None;
+    };
+    Some((front_of(octets, rest), rest))
+}
+
+/// The key and the value at the front. Mostly they are copied as they stand.
 #[cycle(writing)]
 fn put_entry<'a>(
     alloc: Global,
@@ -152,6 +188,15 @@ fn put_entry<'a>(
         e.rest.now e.is_text written.items e.written.items)) }
     ensures none { IfOk result (λ o. IfNone o (IsNoEntry (value_at room) octets.entry.now)) }
 {
+    if let Some((entry, rest)) = least_entry(octets) {
+        let mut written = written;
+        written.extend_from_slice(entry)?;
+        return Ok(Some(Entry {
+            written,
+            rest,
+            is_text: true,
+        }));
+    }
     let Some((key, value)) = first_text(octets) else {
         return Ok(pass_entry(octets, room, written));
     };
@@ -200,8 +245,8 @@ fn entries_of<'a>(
     ensures none { IfOk result (λ o. IfNone o
         (IsUnread (dict_at (value_at room) count no_entries true octets.entry.now))) }
 {
-    let mut written = Vec::new(alloc);
-    let mut places = Vec::new(alloc);
+    let mut written = Vec::with_capacity(alloc, octets.len().min(FEW_OCTETS))?;
+    let mut places = Vec::with_capacity(alloc, (count as usize).min(FEW))?;
     let mut are_texts = true;
     let mut rest = octets;
     for _ in 0..count {
@@ -249,7 +294,7 @@ fn put_dict<'a>(
         are_texts,
         rest,
     } = entries;
-    put_in_order(&mut places, &written)?;
+    put_in_order(alloc, &mut places, &written)?;
     let is_written = if are_texts {
         put_entries(&written, &places, out)?
     } else {

@@ -1,5 +1,5 @@
 use Rattle.msgpack_canonical.proofs.Tokens.{other-token, no-token, text-token-read}
-use Rattle.msgpack_canonical.proofs.texts.first_text.Goals as goal
+use Rattle.msgpack_canonical.proofs.texts.any_text.Goals as goal
 
 pub returns-in-Some-clause-some : goal.returns-in-Some-clause-some
 returns-in-Some-clause-some c = λ room. text-token-read room c.in-Ok.token c.in-Some.text c.args.octets.now c.in-Ok.rest.now c.in-Some.ensures.text c.in-Ok.ensures.ok

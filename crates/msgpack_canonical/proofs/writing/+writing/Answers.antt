@@ -136,7 +136,7 @@ pub entries_of-loop-init : goal.entries_of-loop-init
 entries_of-loop-init t c = record {
   found = tree.no_entries;
   read = let e : c.args.count - 0 ≡ c.args.count = omega arith in ap (λ n. dict_at (value_at c.args.room) n tree.no_entries true c.args.octets.now) e;
-  kept = none-kept c.new-written.result.items c.new-places.result.items c.new-places.ensures.items;
+  kept = none-kept c.in_ok-written.written.items c.in_ok-places.places.items c.in_ok-places.ensures.items;
 }
 
 pub entries_of-returns-in_default-clause-none : goal.entries_of-returns-in_default-clause-none
@@ -184,14 +184,14 @@ entries_of-returns-clause-some t c =
 
 pub put_entry-returns-in_default-2-clause-none : goal.put_entry-returns-in_default-2-clause-none
 put_entry-returns-in_default-2-clause-none t c =
-    value-unread (value_at c.args.room) c.args.octets.now (tree.text c.in-Some.key.now) c.in-Some.value.now (c.in-Some.ensures.some c.args.room)
-    (subst (λ o. IfNone o (IsUnread (value_at c.args.room c.in-Some.value.now))) c.in_default-2.is c.in_ok-put.ensures.none)
+    value-unread (value_at c.args.room) c.args.octets.now (tree.text c.in-Some-first_text.key.now) c.in-Some-first_text.value.now (c.in-Some-first_text.ensures.some c.args.room)
+    (subst (λ o. IfNone o (IsUnread (value_at c.args.room c.in-Some-first_text.value.now))) c.in_default-2.is c.in_ok-put.ensures.none)
 
 pub put_entry-returns-clause-some : goal.put_entry-returns-clause-some
 put_entry-returns-clause-some t c =
     let value = value_at c.args.room in
-    let key = c.in-Some.key.now in
-    let put = subst (λ o. IfSome o (λ p. IsPut (value c.in-Some.value.now) p.rest.now p.is_written c.new-out-2.result.since c.put_value.new.out.since)) c.in-Some-2.is c.in_ok-put.ensures.some in
+    let key = c.in-Some-first_text.key.now in
+    let put = subst (λ o. IfSome o (λ p. IsPut (value c.in-Some-first_text.value.now) p.rest.now p.is_written c.new-out-2.result.since c.put_value.new.out.since)) c.in-Some-2.is c.in_ok-put.ensures.some in
     let has = c.if-not-branch.false in
     let text : c.put_text.new.out.since ≡ text_head (length key) ++ key = c.in_ok-put_text.ensures.written has ∙ ap (λ (o : List ℕ). o ++ (text_head (length key) ++ key)) c.new-out.ensures.since in
     let old = c.args.written.items in
@@ -211,10 +211,10 @@ put_entry-returns-clause-some t c =
     ] in
     record {
       key = tree.text key;
-      middle = c.in-Some.value.now;
+      middle = c.in-Some-first_text.value.now;
       meant = put.0;
       more = put_octets key put.0;
-      key_read = c.in-Some.ensures.some c.args.room;
+      key_read = c.in-Some-first_text.ensures.some c.args.room;
       value_read = put.1;
       text = refl;
       added = put-behind key put.0 old before since c.if-put.written.items b put.2 at new (λ is. put.3 is ∙ ap (λ (o : List ℕ). o ++ short put.0) c.new-out-2.ensures.since);

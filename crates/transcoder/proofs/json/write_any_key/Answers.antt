@@ -2,7 +2,7 @@ use Rattle.std.proofs.Common.{ℕ, List, ◌∷◌, [], ◌++◌, ap, ◌∙◌,
 use Rattle.json_codec.specs.Encoder.{json_text}
 use Rattle.message_tree.specs.Data.{text}
 use Rattle.transcoder.proofs.Tokens.{no-token-passed, key-passed, no-key-passed}
-use Rattle.transcoder.proofs.json.write_key.Goals as goal
+use Rattle.transcoder.proofs.json.write_any_key.Goals as goal
 
 pub returns-in-Err-clause-fault : goal.returns-in-Err-clause-fault
 returns-in-Err-clause-fault c = λ is room key after read. no-token-passed room c.args.octets.now c.in-Err.ensures.err (text key) after read
