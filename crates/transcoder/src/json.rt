@@ -31,7 +31,7 @@ pub fn write_json<'a>(
     ensures fault { result ≡ Err Fault.Malformed → NothingStands octets.entry.now }
     ensures before { out.new.before ≡ out.old.before }
 {
-    write_value(alloc, octets, ROOM, out)
+    write_any_value(alloc, octets, ROOM, out)
 }
 
 /// Writes the value at the front, which nests no more than `room` levels. Short texts are looked for first.
@@ -144,11 +144,7 @@ fn write_key<'a>(alloc: Global, octets: &'a [u8], out: &mut Appender) -> Result<
 }
 
 /// The same, whatever the key is.
-fn write_any_key<'a>(
-    alloc: Global,
-    octets: &'a [u8],
-    out: &mut Appender,
-) -> Result<&'a [u8], Fault>
+fn write_any_key<'a>(alloc: Global, octets: &'a [u8], out: &mut Appender) -> Result<&'a [u8], Fault>
     ensures ok { IfOk result (λ rest. (room : ℕ) → IsKeyWritten room octets.entry.now rest.now
         out.old.since out.new.since) }
     ensures fault { result ≡ Err Fault.Malformed → (room : ℕ) → NoKeyAt room octets.entry.now }

@@ -122,7 +122,7 @@ write_any_value-returns-in-Err-write_leaf t c = record {
   before = c.write_leaf.ensures.before;
 }
 
-pub write_value-returns-in-Some-clause-ok : goal.write_value-returns-in-Some-clause-ok
-write_value-returns-in-Some-clause-ok t c = λ d after read carried.
+pub write_value-returns-in_ok-encode_text_into-in-Some-clause-ok : goal.write_value-returns-in_ok-encode_text_into-in-Some-clause-ok
+write_value-returns-in_ok-encode_text_into-in-Some-clause-ok t c = λ d after read carried.
     let k = text-is c.args.room c.args.octets.now c.in-Some.text.now c.in-Some.rest.now c.in-Some.ensures.spelled c.in-Some.ensures.utf8 c.in-Some.ensures.few d after read in
-    (k.1, c.in_ok-encode_text_into.ensures.ok ∙ ap (λ (x : Data). c.args.out.now.since ++ json_text x) k.0)
+    (k.1, c.in_ok-encode_text_into-in-Some.ensures.ok ∙ ap (λ (x : Data). c.args.out.now.since ++ json_text x) k.0)
