@@ -14,6 +14,7 @@ use crate::carriage::{Carriage, doubted, worse};
 use crate::decoder::{number_of, octets_of, signed, size_of, sized};
 use crate::fault::Fault;
 use crate::format::{Form, form_of};
+use crate::keys::key_order;
 use crate::short_texts::short_text;
 use crate::shortest::{
     before, is_bytes_head, is_dict_head, is_list_head, is_one, is_text_head, is_whole,
@@ -321,7 +322,7 @@ fn is_behind(last: Option<&[u8]>, key: &[u8]) -> bool
 {
     match last {
         None => true,
-        Some(last) => last.cmp(&key) == Ordering::Less,
+        Some(last) => key_order(last, key) == Ordering::Less,
     }
 }
 
