@@ -1,5 +1,5 @@
 -- An entry that stands in its least spelling is put as it stands.
-use Rattle.std.proofs.Common.{◌≡◌, ◌<◌, ◌^◌, ℕ, zero, suc, List, [], ◌++◌, append_assoc, length, true, Ok, refl, sym, ap, ◌∙◌, subst, Bool, cond, arith}
+use Rattle.std.proofs.Common.{◌≡◌, ◌<◌, ◌^◌, ℕ, zero, suc, List, [], ◌++◌, append_assoc, length, true, refl, sym, ap, ◌∙◌, subst, Bool, cond, arith}
 use Rattle.std.specs.Prelude.{IsUtf8}
 use Rattle.std.proofs.lemmas.Bool.{lt-ltb}
 use Rattle.message_tree.specs.Data as tree
@@ -63,3 +63,7 @@ module _ (octets s middle rest : List ℕ) (parts : octets ≡ short (tree.text 
         added = ap (λ o. old ++ o) (is ∙ ap (λ o. short (tree.text s) ++ o) value);
         entry = put-entry s d (parted-text (put_octets s d) s (kept d) (text-read (put_octets s d) s (kept d) refl utf8 few 0)) (lt-ltb (length s) (2 ^ 32) small);
       }
+
+-- the octets before the rest, by another name
+pub least-parts : (octets front entry rest : List ℕ) → octets ≡ front ++ rest → entry ≡ front → octets ≡ entry ++ rest
+least-parts octets front entry rest split is = split ∙ ap (λ (o : List ℕ). o ++ rest) (sym is)

@@ -2,8 +2,8 @@
 use Rattle.std.proofs.Common.{◌≡◌, ◌+◌, ◌<◌, ◌≤◌, ℕ, suc, List, [], ◌∷◌, ◌++◌, length, take, drop, drop-cons, add-one, get_or, set, reverse, Ordering, Less, Equal, Greater, sym, ap, ◌∙◌}
 use Rattle.std.specs.Ordering.{match_ordering}
 use Rattle.std.specs.List.{All, insert}
-use Rattle.std.proofs.lemmas.List.{reverse-append, set_split, take_more, take-append-drop, append-nil, append_assoc}
-use Rattle.std.proofs.lemmas.List.Elements.{All-cons, All-nil, All-head, All-tail}
+use Rattle.std.proofs.lemmas.List.{reverse-append, set_split, take_more, append_assoc}
+use Rattle.std.proofs.lemmas.List.Elements.{All-cons, All-head, All-tail}
 use Rattle.std.proofs.Math.ListN.{drop_of_length-le}
 use Rattle.message_tree.proofs.Comparisons.{whichever}
 use Rattle.msgpack_canonical.specs.body.Sorting.{placed, in_order}

@@ -1,8 +1,7 @@
 //! The entries of a dictionary, as they were written behind one another.
 ghost use Rattle.std.specs.Prelude.{◌≡◌, ◌<◌, ◌≤◌, ◌^◌, ◌&&◌, ◌++◌, nat_lt, IfOk, OnOk, Ok, true, false, All, length, map, reverse, set};
-ghost use Rattle.std.specs.Cmp.Lexicographic.{slice_cmp};
 ghost use Rattle.std.specs.List.{insert};
-ghost use Rattle.std.specs.Ordering.{eq_by_cmp, nat_cmp};
+ghost use Rattle.std.specs.Ordering.{eq_by_cmp};
 ghost use Rattle.msgpack_codec.specs.Short.{dict_head};
 ghost use Rattle.msgpack_canonical.specs.body.Entries.{IsPlaced, IsStanding, all_kept, cut, cuts, entry_in, place_cmp};
 ghost use Rattle.msgpack_canonical.specs.body.Sorting.{in_order, placed};
@@ -10,6 +9,7 @@ ghost use Rattle.msgpack_canonical.specs.body.Sorting.{in_order, placed};
 use crate::heads::put_dict_head;
 use crate::texts::first_text;
 use message_tree::Appender;
+use msgpack_codec::key_order;
 use std::alloc::{AllocError, Global};
 use std::cmp::Ordering;
 
@@ -75,25 +75,6 @@ fn key_at(written: &[u8], place: Place) -> &[u8]
     ensures { result.now ≡ (entry_in written.now place).0 }
 {
     entry_at(written, place).0
-}
-
-/// How two keys compare, by their bytes. Most differ in the first one.
-fn key_order(key: &[u8], other: &[u8]) -> Ordering
-    ensures { result ≡ slice_cmp nat_cmp key.now other.now }
-{
-    let Some((first, _)) = key.split_first() else {
-        return key.cmp(&other);
-    };
-    let Some((second, _)) = other.split_first() else {
-        return key.cmp(&other);
-    };
-    if *first < *second {
-        return Ordering::Less;
-    }
-    if *first > *second {
-        return Ordering::Greater;
-    }
-    key.cmp(&other)
 }
 
 /// How the keys of two entries compare, by their bytes.

@@ -11,6 +11,7 @@ mod canonical;
 mod entries;
 mod heads;
 mod kinds;
+mod least;
 mod leaves;
 mod texts;
 mod writing;

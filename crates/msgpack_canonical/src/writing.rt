@@ -5,16 +5,16 @@ ghost use Rattle.msgpack_codec.specs.Values.{is_text};
 ghost use Rattle.msgpack_codec.specs.body.Decoder.{value_at, dict_at};
 ghost use Rattle.msgpack_codec.specs.body.Passing.{list_at};
 ghost use Rattle.msgpack_canonical.specs.body.Fitting.{IsPut, IsUnread};
-ghost use Rattle.msgpack_canonical.specs.body.Entries.{AreRead, BeginsLeast, IsEntryPut, IsNoEntry};
+ghost use Rattle.msgpack_canonical.specs.body.Entries.{AreRead, IsEntryPut, IsNoEntry};
 
-use crate::beginnings::front_of;
 use crate::entries::{FEW, Place, add_place, put_entries, put_in_order};
 use crate::heads::put_short_list_head;
 use crate::kinds::{Kind, kind_of};
+use crate::least::{least_entry, put_least_dict};
 use crate::leaves::{put_leaf, put_text};
 use crate::texts::first_text;
 use message_tree::Appender;
-use msgpack_codec::{first_token, pass, short_text};
+use msgpack_codec::{first_token, pass};
 use std::alloc::{AllocError, Global};
 
 /// Room for so many octets of entries is taken at once.
@@ -144,38 +144,6 @@ fn pass_entry(octets: &[u8], room: u8, written: Vec<u8>) -> Option<Entry<'_>>
     })
 }
 
-/// The octets after the value at the front, where nothing is inside of it and it is spelled as `encode` writes it.
-fn behind_least(octets: &[u8]) -> Option<&[u8]>
-    ensures { IfSome result (λ rest. BeginsLeast octets.now rest.now) }
-{
-    if let Some((_text, rest)) = short_text(octets) {
-        return Some(rest);
-    }
-    let Ok(passed) = pass(octets, 0) else {
-        return None;
-    };
-    if passed.is_shortest {
-        Some(passed.rest)
-    } else {
-        None
-    }
-}
-
-/// The octets of a key and of its value, and those after them, where the key is a short text, nothing is inside of the value, and
-/// both are spelled as `encode` writes them.
-fn least_entry(octets: &[u8]) -> Option<(&[u8], &[u8])>
-    ensures { IfSome result (λ x. (room : ℕ) (old : List ℕ)
-        → IsEntryPut (value_at room) octets.now x.1.now true old (old ++ x.0.now)) }
-{
-    let Some((_key, value)) = short_text(octets) else {
-        return None;
-    };
-    let Some(rest) = behind_least(value) else {
-        return None;
-    };
-    Some((front_of(octets, rest), rest))
-}
-
 /// The key and the value at the front. Mostly they are copied as they stand.
 #[cycle(writing)]
 fn put_entry<'a>(
@@ -269,9 +237,31 @@ fn entries_of<'a>(
     }))
 }
 
-/// So many keys, each with its value behind it, behind the head of a dictionary.
+/// So many keys, each with its value behind it, behind the head of a dictionary. Most are few, with little inside.
 #[cycle(writing)]
 fn put_dict<'a>(
+    alloc: Global,
+    octets: &'a [u8],
+    count: u64,
+    room: u8,
+    out: &mut Appender,
+) -> Result<Option<Put<'a>>, AllocError>
+    ensures some { IfOk result (λ o. IfSome o (λ p. IsPut
+        (dict_at (value_at room) count no_entries true octets.entry.now)
+        p.rest.now p.is_written out.old.since out.new.since)) }
+    ensures none { IfOk result (λ o. IfNone o
+        (IsUnread (dict_at (value_at room) count no_entries true octets.entry.now))) }
+    ensures before { out.new.before ≡ out.old.before }
+{
+    match put_least_dict(alloc, octets, count, room, out)? {
+        Some((rest, is_written)) => Ok(Some(Put { rest, is_written })),
+        None => put_any_dict(alloc, octets, count, room, out),
+    }
+}
+
+/// The same, whatever they are.
+#[cycle(writing)]
+fn put_any_dict<'a>(
     alloc: Global,
     octets: &'a [u8],
     count: u64,

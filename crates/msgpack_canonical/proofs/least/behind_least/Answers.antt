@@ -1,5 +1,5 @@
 use Rattle.msgpack_canonical.proofs.LeastEntries.{least-text, least-passed}
-use Rattle.msgpack_canonical.proofs.writing.behind_least.Goals as goal
+use Rattle.msgpack_canonical.proofs.least.behind_least.Goals as goal
 
 pub returns-in-Some : goal.returns-in-Some
 returns-in-Some c = least-text c.args.octets.now c.in-Some._text.now c.in-Some.rest.now c.in-Some.ensures.spelled c.in-Some.ensures.utf8 c.in-Some.ensures.few

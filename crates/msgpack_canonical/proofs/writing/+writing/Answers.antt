@@ -23,7 +23,7 @@ use Rattle.msgpack_canonical.proofs.Dicts.{value-unread}
 use Rattle.msgpack_canonical.proofs.Parts.{put_octets, put-entry, put-behind}
 use Rattle.msgpack_canonical.proofs.Sizes.{dict-put}
 use Rattle.msgpack_canonical.proofs.Kept.{kept-text, kept-none, none-kept}
-use Rattle.msgpack_canonical.proofs.writing.+writing.Goals.{entries_of-then-entry+in_ok-add_place, entries_of-else-entry, put_dict-then-are_texts+in_ok-is_written, put_dict-else-are_texts, put_entry-then-put, put_entry-else-put}
+use Rattle.msgpack_canonical.proofs.writing.+writing.Goals.{entries_of-then-entry+in_ok-add_place, entries_of-else-entry, put_any_dict-then-are_texts+in_ok-is_written, put_any_dict-else-are_texts, put_entry-then-put, put_entry-else-put}
 use Rattle.msgpack_canonical.proofs.writing.+writing.Goals as goal
 
 -- ---- values
@@ -221,8 +221,8 @@ put_entry-returns-clause-some t c =
       entry = put-entry key put.0 (c.in_ok-put_text.ensures.read has (kept put.0)) (sym c.in_ok-put_text.ensures.fits ∙ has);
     }
 
-pub put_dict-returns-clause-some : goal.put_dict-returns-clause-some
-put_dict-returns-clause-some t c =
+pub put_any_dict-returns-clause-some : goal.put_any_dict-returns-clause-some
+put_any_dict-returns-clause-some t c =
     let value = value_at c.args.room in
     let read = dict_at value c.args.count tree.no_entries true c.args.octets.now in
     let all = subst (λ o. IfSome o (λ e. AreRead read e.are_texts e.written.items e.places.items e.rest.now)) c.in-Some.is c.in_ok-entries.ensures.some in
@@ -234,12 +234,12 @@ put_dict-returns-clause-some t c =
     let stand : All (IsStanding entries.written.items) sorted =
     subst (λ (w : List ℕ). All (IsStanding w) sorted) same (c.in_ok-put_in_order.ensures.stand (subst (λ (w : List ℕ). All (IsStanding w) arrived) (sym same) all.kept_at.stand)) in
     elim c.if-are_texts.branch [
-      | put_dict-then-are_texts+in_ok-is_written w ↦
+      | put_any_dict-then-are_texts+in_ok-is_written w ↦
           let dict = tree.dict all.entries in
           let done = dict-put entries.written.items arrived sorted all.entries all.kept_at order stand w.deref-then-are_texts.result.now w.deref-then-are_texts-2.result.now c.if-are_texts.is_written c.args.out.now.since
           c.if-are_texts.out.since w.deref-then-are_texts.ensures.value w.deref-then-are_texts-2.ensures.value (w.is_written-is ∙ w.in_ok-is_written.ensures.fits) (λ is. subst (λ o. o.since ≡ c.args.out.now.since ++ (dict_head (length w.deref-then-are_texts-2.result.now) ++ cuts w.deref-then-are_texts.result.now w.deref-then-are_texts-2.result.now)) (sym w.out-is)
           (w.in_ok-is_written.ensures.written (sym w.is_written-is ∙ is))) in
           (dict, all.read ∙ ap (λ b. Ok (cond b dict tree.uncarried, entries.rest.now)) w.if-are_texts.true, done.0, done.1)
-      | put_dict-else-are_texts w ↦
+      | put_any_dict-else-are_texts w ↦
           (tree.uncarried, all.read ∙ ap (λ b. Ok (cond b (tree.dict all.entries) tree.uncarried, entries.rest.now)) w.if-are_texts.false, w.is_written-is, λ is. let nay = w.is_written-is in absurd cc)
     ]
