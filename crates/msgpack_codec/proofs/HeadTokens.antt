@@ -7,7 +7,9 @@ use Rattle.msgpack_codec.specs.declared.format.Size.TheVariants.{Here}
 use Rattle.msgpack_codec.specs.declared.tokens.Token.TheVariants.{Whole, List as ListOf, Dict as DictOf}
 use Rattle.msgpack_codec.specs.Format.{form_of}
 use Rattle.msgpack_codec.specs.Tokens.{IsToken}
-use Rattle.msgpack_codec.specs.body.Decoder.{size_at, leaf_at}
+use Rattle.msgpack_codec.specs.declared.format.Width.TheVariants.{Two}
+use Rattle.msgpack_codec.specs.body.Decoder.{number_at, size_at, leaf_at}
+use Rattle.msgpack_codec.proofs.SpelledIsRead.{then_ok}
 use Rattle.msgpack_codec.proofs.TokenParts.{leaf-token, head-token}
 
 whole-form : (c : ℕ) → c < 128 → form_of c ≡ forms.Whole (pos c)
@@ -38,3 +40,16 @@ dict-token all rest c is large small = head-token forms.Dict all rest c (Here (c
 
 pub list-token : (all rest : List ℕ) (c : ℕ) → all ≡ c ∷ rest → 144 ≤ c → c < 160 → IsToken (ListOf (c - 144)) all rest
 list-token all rest c is large small = head-token forms.List all rest c (Here (c - 144)) (c - 144) rest is (list-form c large small) (here-read (c - 144) rest)
+
+two-form : form_of 205 ≡ forms.Unsigned Two
+unfolding form_of
+two-form = refl
+
+two-read : (behind rest : List ℕ) (n : ℕ) → number_at Two behind ≡ Ok (n, rest) → leaf_at (forms.Unsigned Two) behind ≡ Ok (tree.whole (pos n), rest)
+unfolding leaf_at
+two-read behind rest n read = then_ok (number_at Two behind) (λ n. Ok (tree.whole (pos n.0), n.1)) (n, rest) _ read refl
+
+-- a number in two octets behind its first one
+pub two-token : (all behind rest : List ℕ) (c n : ℕ) → all ≡ c ∷ behind → c ≡ 205 → number_at Two behind ≡ Ok (n, rest) → IsToken (Whole (pos n)) all rest
+two-token all behind rest c n is two read =
+    leaf-token (Whole (pos n)) all behind c rest is tt (ap (λ form. leaf_at form behind) (ap form_of two ∙ two-form) ∙ two-read behind rest n read)

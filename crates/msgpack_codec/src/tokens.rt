@@ -5,7 +5,7 @@ ghost use Rattle.msgpack_codec.specs.body.Decoder.{leaf_at};
 ghost use Rattle.msgpack_codec.specs.body.Tokens.{data_of, IsLeafToken};
 ghost use Rattle.msgpack_codec.specs.Values.{text_from};
 
-use crate::decoder::{number_of, octets_of, signed, size_of, sized};
+use crate::decoder::{number_in_two, number_of, octets_of, signed, size_of, sized};
 use crate::fault::Fault;
 use crate::format::{Form, form_of};
 use crate::utf8::text_in;
@@ -114,8 +114,8 @@ fn any_token(octets: &[u8]) -> Result<(Token<'_>, &[u8]), Malformed>
     }
 }
 
-/// A number that one octet is.
-fn whole<'a>(number: u8) -> Token<'a>
+/// A number of one octet or two.
+fn whole<'a>(number: u16) -> Token<'a>
     ensures { result ≡ Token.Whole (pos number) }
 {
     Token::Whole(i128::from(number))
@@ -134,15 +134,20 @@ pub fn first_token(octets: &[u8]) -> Result<(Token<'_>, &[u8]), Malformed>
     let Some((first, rest)) = octets.split_first() else {
         return any_token(octets);
     };
-    // What is in one octet is mostly asked for.
+    // Mostly what is in one octet is asked for, or a number in two behind it.
     if *first < 0x80 {
-        return Ok((whole(*first), rest));
+        return Ok((whole(u16::from(*first)), rest));
     }
     if *first < 0x90 {
         return Ok((Token::Dict(u64::from(*first - 0x80)), rest));
     }
     if *first < 0xa0 {
         return Ok((Token::List(u64::from(*first - 0x90)), rest));
+    }
+    if *first == 0xcd {
+        if let Some((number, rest)) = number_in_two(rest) {
+            return Ok((whole(number), rest));
+        }
     }
     any_token(octets)
 }
