@@ -54,7 +54,7 @@ fn put_passed(
 ///
 /// What is canonical already is copied, and takes no memory but `out`'s. Otherwise the entries of
 /// each dictionary are written behind one another as they come, and then copied in the order of
-/// their keys, so that octets are read twice, or three times in values with nothing inside, and
+/// their keys, so that octets are read twice, or four times in values with nothing inside, and
 /// copied once for each dictionary that they stand in: at most `room` times. Beside `out` this takes
 /// the octets that are written of the dictionaries in hand, with room for up to 256 at once, 8 octets
 /// for each key, and as many again while they are put in order.
