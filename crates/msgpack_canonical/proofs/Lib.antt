@@ -9,3 +9,5 @@ pub mod Sorting
 pub mod Parts
 pub mod Kept
 pub mod Sizes
+pub mod Placing
+pub mod LeastEntries

@@ -1,9 +1,10 @@
 //! Canonical form, from octets to octets.
-ghost use Rattle.std.specs.Prelude.{◌≡◌, ◌≢◌, ◌++◌, ℕ, List, [], IfOk, IfErr};
+ghost use Rattle.std.specs.Prelude.{◌≡◌, ◌≢◌, [], IfOk, IfErr};
 ghost use Rattle.msgpack_codec.specs.Grammar.{IsDeep};
 ghost use Rattle.msgpack_codec.specs.Written.{IsPassed, IsNoValue};
 ghost use Rattle.msgpack_canonical.specs.Canonical.{IsCanonicalized, IsValue};
 
+use crate::beginnings::front_of;
 use crate::writing::put_value;
 use message_tree::Appender;
 use msgpack_codec::{Carriage, Fault, Passed, Refusal, pass};
@@ -18,13 +19,6 @@ pub struct Canonicalized<'a> {
     /// comes again, only its last value counts), or 2^32 or more octets or members of a text, byte
     /// string, list or dictionary; then some of it may have been written.
     pub is_written: bool,
-}
-
-/// The octets up to the rest of them.
-fn front_of<'a>(octets: &'a [u8], rest: &[u8]) -> &'a [u8]
-    ensures { (front : List ℕ) → octets.entry.now ≡ front ++ rest.now → result.now ≡ front }
-{
-    octets.split_at(octets.len().saturating_sub(rest.len())).0
 }
 
 /// Writes what was passed over, and says whether it is carried: as it stands where it is spelled as
@@ -60,9 +54,10 @@ fn put_passed(
 ///
 /// What is canonical already is copied, and takes no memory but `out`'s. Otherwise the entries of
 /// each dictionary are written behind one another as they come, and then copied in the order of
-/// their keys, so that octets are read twice, and copied once for each dictionary that they stand
-/// in: at most `room` times. Beside `out` this takes the octets that are written of the dictionaries
-/// in hand, 8 octets for each key, and as many again while they are put in order.
+/// their keys, so that octets are read twice, or four times in values with nothing inside, and
+/// copied once for each dictionary that they stand in: at most `room` times. Beside `out` this takes
+/// the octets that are written of the dictionaries in hand, with room for up to 256 at once, 8 octets
+/// for each key, and as many again while they are put in order.
 ///
 /// # Errors
 /// As of [`pass`], the first fault from the left decides: [`Fault::TooDeep`] where a list or map stands

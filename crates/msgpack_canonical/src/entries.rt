@@ -1,15 +1,20 @@
 //! The entries of a dictionary, as they were written behind one another.
-ghost use Rattle.std.specs.Prelude.{◌≡◌, ◌≤◌, ◌^◌, ◌&&◌, ◌++◌, nat_lt, IfOk, OnOk, Ok, true, false, All, length, map, reverse};
+ghost use Rattle.std.specs.Prelude.{◌≡◌, ◌<◌, ◌≤◌, ◌^◌, ◌&&◌, ◌++◌, nat_lt, IfOk, OnOk, Ok, true, false, All, length, map, reverse, set};
+ghost use Rattle.std.specs.List.{insert};
 ghost use Rattle.std.specs.Ordering.{eq_by_cmp};
 ghost use Rattle.msgpack_codec.specs.Short.{dict_head};
 ghost use Rattle.msgpack_canonical.specs.body.Entries.{IsPlaced, IsStanding, all_kept, cut, cuts, entry_in, place_cmp};
-ghost use Rattle.msgpack_canonical.specs.body.Sorting.{in_order};
+ghost use Rattle.msgpack_canonical.specs.body.Sorting.{in_order, placed};
 
 use crate::heads::put_dict_head;
 use crate::texts::first_text;
 use message_tree::Appender;
-use std::alloc::AllocError;
+use msgpack_codec::key_order;
+use std::alloc::{AllocError, Global};
 use std::cmp::Ordering;
+
+/// So many places are few: they are put in order by looking at each of those before.
+pub(crate) const FEW: usize = 16;
 
 /// Where an entry stands in what was written: its key, and its value behind it where that is carried.
 #[derive(Clone, Copy, Debug, Drop)]
@@ -76,7 +81,7 @@ fn key_at(written: &[u8], place: Place) -> &[u8]
 fn compare(written: &[u8], one: Place, other: Place) -> Ordering
     ensures { result ≡ place_cmp written.now one other }
 {
-    key_at(written, one).cmp(&key_at(written, other))
+    key_order(key_at(written, one), key_at(written, other))
 }
 
 /// Whether two entries have one key.
@@ -86,14 +91,69 @@ fn is_same(written: &[u8], one: Place, other: Place) -> bool
     compare(written, one, other).is_eq()
 }
 
+/// Where a place belongs by its key among others, and whether one with this key stands there.
+fn find(written: &[u8], sorted: &[Place], place: Place) -> (usize, bool)
+    ensures within { result.0 ≤ length sorted.now }
+    ensures there { result.1 ≡ true → (result.0 < length sorted.now)
+        × (placed (place_cmp written.now) place sorted.now ≡ set sorted.now result.0 place) }
+    ensures other { result.1 ≡ false
+        → placed (place_cmp written.now) place sorted.now ≡ insert sorted.now result.0 place }
+{
+    let key = key_at(written, place);
+    for at in 0..sorted.len() {
+        match key_order(key, key_at(written, sorted[at])) {
+            Ordering::Less => return (at, false),
+            Ordering::Equal => return (at, true),
+            Ordering::Greater => {}
+        }
+    }
+    (sorted.len(), false)
+}
+
+/// Puts a place among others, in the stead of one with its key.
+fn put_place(sorted: &mut Vec<Place>, written: &[u8], place: Place) -> Result<(), AllocError>
+    ensures { OnOk result (sorted.new.items
+        ≡ placed (place_cmp written.now) place sorted.old.items) }
+{
+    let (at, is_there) = find(written, sorted, place);
+    if is_there {
+        sorted[at] = place;
+        return Ok(());
+    }
+    match sorted.insert(at, place) {
+        Ok(()) => Ok(()),
+        Err(_) => Err(AllocError),
+    }
+}
+
+/// The places in the order of their keys, each put among those before: for few.
+fn few_in_order(alloc: Global, places: &[Place], written: &[u8]) -> Result<Vec<Place>, AllocError>
+    ensures { IfOk result (λ sorted. sorted.items
+        ≡ in_order (place_cmp written.now) (reverse places.now)) }
+{
+    let mut sorted = Vec::with_capacity(alloc, places.len())?;
+    for place in places {
+        put_place(&mut sorted, written, *place)?;
+    }
+    Ok(sorted)
+}
+
 /// Puts the places of entries, which stand in the order in which their keys came, in the order of
 /// their keys: of each key the last place alone.
-pub(crate) fn put_in_order(places: &mut Vec<Place>, written: &[u8]) -> Result<(), AllocError>
+pub(crate) fn put_in_order(
+    alloc: Global,
+    places: &mut Vec<Place>,
+    written: &[u8],
+) -> Result<(), AllocError>
     ensures order { OnOk result (places.new.items
         ≡ in_order (place_cmp written.now) (reverse places.old.items)) }
     ensures stand { OnOk result (All (IsStanding written.now) (reverse places.old.items)
         → All (IsStanding written.now) places.new.items) }
 {
+    if places.len() <= FEW {
+        *places = few_in_order(alloc, places, written)?;
+        return Ok(());
+    }
     places.reverse();
     places.sort_by(|one, other| compare(written, *one, *other))?;
     places.dedup_by(|one, other| is_same(written, *one, *other));

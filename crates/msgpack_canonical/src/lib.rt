@@ -6,10 +6,12 @@
 //!
 //! Contracts say it in the words of `msgpack_codec`: which tree the octets spell, what is written for it, and which
 //! octets are refused, for the same reasons as by `msgpack_codec::decode`.
+mod beginnings;
 mod canonical;
 mod entries;
 mod heads;
 mod kinds;
+mod least;
 mod leaves;
 mod texts;
 mod writing;

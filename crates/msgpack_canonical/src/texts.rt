@@ -5,7 +5,7 @@ ghost use Rattle.msgpack_codec.specs.Values.{is_text};
 ghost use Rattle.msgpack_codec.specs.body.Decoder.{value_at};
 ghost use Rattle.msgpack_canonical.specs.body.Kinds.{IsNoText};
 
-use msgpack_codec::{Token, first_token};
+use msgpack_codec::{Token, first_token, short_text};
 
 /// The text that a token is.
 fn text_of(token: Token<'_>) -> Option<&str>
@@ -26,6 +26,19 @@ fn text_of(token: Token<'_>) -> Option<&str>
 
 /// The text at the front, and the octets after it; `None` where another value stands there, or none.
 pub fn first_text(octets: &[u8]) -> Option<(&str, &[u8])>
+    ensures some { IfSome result (λ x. (room : ℕ)
+        → value_at room octets.now ≡ Ok (text x.0.now, x.1.now)) }
+    ensures none { IfNone result ((room : ℕ) (k : Data) (rest : List ℕ)
+        → value_at room octets.now ≡ Ok (k, rest) → is_text k ≡ false) }
+{
+    match short_text(octets) {
+        Some((text, rest)) => Some((text, rest)),
+        None => any_text(octets),
+    }
+}
+
+/// The same of any text.
+fn any_text(octets: &[u8]) -> Option<(&str, &[u8])>
     ensures some { IfSome result (λ x. (room : ℕ)
         → value_at room octets.now ≡ Ok (text x.0.now, x.1.now)) }
     ensures none { IfNone result ((room : ℕ) (k : Data) (rest : List ℕ)

@@ -1,5 +1,5 @@
 //! Values in canonical form.
-ghost use Rattle.std.specs.Prelude.{◌≡◌, ◌&&◌, ℕ, List, IfOk, IfSome, IfNone, Ok, true, false};
+ghost use Rattle.std.specs.Prelude.{◌≡◌, ◌&&◌, ◌++◌, ℕ, List, IfOk, IfSome, IfNone, Ok, true, false};
 ghost use Rattle.message_tree.specs.Data.{Data, no_entries};
 ghost use Rattle.msgpack_codec.specs.Values.{is_text};
 ghost use Rattle.msgpack_codec.specs.body.Decoder.{value_at, dict_at};
@@ -7,14 +7,18 @@ ghost use Rattle.msgpack_codec.specs.body.Passing.{list_at};
 ghost use Rattle.msgpack_canonical.specs.body.Fitting.{IsPut, IsUnread};
 ghost use Rattle.msgpack_canonical.specs.body.Entries.{AreRead, IsEntryPut, IsNoEntry};
 
-use crate::entries::{Place, add_place, put_entries, put_in_order};
+use crate::entries::{FEW, Place, add_place, put_entries, put_in_order};
 use crate::heads::put_short_list_head;
 use crate::kinds::{Kind, kind_of};
+use crate::least::{least_entry, put_least_dict};
 use crate::leaves::{put_leaf, put_text};
 use crate::texts::first_text;
 use message_tree::Appender;
 use msgpack_codec::{first_token, pass};
 use std::alloc::{AllocError, Global};
+
+/// Room for so many octets of entries is taken at once.
+const FEW_OCTETS: usize = 256;
 
 /// What was done with a value.
 #[derive(Clone, Copy, Drop)]
@@ -140,7 +144,7 @@ fn pass_entry(octets: &[u8], room: u8, written: Vec<u8>) -> Option<Entry<'_>>
     })
 }
 
-/// The key and the value at the front.
+/// The key and the value at the front. Mostly they are copied as they stand.
 #[cycle(writing)]
 fn put_entry<'a>(
     alloc: Global,
@@ -152,6 +156,15 @@ fn put_entry<'a>(
         e.rest.now e.is_text written.items e.written.items)) }
     ensures none { IfOk result (λ o. IfNone o (IsNoEntry (value_at room) octets.entry.now)) }
 {
+    if let Some((entry, rest)) = least_entry(octets) {
+        let mut written = written;
+        written.extend_from_slice(entry)?;
+        return Ok(Some(Entry {
+            written,
+            rest,
+            is_text: true,
+        }));
+    }
     let Some((key, value)) = first_text(octets) else {
         return Ok(pass_entry(octets, room, written));
     };
@@ -200,8 +213,8 @@ fn entries_of<'a>(
     ensures none { IfOk result (λ o. IfNone o
         (IsUnread (dict_at (value_at room) count no_entries true octets.entry.now))) }
 {
-    let mut written = Vec::new(alloc);
-    let mut places = Vec::new(alloc);
+    let mut written = Vec::with_capacity(alloc, octets.len().min(FEW_OCTETS))?;
+    let mut places = Vec::with_capacity(alloc, (count as usize).min(FEW))?;
     let mut are_texts = true;
     let mut rest = octets;
     for _ in 0..count {
@@ -224,9 +237,31 @@ fn entries_of<'a>(
     }))
 }
 
-/// So many keys, each with its value behind it, behind the head of a dictionary.
+/// So many keys, each with its value behind it, behind the head of a dictionary. Most are few, with little inside.
 #[cycle(writing)]
 fn put_dict<'a>(
+    alloc: Global,
+    octets: &'a [u8],
+    count: u64,
+    room: u8,
+    out: &mut Appender,
+) -> Result<Option<Put<'a>>, AllocError>
+    ensures some { IfOk result (λ o. IfSome o (λ p. IsPut
+        (dict_at (value_at room) count no_entries true octets.entry.now)
+        p.rest.now p.is_written out.old.since out.new.since)) }
+    ensures none { IfOk result (λ o. IfNone o
+        (IsUnread (dict_at (value_at room) count no_entries true octets.entry.now))) }
+    ensures before { out.new.before ≡ out.old.before }
+{
+    match put_least_dict(alloc, octets, count, room, out)? {
+        Some((rest, is_written)) => Ok(Some(Put { rest, is_written })),
+        None => put_any_dict(alloc, octets, count, room, out),
+    }
+}
+
+/// The same, whatever they are.
+#[cycle(writing)]
+fn put_any_dict<'a>(
     alloc: Global,
     octets: &'a [u8],
     count: u64,
@@ -249,7 +284,7 @@ fn put_dict<'a>(
         are_texts,
         rest,
     } = entries;
-    put_in_order(&mut places, &written)?;
+    put_in_order(alloc, &mut places, &written)?;
     let is_written = if are_texts {
         put_entries(&written, &places, out)?
     } else {

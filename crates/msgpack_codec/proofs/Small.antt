@@ -1,10 +1,9 @@
 -- What octets spell is sound, and short enough to be written.
-use Rattle.std.proofs.Common.{◌≡◌, ℕ, zero, suc, ◌+◌, ◌-◌, ◌^◌, ◌==◌, ◌≤◌, ◌<◌, Bool, true, false, ◌&&◌, cond, if◌then◌else◌, List, [], ◌∷◌, ◌++◌, length, nat_cmp, refl, sym, ap, ◌∙◌, subst, arith}
+use Rattle.std.proofs.Common.{◌≡◌, ℕ, zero, suc, ◌+◌, ◌-◌, ◌^◌, ◌==◌, ◌≤◌, ◌<◌, Bool, true, false, ◌&&◌, cond, if◌then◌else◌, List, [], ◌∷◌, ◌++◌, length, nat_cmp, refl, sym, ap, subst, arith}
 use Rattle.std.specs.Prelude.{nat_lt}
 use Rattle.std.specs.Str.{is_utf8}
 use Rattle.std.specs.Cmp.Lexicographic.{slice_cmp}
 use Rattle.std.proofs.lemmas.Bool.{lt-ltb}
-use Rattle.std.proofs.lemmas.List.{length-append}
 use Rattle.message_tree.specs.Data as tree
 use Rattle.message_tree.specs.View.{items_of}
 use Rattle.message_tree.proofs.Lemmas.{whichever}
@@ -12,7 +11,6 @@ use Rattle.msgpack_codec.specs.declared.format.Form.{Form}
 use Rattle.msgpack_codec.specs.declared.format.Form.TheVariants as forms
 use Rattle.msgpack_codec.specs.declared.format.Size.{Size}
 use Rattle.msgpack_codec.specs.declared.format.Size.TheVariants.{Here, Next}
-use Rattle.msgpack_codec.specs.declared.format.Width.{Width}
 use Rattle.msgpack_codec.specs.declared.format.Width.TheVariants.{One, Two, Four}
 use Rattle.msgpack_codec.specs.Format.{form_of, marked_form}
 use Rattle.msgpack_codec.specs.Values.{keep_entry, is_text}

@@ -1,5 +1,5 @@
 //! Octets to messages.
-ghost use Rattle.std.specs.Prelude.{◌≡◌, ◌≢◌, ◌<◌, ◌≤◌, ◌+◌, max, vec_len, vec_capacity, length, IfOk, IfErr, OnOk, Ok, Err, true, ◌&&◌, if◌then◌else◌};
+ghost use Rattle.std.specs.Prelude.{◌≡◌, ◌≢◌, ◌<◌, ◌≤◌, ◌+◌, max, vec_len, vec_capacity, length, IfOk, IfErr, IfSome, OnOk, Ok, Err, true, ◌&&◌, if◌then◌else◌};
 ghost use Rattle.msgpack_codec.specs.body.Decoder.{number_at, octets_at, size_at, sized_at, leaf_at, nest_at, value_at, items_at, dict_at, message_at};
 ghost use Rattle.msgpack_codec.specs.Values.{signed_from, text_from, is_text, keep_entry};
 ghost use Rattle.message_tree.specs.Data.{no_items, no_entries, uncarried, dict as of_dict};
@@ -52,6 +52,17 @@ pub(crate) fn number_of(octets: &[u8], width: Width) -> Result<(u64, &[u8]), Fau
             Ok((number, rest))
         }
     }
+}
+
+/// The number in the two octets at the front, as most that take more than one are.
+pub(crate) fn number_in_two(octets: &[u8]) -> Option<(u16, &[u8])>
+    ensures { IfSome result (λ x. number_at Width.Two octets.now ≡ Ok (x.0, x.1.now)) }
+{
+    if octets.len() < 2 {
+        return None;
+    }
+    let (front, rest) = octets.split_at(2);
+    Some((u16::from_be_bytes([front[0], front[1]]), rest))
 }
 
 /// A length, which may stand at the front.

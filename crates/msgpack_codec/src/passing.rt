@@ -1,5 +1,5 @@
 //! Passing over a value, with no memory.
-ghost use Rattle.std.specs.Prelude.{◌≡◌, ◌≢◌, ◌&&◌, ◌∷◌, ◌++◌, List, ℕ, IfOk, IfErr, Ok, Err, None, Bool, true, option_map, if◌then◌else◌};
+ghost use Rattle.std.specs.Prelude.{◌≡◌, ◌≢◌, ◌&&◌, ◌∷◌, ◌++◌, List, ℕ, IfOk, IfErr, Ok, Err, None, Some, Bool, true, option_map, if◌then◌else◌};
 ghost use Rattle.message_tree.specs.Data.{Data, Entries, no_entries, uncarried, dict, whole as of_whole, bytes as of_bytes, flag as of_flag};
 ghost use Rattle.msgpack_codec.specs.Values.{is_text, text_from};
 ghost use Rattle.msgpack_codec.specs.Format.{form_of as of_octet};
@@ -14,6 +14,8 @@ use crate::carriage::{Carriage, doubted, worse};
 use crate::decoder::{number_of, octets_of, signed, size_of, sized};
 use crate::fault::Fault;
 use crate::format::{Form, form_of};
+use crate::keys::key_order;
+use crate::short_texts::short_text;
 use crate::shortest::{
     before, is_bytes_head, is_dict_head, is_list_head, is_one, is_text_head, is_whole,
 };
@@ -129,6 +131,21 @@ fn number_seen<'a>(all: &[u8], rest: &'a [u8], number: i128) -> Seen<'a>
         front (short (of_whole number)) }
 {
     no_text(rest, whole(number), is_whole(before(all, rest), number))
+}
+
+/// A short text.
+fn short_text_seen<'a>(text: &'a str, rest: &'a [u8]) -> Seen<'a>
+    ensures rest { result.rest.now ≡ rest.entry.now }
+    ensures carriage { result.carriage ≡ Carriage.Carried }
+    ensures text { option_map (λ t. t.now) result.text ≡ Some text.entry.now }
+    ensures shortest { result.is_shortest ≡ true }
+{
+    Seen {
+        rest,
+        carriage: Carriage::Carried,
+        text: Some(text.as_bytes()),
+        is_shortest: true,
+    }
 }
 
 /// A value with nothing inside, after its first octet, and from that octet on.
@@ -247,6 +264,21 @@ fn nest<'a>(form: Form, all: &'a [u8], octets: &'a [u8], room: u8) -> Result<See
     }
 }
 
+/// A member at the front, as a value that nests no more than `room` levels. Most are short texts.
+#[cycle(passing)]
+fn member(octets: &[u8], room: u8) -> Result<Seen<'_>, Fault>
+    ensures ok { IfOk result (λ s. IsSeen (written_at room octets.now)
+        s.rest.now s.carriage (option_map (λ t. t.now) s.text)) }
+    ensures err { IfErr result (λ e. written_at room octets.now ≡ Err e) }
+    ensures shortest { IfOk result (λ s. IsFullyJudged (written_at room octets.now)
+        octets.now s.rest.now s.is_shortest) }
+{
+    match short_text(octets) {
+        Some((text, rest)) => Ok(short_text_seen(text, rest)),
+        None => value(octets, room),
+    }
+}
+
 fn both(one: bool, other: bool) -> bool
     ensures { result ≡ (one && other) }
 {
@@ -267,7 +299,7 @@ fn items(octets: &[u8], count: u64, room: u8) -> Result<Seen<'_>, Fault>
     let mut is_shortest = true;
     let mut rest = octets;
     for _ in 0..count {
-        let item = value(rest, room)?;
+        let item = member(rest, room)?;
         carriage = worse(carriage, item.carriage);
         is_shortest = both(is_shortest, item.is_shortest);
         rest = item.rest;
@@ -290,7 +322,7 @@ fn is_behind(last: Option<&[u8]>, key: &[u8]) -> bool
 {
     match last {
         None => true,
-        Some(last) => last.cmp(&key) == Ordering::Less,
+        Some(last) => key_order(last, key) == Ordering::Less,
     }
 }
 
@@ -356,8 +388,8 @@ fn pairs(octets: &[u8], count: u64, room: u8) -> Result<Seen<'_>, Fault>
     let mut is_shortest = true;
     let mut rest = octets;
     for _ in 0..count {
-        let key = value(rest, room)?;
-        let item = value(key.rest, room)?;
+        let key = member(rest, room)?;
+        let item = member(key.rest, room)?;
         known = with(known, key, item.carriage);
         is_shortest = both(is_shortest, both(key.is_shortest, item.is_shortest));
         rest = item.rest;

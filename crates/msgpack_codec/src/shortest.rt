@@ -10,12 +10,27 @@ pub(crate) fn before<'a>(octets: &'a [u8], after: &[u8]) -> &'a [u8]
     &octets[..octets.len().saturating_sub(after.len())]
 }
 
+/// Whether octets are the same. They are few: to compare them one by one takes less than as slices.
+fn are_same(octets: &[u8], others: &[u8]) -> bool
+    ensures { result ≡ true ↔ (octets.now ≡ others.now) }
+{
+    if octets.len() != others.len() {
+        return false;
+    }
+    for at in 0..octets.len() {
+        if octets[at] != others[at] {
+            return false;
+        }
+    }
+    true
+}
+
 /// Whether octets are one, and others behind it.
 fn are(octets: &[u8], first: u8, others: &[u8]) -> bool
     ensures { result ≡ true ↔ (octets.now ≡ first ∷ others.now) }
 {
     match octets.split_first() {
-        Some((found, behind)) => *found == first && behind == others,
+        Some((found, behind)) => *found == first && are_same(behind, others),
         None => false,
     }
 }

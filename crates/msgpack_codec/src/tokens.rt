@@ -1,11 +1,11 @@
 //! What stands at the front of octets, with no memory.
-ghost use Rattle.std.specs.Prelude.{◌≡◌, IfOk, IfErr, OnErr, Ok, Err};
+ghost use Rattle.std.specs.Prelude.{◌≡◌, IfOk, IfErr, OnErr, Ok, Err, pos};
 ghost use Rattle.msgpack_codec.specs.Tokens.{IsToken, IsNoToken};
 ghost use Rattle.msgpack_codec.specs.body.Decoder.{leaf_at};
 ghost use Rattle.msgpack_codec.specs.body.Tokens.{data_of, IsLeafToken};
 ghost use Rattle.msgpack_codec.specs.Values.{text_from};
 
-use crate::decoder::{number_of, octets_of, signed, size_of, sized};
+use crate::decoder::{number_in_two, number_of, octets_of, signed, size_of, sized};
 use crate::fault::Fault;
 use crate::format::{Form, form_of};
 use crate::utf8::text_in;
@@ -90,13 +90,8 @@ fn leaf(form: Form, octets: &[u8]) -> Result<(Token<'_>, &[u8]), Fault>
     }
 }
 
-/// The token at the front of octets, by any spelling of MessagePack's table (MessagePack
-/// specification, "Formats"), and the octets after it: those of the first member, behind the head
-/// of a list or dictionary. It takes no memory.
-///
-/// # Errors
-/// [`Malformed`] where the octets begin with no whole token.
-pub fn first_token(octets: &[u8]) -> Result<(Token<'_>, &[u8]), Malformed>
+/// The token at the front, whatever it is.
+fn any_token(octets: &[u8]) -> Result<(Token<'_>, &[u8]), Malformed>
     ensures ok { IfOk result (λ x. IsToken x.0 octets.now x.1.now) }
     ensures err { OnErr result (IsNoToken octets.now) }
 {
@@ -117,4 +112,42 @@ pub fn first_token(octets: &[u8]) -> Result<(Token<'_>, &[u8]), Malformed>
             Err(_) => Err(Malformed),
         },
     }
+}
+
+/// A number of one octet or two.
+fn whole<'a>(number: u16) -> Token<'a>
+    ensures { result ≡ Token.Whole (pos number) }
+{
+    Token::Whole(i128::from(number))
+}
+
+/// The token at the front of octets, by any spelling of MessagePack's table (MessagePack
+/// specification, "Formats"), and the octets after it: those of the first member, behind the head
+/// of a list or dictionary. It takes no memory.
+///
+/// # Errors
+/// [`Malformed`] where the octets begin with no whole token.
+pub fn first_token(octets: &[u8]) -> Result<(Token<'_>, &[u8]), Malformed>
+    ensures ok { IfOk result (λ x. IsToken x.0 octets.now x.1.now) }
+    ensures err { OnErr result (IsNoToken octets.now) }
+{
+    let Some((first, rest)) = octets.split_first() else {
+        return any_token(octets);
+    };
+    // Mostly what is in one octet is asked for, or a number in two behind it.
+    if *first < 0x80 {
+        return Ok((whole(u16::from(*first)), rest));
+    }
+    if *first < 0x90 {
+        return Ok((Token::Dict(u64::from(*first - 0x80)), rest));
+    }
+    if *first < 0xa0 {
+        return Ok((Token::List(u64::from(*first - 0x90)), rest));
+    }
+    if *first == 0xcd {
+        if let Some((number, rest)) = number_in_two(rest) {
+            return Ok((whole(number), rest));
+        }
+    }
+    any_token(octets)
 }

@@ -1,3 +1,4 @@
 pub mod Pairs
 pub mod Steps
 pub mod Tokens
+mod ShortTexts

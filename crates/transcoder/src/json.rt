@@ -7,7 +7,7 @@ ghost use Rattle.transcoder.specs.body.Members.{IsWrittenAt, NothingAt, AreItems
 use crate::fault::Fault;
 use crate::leaves::{text_of, write_leaf};
 use message_tree::Appender;
-use msgpack_codec::{Token, first_token};
+use msgpack_codec::{Token, first_token, short_text};
 use std::alloc::{AllocError, Global};
 
 /// The most levels that lists and dictionaries nest in a message.
@@ -31,12 +31,34 @@ pub fn write_json<'a>(
     ensures fault { result ≡ Err Fault.Malformed → NothingStands octets.entry.now }
     ensures before { out.new.before ≡ out.old.before }
 {
-    write_value(alloc, octets, ROOM, out)
+    write_any_value(alloc, octets, ROOM, out)
 }
 
-/// Writes the value at the front, which nests no more than `room` levels.
+/// Writes the value at the front, which nests no more than `room` levels. Short texts are looked for first.
 #[cycle(writing)]
 fn write_value<'a>(
+    alloc: Global,
+    octets: &'a [u8],
+    room: u8,
+    out: &mut Appender,
+) -> Result<&'a [u8], Fault>
+    ensures ok { IfOk result (λ rest. IsWrittenAt room octets.entry.now rest.now out.old.since
+        out.new.since) }
+    ensures fault { result ≡ Err Fault.Malformed → NothingAt room octets.entry.now }
+    ensures before { out.new.before ≡ out.old.before }
+{
+    match short_text(octets) {
+        Some((text, rest)) => {
+            json_codec::encode_text_into(alloc, text, out)?;
+            Ok(rest)
+        }
+        None => write_any_value(alloc, octets, room, out),
+    }
+}
+
+/// The same, whatever the value is.
+#[cycle(writing)]
+fn write_any_value<'a>(
     alloc: Global,
     octets: &'a [u8],
     room: u8,
@@ -106,6 +128,23 @@ fn write_items<'a>(
 
 /// Writes a key, and the colon behind it.
 fn write_key<'a>(alloc: Global, octets: &'a [u8], out: &mut Appender) -> Result<&'a [u8], Fault>
+    ensures ok { IfOk result (λ rest. (room : ℕ) → IsKeyWritten room octets.entry.now rest.now
+        out.old.since out.new.since) }
+    ensures fault { result ≡ Err Fault.Malformed → (room : ℕ) → NoKeyAt room octets.entry.now }
+    ensures before { out.new.before ≡ out.old.before }
+{
+    match short_text(octets) {
+        Some((key, rest)) => {
+            json_codec::encode_text_into(alloc, key, out)?;
+            out.put(b':')?;
+            Ok(rest)
+        }
+        None => write_any_key(alloc, octets, out),
+    }
+}
+
+/// The same, whatever the key is.
+fn write_any_key<'a>(alloc: Global, octets: &'a [u8], out: &mut Appender) -> Result<&'a [u8], Fault>
     ensures ok { IfOk result (λ rest. (room : ℕ) → IsKeyWritten room octets.entry.now rest.now
         out.old.since out.new.since) }
     ensures fault { result ≡ Err Fault.Malformed → (room : ℕ) → NoKeyAt room octets.entry.now }

@@ -5,6 +5,7 @@ use Rattle.std.specs.BTreeMap.{insert_entry}
 use Rattle.std.specs.Cmp.Lexicographic.{slice_cmp}
 use Rattle.std.specs.declared.cmp.Ordering.{Ordering}
 use Rattle.message_tree.specs.Data as tree
+use Rattle.msgpack_codec.specs.Grammar.{Spells}
 use Rattle.msgpack_codec.specs.Short.{short, text_head}
 use Rattle.msgpack_codec.specs.Values.{is_text}
 use Rattle.msgpack_codec.specs.body.Decoder.{Found, value_at, dict_at}
@@ -91,6 +92,13 @@ pub record IsEntryPut (value : List ℕ → Found tree.Data) (octets rest : List
   pub text : has_place ≡ is_text key
   pub added : new ≡ old ++ more
   pub entry : (s : List ℕ) → key ≡ tree.text s → IsEntry s (kept meant) more
+
+-- the octets begin with the least spelling of a value with nothing inside
+pub record BeginsLeast (octets rest : List ℕ) : Type 0 where
+  pub meant : tree.Data
+  pub parts : octets ≡ short meant ++ rest
+  pub spelled : Spells 0 (short meant) meant
+  pub fit : fits meant ≡ true
 
 -- no entry was read
 abbrev pub IsNoEntry : (List ℕ → Found tree.Data) → List ℕ → Type 0

@@ -9,6 +9,8 @@ use Rattle.msgpack_canonical.specs.declared.entries.Place.{Place}
 use Rattle.msgpack_canonical.specs.body.Entries.{IsStanding, entry_in, place_cmp}
 use Rattle.msgpack_canonical.specs.body.Sorting.{in_order}
 use Rattle.msgpack_canonical.proofs.Sorting.{sorted-dedup, All-dedup}
+use Rattle.msgpack_canonical.proofs.Placing.{All-in_order}
+use Rattle.std.proofs.Common.{reverse}
 use Rattle.msgpack_canonical.proofs.entries.put_in_order.Goals as goal
 
 pub returns-clause-order : goal.returns-clause-order
@@ -29,3 +31,9 @@ returns-clause-stand c =
     let left = dedup_same _ (eq_by_cmp (place_cmp written)) _ (λ x y b f p q k. search rules) _ _ c.dedup_by.ensures.filtered in
     λ all. subst (All (IsStanding written)) (sym left) (All-dedup (IsStanding written) (eq_by_cmp (place_cmp written)) _
     (All-permutation (IsStanding written) _ _ c.in_ok-sort_by.ensures.permutation (subst (All (IsStanding written)) (sym c.reverse.ensures.items) all)))
+
+pub returns-then-len-le-FEW-clause-stand : goal.returns-then-len-le-FEW-clause-stand
+returns-then-len-le-FEW-clause-stand c =
+    let written = c.args.written.now in
+    let sorted = c.in_ok-places.ensures ∙ ap (λ ps. in_order (place_cmp written) (reverse ps)) c.deref.ensures.value in
+    λ all. subst (All (IsStanding written)) (sym sorted) (All-in_order (place_cmp written) (IsStanding written) (reverse c.args.places.now.items) all)

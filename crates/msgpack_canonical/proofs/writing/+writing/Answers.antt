@@ -23,7 +23,7 @@ use Rattle.msgpack_canonical.proofs.Dicts.{value-unread}
 use Rattle.msgpack_canonical.proofs.Parts.{put_octets, put-entry, put-behind}
 use Rattle.msgpack_canonical.proofs.Sizes.{dict-put}
 use Rattle.msgpack_canonical.proofs.Kept.{kept-text, kept-none, none-kept}
-use Rattle.msgpack_canonical.proofs.writing.+writing.Goals.{entries_of-then-entry+in_ok-add_place, entries_of-else-entry, put_dict-then-are_texts+in_ok-is_written, put_dict-else-are_texts, put_entry-then-put, put_entry-else-put}
+use Rattle.msgpack_canonical.proofs.writing.+writing.Goals.{entries_of-then-entry+in_ok-add_place, entries_of-else-entry, put_any_dict-then-are_texts+in_ok-is_written, put_any_dict-else-are_texts, put_entry-then-put, put_entry-else-put}
 use Rattle.msgpack_canonical.proofs.writing.+writing.Goals as goal
 
 -- ---- values
@@ -136,7 +136,7 @@ pub entries_of-loop-init : goal.entries_of-loop-init
 entries_of-loop-init t c = record {
   found = tree.no_entries;
   read = let e : c.args.count - 0 ≡ c.args.count = omega arith in ap (λ n. dict_at (value_at c.args.room) n tree.no_entries true c.args.octets.now) e;
-  kept = none-kept c.new-written.result.items c.new-places.result.items c.new-places.ensures.items;
+  kept = none-kept c.in_ok-written.written.items c.in_ok-places.places.items c.in_ok-places.ensures.items;
 }
 
 pub entries_of-returns-in_default-clause-none : goal.entries_of-returns-in_default-clause-none
@@ -184,14 +184,14 @@ entries_of-returns-clause-some t c =
 
 pub put_entry-returns-in_default-2-clause-none : goal.put_entry-returns-in_default-2-clause-none
 put_entry-returns-in_default-2-clause-none t c =
-    value-unread (value_at c.args.room) c.args.octets.now (tree.text c.in-Some.key.now) c.in-Some.value.now (c.in-Some.ensures.some c.args.room)
-    (subst (λ o. IfNone o (IsUnread (value_at c.args.room c.in-Some.value.now))) c.in_default-2.is c.in_ok-put.ensures.none)
+    value-unread (value_at c.args.room) c.args.octets.now (tree.text c.in-Some-first_text.key.now) c.in-Some-first_text.value.now (c.in-Some-first_text.ensures.some c.args.room)
+    (subst (λ o. IfNone o (IsUnread (value_at c.args.room c.in-Some-first_text.value.now))) c.in_default-2.is c.in_ok-put.ensures.none)
 
 pub put_entry-returns-clause-some : goal.put_entry-returns-clause-some
 put_entry-returns-clause-some t c =
     let value = value_at c.args.room in
-    let key = c.in-Some.key.now in
-    let put = subst (λ o. IfSome o (λ p. IsPut (value c.in-Some.value.now) p.rest.now p.is_written c.new-out-2.result.since c.put_value.new.out.since)) c.in-Some-2.is c.in_ok-put.ensures.some in
+    let key = c.in-Some-first_text.key.now in
+    let put = subst (λ o. IfSome o (λ p. IsPut (value c.in-Some-first_text.value.now) p.rest.now p.is_written c.new-out-2.result.since c.put_value.new.out.since)) c.in-Some-2.is c.in_ok-put.ensures.some in
     let has = c.if-not-branch.false in
     let text : c.put_text.new.out.since ≡ text_head (length key) ++ key = c.in_ok-put_text.ensures.written has ∙ ap (λ (o : List ℕ). o ++ (text_head (length key) ++ key)) c.new-out.ensures.since in
     let old = c.args.written.items in
@@ -211,18 +211,18 @@ put_entry-returns-clause-some t c =
     ] in
     record {
       key = tree.text key;
-      middle = c.in-Some.value.now;
+      middle = c.in-Some-first_text.value.now;
       meant = put.0;
       more = put_octets key put.0;
-      key_read = c.in-Some.ensures.some c.args.room;
+      key_read = c.in-Some-first_text.ensures.some c.args.room;
       value_read = put.1;
       text = refl;
       added = put-behind key put.0 old before since c.if-put.written.items b put.2 at new (λ is. put.3 is ∙ ap (λ (o : List ℕ). o ++ short put.0) c.new-out-2.ensures.since);
       entry = put-entry key put.0 (c.in_ok-put_text.ensures.read has (kept put.0)) (sym c.in_ok-put_text.ensures.fits ∙ has);
     }
 
-pub put_dict-returns-clause-some : goal.put_dict-returns-clause-some
-put_dict-returns-clause-some t c =
+pub put_any_dict-returns-clause-some : goal.put_any_dict-returns-clause-some
+put_any_dict-returns-clause-some t c =
     let value = value_at c.args.room in
     let read = dict_at value c.args.count tree.no_entries true c.args.octets.now in
     let all = subst (λ o. IfSome o (λ e. AreRead read e.are_texts e.written.items e.places.items e.rest.now)) c.in-Some.is c.in_ok-entries.ensures.some in
@@ -234,12 +234,12 @@ put_dict-returns-clause-some t c =
     let stand : All (IsStanding entries.written.items) sorted =
     subst (λ (w : List ℕ). All (IsStanding w) sorted) same (c.in_ok-put_in_order.ensures.stand (subst (λ (w : List ℕ). All (IsStanding w) arrived) (sym same) all.kept_at.stand)) in
     elim c.if-are_texts.branch [
-      | put_dict-then-are_texts+in_ok-is_written w ↦
+      | put_any_dict-then-are_texts+in_ok-is_written w ↦
           let dict = tree.dict all.entries in
           let done = dict-put entries.written.items arrived sorted all.entries all.kept_at order stand w.deref-then-are_texts.result.now w.deref-then-are_texts-2.result.now c.if-are_texts.is_written c.args.out.now.since
           c.if-are_texts.out.since w.deref-then-are_texts.ensures.value w.deref-then-are_texts-2.ensures.value (w.is_written-is ∙ w.in_ok-is_written.ensures.fits) (λ is. subst (λ o. o.since ≡ c.args.out.now.since ++ (dict_head (length w.deref-then-are_texts-2.result.now) ++ cuts w.deref-then-are_texts.result.now w.deref-then-are_texts-2.result.now)) (sym w.out-is)
           (w.in_ok-is_written.ensures.written (sym w.is_written-is ∙ is))) in
           (dict, all.read ∙ ap (λ b. Ok (cond b dict tree.uncarried, entries.rest.now)) w.if-are_texts.true, done.0, done.1)
-      | put_dict-else-are_texts w ↦
+      | put_any_dict-else-are_texts w ↦
           (tree.uncarried, all.read ∙ ap (λ b. Ok (cond b (tree.dict all.entries) tree.uncarried, entries.rest.now)) w.if-are_texts.false, w.is_written-is, λ is. let nay = w.is_written-is in absurd cc)
     ]

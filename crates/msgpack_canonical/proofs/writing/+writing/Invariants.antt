@@ -18,8 +18,11 @@ decreases-put_entry l = 5 * l.room + 1
 abbrev pub decreases-entries_of : goal.decreases-entries_of
 decreases-entries_of l = 5 * l.room + 2
 
+abbrev pub decreases-put_any_dict : goal.decreases-put_any_dict
+decreases-put_any_dict l = 5 * l.room + 3
+
 abbrev pub decreases-put_dict : goal.decreases-put_dict
-decreases-put_dict l = 5 * l.room + 3
+decreases-put_dict l = 5 * l.room + 4
 
 abbrev pub invariant-put_list-loop : goal.invariant-put_list-loop
 invariant-put_list-loop l = record {

@@ -16,6 +16,7 @@ use Rattle.msgpack_codec.proofs.NestJudgements.{of-ok, of-both, as-judged, leaf-
 use Rattle.msgpack_codec.proofs.Carriages.{items_carriage-push}
 use Rattle.msgpack_codec.proofs.Loops.{one-left, none-left, item-read, item-refused, items-read}
 use Rattle.msgpack_codec.proofs.PairLoops.{list-read, list-refused, pair-read, key-refused, pair-refused, pairs-read, map-no_text, written-leaf, written-nests}
+use Rattle.msgpack_codec.proofs.ShortTexts.{text-written, text-least}
 use Rattle.msgpack_codec.proofs.passing.+passing.Goals as goal
 
 pub items-loop-init : goal.items-loop-init
@@ -165,6 +166,19 @@ pairs-returns-clause-shortest t c = λ d body read parts.
     let is : c.no_text.result.is_shortest ≡ (texts && (l.known.ascend && l.is_shortest)) =
     c.no_text.ensures.shortest ∙ c.both-is_shortest-2.ensures ∙ rw (c.both-2.ensures, known.texts_are) refl in
     rw (same, is) (pairs-judged texts c.args.count l.known.ascend l.is_shortest so_far.0 found d told known.ascend_is all)
+
+pub member-returns-in-Some-clause-ok : goal.member-returns-in-Some-clause-ok
+member-returns-in-Some-clause-ok t c = (
+  tree.text c.in-Some.text.now,
+  rw c.short_text_seen.ensures.rest (text-written c.args.octets.now c.in-Some.text.now c.in-Some.rest.now c.in-Some.ensures.spelled c.in-Some.ensures.utf8 c.in-Some.ensures.few c.args.room),
+  c.short_text_seen.ensures.carriage,
+  c.short_text_seen.ensures.text,
+)
+
+pub member-returns-in-Some-clause-shortest : goal.member-returns-in-Some-clause-shortest
+member-returns-in-Some-clause-shortest t c =
+    rw (c.short_text_seen.ensures.rest, c.short_text_seen.ensures.shortest)
+    (text-least c.args.octets.now c.in-Some.text.now c.in-Some.rest.now c.in-Some.ensures.spelled c.in-Some.ensures.utf8 c.in-Some.ensures.few c.args.room)
 
 pub value-returns-else-room-eq0-clause-ok : goal.value-returns-else-room-eq0-clause-ok
 value-returns-else-room-eq0-clause-ok t c =

@@ -9,16 +9,19 @@ use Rattle.msgpack_codec.proofs.Judgements.{AreTold}
 use Rattle.msgpack_codec.proofs.passing.+passing.Given as goal
 
 abbrev pub decreases-value : goal.decreases-value
-decreases-value l = 3 * l.room
+decreases-value l = 4 * l.room
+
+abbrev pub decreases-member : goal.decreases-member
+decreases-member l = 4 * l.room + 1
 
 abbrev pub decreases-nest : goal.decreases-nest
-decreases-nest l = 3 * l.room + 2
+decreases-nest l = 4 * l.room + 3
 
 abbrev pub decreases-items : goal.decreases-items
-decreases-items l = 3 * l.room + 1
+decreases-items l = 4 * l.room + 2
 
 abbrev pub decreases-pairs : goal.decreases-pairs
-decreases-pairs l = 3 * l.room + 1
+decreases-pairs l = 4 * l.room + 2
 
 abbrev pub invariant-items-loop : goal.invariant-items-loop
 invariant-items-loop l =

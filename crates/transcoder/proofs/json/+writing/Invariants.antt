@@ -7,13 +7,16 @@ use Rattle.transcoder.specs.body.Members.{ItemsAt, PairsAt, entries_of}
 use Rattle.transcoder.proofs.json.+writing.Given as goal
 
 abbrev pub decreases-write_value : goal.decreases-write_value
-decreases-write_value l = 2 * l.room
+decreases-write_value l = 3 * l.room + 1
+
+abbrev pub decreases-write_any_value : goal.decreases-write_any_value
+decreases-write_any_value l = 3 * l.room
 
 abbrev pub decreases-write_items : goal.decreases-write_items
-decreases-write_items l = 2 * l.room + 1
+decreases-write_items l = 3 * l.room + 2
 
 abbrev pub decreases-write_pairs : goal.decreases-write_pairs
-decreases-write_pairs l = 2 * l.room + 1
+decreases-write_pairs l = 3 * l.room + 2
 
 abbrev pub invariant-write_items-loop : goal.invariant-write_items-loop
 invariant-write_items-loop l = record {

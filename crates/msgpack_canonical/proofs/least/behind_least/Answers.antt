@@ -1,0 +1,8 @@
+use Rattle.msgpack_canonical.proofs.LeastEntries.{least-text, least-passed}
+use Rattle.msgpack_canonical.proofs.least.behind_least.Goals as goal
+
+pub returns-in-Some : goal.returns-in-Some
+returns-in-Some c = least-text c.args.octets.now c.in-Some._text.now c.in-Some.rest.now c.in-Some.ensures.spelled c.in-Some.ensures.utf8 c.in-Some.ensures.few
+
+pub returns-then-passed : goal.returns-then-passed
+returns-then-passed c = least-passed c.args.octets.now c.in-Ok.passed.rest.now c.in-Ok.passed.carriage c.in-Ok.passed.is_shortest c.if-passed.true c.in-Ok.ensures.ok
