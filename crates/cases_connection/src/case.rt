@@ -100,6 +100,7 @@ impl Case {
             "goodbye" => self.owe(alloc, word)?,
             "leave" => self.sessions.leave(),
             "shared" => return self.sessions.shared(alloc),
+            "others" => return self.sessions.others(alloc),
             "crossing" => return threads(alloc),
             "forward" => self.forward(rt, alloc)?,
             "take" => return self.seat(alloc),

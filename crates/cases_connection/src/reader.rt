@@ -68,6 +68,7 @@ impl Stream {
         let poster = EncodingPoster {
             alloc,
             in_use,
+            own: client.serializer,
             poster: Log::new(alloc, self.room)?,
         };
         let source = MemorySource::new(self.octets.as_slice().to_vec(alloc)?);

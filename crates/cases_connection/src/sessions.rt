@@ -1,5 +1,5 @@
 //! The live sessions of a case's realm.
-use case_text::{crossing, line_of, may_be_sent, may_be_shared};
+use case_text::{crossing, may_be_sent, may_be_shared};
 use connection::{InUse, Using};
 use rawsocket::Serializer;
 use std::alloc::{AllocError, Global};
@@ -40,16 +40,30 @@ impl Sessions {
 
     /// What two of them use, or more.
     pub fn shared(&self, alloc: Global) -> io::Result<String> {
-        let words = match (
-            self.in_use.is_shared(Serializer::Json),
-            self.in_use.is_shared(Serializer::MsgPack),
-        ) {
-            (false, false) => "shared: none",
-            (true, false) => "shared: json",
-            (false, true) => "shared: msgpack",
-            (true, true) => "shared: json msgpack",
-        };
-        line_of(alloc, words)
+        let found = in_words(
+            self.in_use.is_shared(Serializer::Json, Serializer::MsgPack),
+            self.in_use.is_shared(Serializer::MsgPack, Serializer::Json),
+        );
+        Ok(format!(in alloc; "shared: {found}\n")?)
+    }
+
+    /// What two of them use, or more, beside one that uses it too.
+    pub fn others(&self, alloc: Global) -> io::Result<String> {
+        let found = in_words(
+            self.in_use.is_shared(Serializer::Json, Serializer::Json),
+            self.in_use
+                .is_shared(Serializer::MsgPack, Serializer::MsgPack),
+        );
+        Ok(format!(in alloc; "others: {found}\n")?)
+    }
+}
+
+fn in_words(json: bool, msgpack: bool) -> &'static str {
+    match (json, msgpack) {
+        (false, false) => "none",
+        (true, false) => "json",
+        (false, true) => "msgpack",
+        (true, true) => "json msgpack",
     }
 }
 

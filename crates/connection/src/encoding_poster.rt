@@ -10,7 +10,7 @@ use std::alloc::Global;
 use std::sync::Wait;
 
 /// Posts what a client does by way of `poster`. The arguments of a PUBLISH get the octets beside them that they are in an EVENT in JSON
-/// ([`Args::with_json`]), where two live sessions or more use JSON; so the writers of its receivers copy octets, and
+/// ([`Args::with_json`]), where two live sessions or more use JSON beside the publisher's; so the writers of its receivers copy octets, and
 /// the work is done by the publisher's reader, beside the realm's actor.
 ///
 /// What is posted is the same to every contract. Where memory is refused for the octets, the arguments are posted without them. A
@@ -21,6 +21,8 @@ pub struct EncodingPoster<'a, P> {
     pub alloc: Global,
     /// What the live sessions of the realm use.
     pub in_use: &'a InUse,
+    /// What the client itself uses.
+    pub own: Serializer,
     /// Posts it.
     pub poster: P,
 }
@@ -34,16 +36,16 @@ impl<S: Shut, P: Posting<S>> Posting<S> for EncodingPoster<'_, P> {
             P.posted self.new.poster ≡ P.posted self.old.poster ++ act ∷ []) (λ back. (back ≡ act)
             × (P.posted self.new.poster ≡ P.posted self.old.poster)) }
     {
-        let act = encoded(self.alloc, self.in_use, act);
+        let act = encoded(self.alloc, self.in_use, self.own, act);
         self.poster.post(rt, act, octets)
     }
 }
 
 // The same act. MessagePack's octets are what arguments are held as, so only JSON's are made.
-fn encoded<S: Shut>(alloc: Global, in_use: &InUse, act: Act<S>) -> Act<S>
+fn encoded<S: Shut>(alloc: Global, in_use: &InUse, own: Serializer, act: Act<S>) -> Act<S>
     ensures { result ≡ act }
 {
-    if !in_use.is_shared(Serializer::Json) {
+    if !in_use.is_shared(Serializer::Json, own) {
         return act;
     }
     match act {

@@ -63,9 +63,10 @@ impl InUse {
         Ok(Using { in_use, serializer })
     }
 
-    /// Whether two sessions or more were counted that use the serialization.
-    pub fn is_shared(&self, serializer: Serializer) -> bool {
-        self.counts.of(serializer).load(Ordering::SeqCst) >= 2
+    /// Whether two sessions or more were counted that use the serialization, beside one that uses `own`.
+    pub fn is_shared(&self, serializer: Serializer, own: Serializer) -> bool {
+        let least = if own == serializer { 3 } else { 2 };
+        self.counts.of(serializer).load(Ordering::SeqCst) >= least
     }
 }
 

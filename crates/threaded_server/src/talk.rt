@@ -157,6 +157,7 @@ fn converse<R: Wait, I: Source, S: Shut>(
     let encoding = EncodingPoster {
         alloc,
         in_use: using.in_use(),
+        own: opened.serializer,
         poster,
     };
     let mut posting = FarewellPoster {
