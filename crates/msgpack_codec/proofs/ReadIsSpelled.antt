@@ -57,7 +57,7 @@ octets_found n octets s rest e =
     let g = enough n octets (take n octets) s rest e in
     (rw (← g.1, ← g.2) (sym (take-append-drop n octets)), rw (← g.1) (length-take-le n octets g.0))
 
-number_found : (w : Width) (octets : List ℕ) (n : ℕ) (rest : List ℕ) → number_at w octets ≡ Ok (n, rest) → Front (λ f. IsNumber w f n) octets rest
+pub number_found : (w : Width) (octets : List ℕ) (n : ℕ) (rest : List ℕ) → number_at w octets ≡ Ok (n, rest) → Front (λ f. IsNumber w f n) octets rest
 number_found w octets n rest e =
     let k = byte_len (bits_of w) in
     let g = enough k octets (from_be_bytes (bits_of w) (take k octets)) n rest e in

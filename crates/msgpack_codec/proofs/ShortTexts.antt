@@ -15,7 +15,7 @@ use Rattle.msgpack_codec.proofs.ReadIsSpelled.{found-is}
 use Rattle.msgpack_codec.proofs.ShortIsSpelled.{text_spelled}
 use Rattle.msgpack_codec.proofs.SpelledIsRead.{value_again}
 
-leaf-written : (room : ℕ) (octets : List ℕ) (d : tree.Data) (rest : List ℕ) → value_at zero octets ≡ Ok (d, rest) → written_at room octets ≡ Ok (d, rest)
+pub leaf-written : (room : ℕ) (octets : List ℕ) (d : tree.Data) (rest : List ℕ) → value_at zero octets ≡ Ok (d, rest) → written_at room octets ≡ Ok (d, rest)
 unfolding value_at written_at
 leaf-written room [] d rest e = absurd cc
 leaf-written zero (c ∷ o) d rest e = e

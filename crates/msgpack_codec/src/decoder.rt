@@ -1,5 +1,5 @@
 //! Octets to messages.
-ghost use Rattle.std.specs.Prelude.{◌≡◌, ◌≢◌, ◌<◌, ◌≤◌, ◌+◌, max, vec_len, vec_capacity, length, IfOk, IfErr, IfSome, OnOk, Ok, Err, true, ◌&&◌, if◌then◌else◌};
+ghost use Rattle.std.specs.Prelude.{◌≡◌, ◌≢◌, ◌<◌, ◌≤◌, ◌+◌, ◌^◌, max, vec_len, vec_capacity, length, IfOk, IfErr, IfSome, OnOk, Ok, Err, true, ◌&&◌, if◌then◌else◌};
 ghost use Rattle.msgpack_codec.specs.body.Decoder.{number_at, octets_at, size_at, sized_at, leaf_at, nest_at, value_at, items_at, dict_at, message_at};
 ghost use Rattle.msgpack_codec.specs.Values.{signed_from, text_from, is_text, keep_entry};
 ghost use Rattle.message_tree.specs.Data.{no_items, no_entries, uncarried, dict as of_dict};
@@ -63,6 +63,21 @@ pub(crate) fn number_in_two(octets: &[u8]) -> Option<(u16, &[u8])>
     }
     let (front, rest) = octets.split_at(2);
     Some((u16::from_be_bytes([front[0], front[1]]), rest))
+}
+
+/// The same of four octets.
+pub(crate) fn number_in_four(octets: &[u8]) -> Option<(u32, &[u8])>
+    ensures number { IfSome result (λ x. number_at Width.Four octets.now ≡ Ok (x.0, x.1.now)) }
+    ensures bound { IfSome result (λ x. x.0 < 2 ^ 32) }
+{
+    if octets.len() < 4 {
+        return None;
+    }
+    let (front, rest) = octets.split_at(4);
+    Some((
+        u32::from_be_bytes([front[0], front[1], front[2], front[3]]),
+        rest,
+    ))
 }
 
 /// A length, which may stand at the front.

@@ -15,6 +15,7 @@ use crate::decoder::{number_of, octets_of, signed, size_of, sized};
 use crate::fault::Fault;
 use crate::format::{Form, form_of};
 use crate::keys::key_order;
+use crate::short_leaves::short_leaf;
 use crate::short_texts::short_text;
 use crate::shortest::{
     before, is_bytes_head, is_dict_head, is_list_head, is_one, is_text_head, is_whole,
@@ -273,10 +274,13 @@ fn member(octets: &[u8], room: u8) -> Result<Seen<'_>, Fault>
     ensures shortest { IfOk result (λ s. IsFullyJudged (written_at room octets.now)
         octets.now s.rest.now s.is_shortest) }
 {
-    match short_text(octets) {
-        Some((text, rest)) => Ok(short_text_seen(text, rest)),
-        None => value(octets, room),
+    if let Some((text, rest)) = short_text(octets) {
+        return Ok(short_text_seen(text, rest));
     }
+    if let Some(rest) = short_leaf(octets) {
+        return Ok(no_text(rest, Carriage::Carried, true));
+    }
+    value(octets, room)
 }
 
 fn both(one: bool, other: bool) -> bool

@@ -16,6 +16,7 @@ use Rattle.msgpack_codec.proofs.NestJudgements.{of-ok, of-both, as-judged, leaf-
 use Rattle.msgpack_codec.proofs.Carriages.{items_carriage-push}
 use Rattle.msgpack_codec.proofs.Loops.{one-left, none-left, item-read, item-refused, items-read}
 use Rattle.msgpack_codec.proofs.PairLoops.{list-read, list-refused, pair-read, key-refused, pair-refused, pairs-read, map-no_text, written-leaf, written-nests}
+use Rattle.msgpack_codec.proofs.ShortLeaves.{plain-written, plain-carriage, plain-no_text, plain-least}
 use Rattle.msgpack_codec.proofs.ShortTexts.{text-written, text-least}
 use Rattle.msgpack_codec.proofs.passing.+passing.Goals as goal
 
@@ -179,6 +180,19 @@ pub member-returns-in-Some-clause-shortest : goal.member-returns-in-Some-clause-
 member-returns-in-Some-clause-shortest t c =
     rw (c.short_text_seen.ensures.rest, c.short_text_seen.ensures.shortest)
     (text-least c.args.octets.now c.in-Some.text.now c.in-Some.rest.now c.in-Some.ensures.spelled c.in-Some.ensures.utf8 c.in-Some.ensures.few c.args.room)
+
+pub member-returns-in-Some-short_leaf-clause-ok : goal.member-returns-in-Some-short_leaf-clause-ok
+member-returns-in-Some-short_leaf-clause-ok t c =
+    let h = c.in-Some-short_leaf.ensures in (
+      h.meant,
+      rw c.no_text.ensures.rest (plain-written c.args.octets.now c.in-Some-short_leaf.rest.now h c.args.room),
+      c.no_text.ensures.carriage ∙ plain-carriage h.meant h.plain,
+      c.no_text.ensures.text ∙ plain-no_text h.meant h.plain,
+    )
+
+pub member-returns-in-Some-short_leaf-clause-shortest : goal.member-returns-in-Some-short_leaf-clause-shortest
+member-returns-in-Some-short_leaf-clause-shortest t c =
+    rw (c.no_text.ensures.rest, c.no_text.ensures.shortest) (plain-least c.args.octets.now c.in-Some-short_leaf.rest.now c.in-Some-short_leaf.ensures c.args.room)
 
 pub value-returns-else-room-eq0-clause-ok : goal.value-returns-else-room-eq0-clause-ok
 value-returns-else-room-eq0-clause-ok t c =
