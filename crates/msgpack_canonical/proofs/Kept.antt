@@ -17,7 +17,7 @@ use Rattle.msgpack_canonical.proofs.Dicts.{keep_entry-none}
 use Rattle.msgpack_canonical.specs.body.Entries.{IsPlaced, Pair, kept, entry_octets, parted, cut, entry_in, place_cmp, IsStanding, inserted, pairs, AreKept, IsEntry}
 use Rattle.msgpack_canonical.specs.body.Sorting.{placed, in_order}
 
-equal_keys : (j k : List ℕ) → slice_cmp nat_cmp j k ≡ Equal → j ≡ k
+pub equal_keys : (j k : List ℕ) → slice_cmp nat_cmp j k ≡ Equal → j ≡ k
 equal_keys j k h = (bytes_eq-Decides j k).0 (sym (is_eq-slice_cmp j k) ∙ ap is_eq h)
 
 -- ---- entries put one by one

@@ -5,14 +5,18 @@ use Rattle.std.proofs.lemmas.Bool.{lt-ltb}
 use Rattle.message_tree.specs.Data as tree
 use Rattle.msgpack_codec.specs.declared.carriage.Carriage.{Carriage}
 use Rattle.msgpack_codec.specs.Grammar.{Spells}
-use Rattle.msgpack_codec.specs.Short.{short}
+use Rattle.msgpack_codec.specs.Short.{short, text_head}
+use Rattle.msgpack_codec.specs.ShortLeaves.{IsPlain, BeginsPlainly}
 use Rattle.msgpack_codec.specs.Written.{IsPassed, settled}
 use Rattle.msgpack_codec.specs.body.Decoder.{value_at}
 use Rattle.msgpack_codec.proofs.MoreRoom.{more_room}
 use Rattle.msgpack_codec.proofs.ShortIsSpelled.{text_spelled}
+use Rattle.msgpack_codec.proofs.ShortLeaves.{plain-spelled}
 use Rattle.msgpack_codec.proofs.ShortTexts.{text-read}
 use Rattle.msgpack_codec.proofs.SpelledIsRead.{value_again}
 use Rattle.msgpack_canonical.specs.body.Entries.{BeginsLeast, IsEntryPut, kept}
+use Rattle.msgpack_canonical.specs.body.Fitting.{fits}
+use Rattle.msgpack_canonical.specs.body.LeastEntries.{IsLeastEntry}
 use Rattle.msgpack_canonical.proofs.Fits.{both-fit}
 use Rattle.msgpack_canonical.proofs.Parts.{put_octets, put-entry, parted-text}
 
@@ -37,6 +41,20 @@ least-passed octets rest carriage b is p =
       spelled = subst (λ o. Spells 0 o d) least.is_short p.spelled;
       fit = both-fit d least.is_carried least.has_short;
     }
+
+-- nil, a flag or a number
+plain-fits : (d : tree.Data) → IsPlain d → fits d ≡ true
+plain-fits tree.null h = refl
+plain-fits (tree.flag b) h = refl
+plain-fits (tree.whole z) h = h
+plain-fits (tree.text s) h = absurd h
+plain-fits (tree.bytes s) h = absurd h
+plain-fits (tree.list ds) h = absurd h
+plain-fits (tree.dict es) h = absurd h
+plain-fits tree.uncarried h = absurd h
+
+pub least-plain : (octets rest : List ℕ) → BeginsPlainly octets rest → BeginsLeast octets rest
+least-plain octets rest h = record { meant = h.meant; parts = h.parts; spelled = plain-spelled 0 h.meant h.plain; fit = plain-fits h.meant h.plain }
 
 module _ (octets s middle rest : List ℕ) (parts : octets ≡ short (tree.text s) ++ middle) (utf8 : IsUtf8 s) (few : length s < 32) (v : BeginsLeast middle rest) where
   value : short v.meant ≡ kept v.meant
@@ -64,6 +82,15 @@ module _ (octets s middle rest : List ℕ) (parts : octets ≡ short (tree.text 
         entry = put-entry s d (parted-text (put_octets s d) s (kept d) (text-read (put_octets s d) s (kept d) refl utf8 few 0)) (lt-ltb (length s) (2 ^ 32) small);
       }
 
--- the octets before the rest, by another name
-pub least-parts : (octets front entry rest : List ℕ) → octets ≡ front ++ rest → entry ≡ front → octets ≡ entry ++ rest
-least-parts octets front entry rest split is = split ∙ ap (λ (o : List ℕ). o ++ rest) (sym is)
+  pub least-seen : (entry : List ℕ) → entry ≡ least-front → IsLeastEntry octets s entry rest
+  least-seen entry is =
+      let d = v.meant in
+      record {
+        middle = middle;
+        meant = d;
+        key_read = text-read octets s middle parts utf8 few;
+        value_read = λ room. ap (value_at room) v.parts ∙ value_again room (short d) d rest (any-room room (short d) d v.spelled);
+        least = is ∙ append_assoc (text_head (length s)) s (short d);
+        short_key = lt-ltb (length s) (2 ^ 32) (omega (arith, few));
+        fit = v.fit;
+      }

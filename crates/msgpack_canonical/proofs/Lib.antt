@@ -11,3 +11,4 @@ pub mod Kept
 pub mod Sizes
 pub mod Placing
 pub mod LeastEntries
+pub mod LeastOrder

@@ -52,12 +52,15 @@ fn put_passed(
 /// `out` in canonical form: the octets that [`encode`](msgpack_codec::encode) writes for the tree
 /// that they spell (MessagePack specification, "Formats"). No tree is built.
 ///
-/// What is canonical already is copied, and takes no memory but `out`'s. Otherwise the entries of
-/// each dictionary are written behind one another as they come, and then copied in the order of
-/// their keys, so that octets are read twice, or four times in values with nothing inside, and
-/// copied once for each dictionary that they stand in: at most `room` times. Beside `out` this takes
-/// the octets that are written of the dictionaries in hand, with room for up to 256 at once, 8 octets
-/// for each key, and as many again while they are put in order.
+/// What is canonical already is copied, and takes no memory but `out`'s. Otherwise a dictionary of up
+/// to 16 entries is copied from where it stands, entry by entry in the order of the keys, where each
+/// key has fewer than 32 octets of ASCII, each value has nothing inside, and both are spelled as
+/// `encode` writes them; this takes 32 octets for each entry. The entries of another one are written
+/// behind one another as they come, and then copied in the order of their keys, so that octets are
+/// read twice, or four times in values with nothing inside, and copied once for each dictionary that
+/// they stand in: at most `room` times. Beside `out` this takes the octets that are written of the
+/// dictionaries in hand, with room for up to 256 at once, 8 octets for each key, and as many again
+/// while they are put in order.
 ///
 /// # Errors
 /// As of [`pass`], the first fault from the left decides: [`Fault::TooDeep`] where a list or map stands

@@ -158,7 +158,7 @@ fn put_entry<'a>(
 {
     if let Some((entry, rest)) = least_entry(octets) {
         let mut written = written;
-        written.extend_from_slice(entry)?;
+        written.extend_from_slice(entry.octets)?;
         return Ok(Some(Entry {
             written,
             rest,

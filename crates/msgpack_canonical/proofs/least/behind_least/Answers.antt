@@ -1,4 +1,4 @@
-use Rattle.msgpack_canonical.proofs.LeastEntries.{least-text, least-passed}
+use Rattle.msgpack_canonical.proofs.LeastEntries.{least-text, least-plain, least-passed}
 use Rattle.msgpack_canonical.proofs.least.behind_least.Goals as goal
 
 pub returns-in-Some : goal.returns-in-Some
@@ -6,3 +6,6 @@ returns-in-Some c = least-text c.args.octets.now c.in-Some._text.now c.in-Some.r
 
 pub returns-then-passed : goal.returns-then-passed
 returns-then-passed c = least-passed c.args.octets.now c.in-Ok.passed.rest.now c.in-Ok.passed.carriage c.in-Ok.passed.is_shortest c.if-passed.true c.in-Ok.ensures.ok
+
+pub returns-in-Some-short_leaf : goal.returns-in-Some-short_leaf
+returns-in-Some-short_leaf c = least-plain c.args.octets.now c.in-Some-short_leaf.rest.now c.in-Some-short_leaf.ensures

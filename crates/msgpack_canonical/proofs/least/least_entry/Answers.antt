@@ -1,23 +1,12 @@
-use Rattle.msgpack_canonical.proofs.LeastEntries.{least-front, least-split, least-put, least-parts}
+use Rattle.std.proofs.Common.{sym, subst}
+use Rattle.msgpack_canonical.specs.body.LeastEntries.{IsLeastEntry}
+use Rattle.msgpack_canonical.proofs.LeastEntries.{least-front, least-split, least-put, least-seen}
 use Rattle.msgpack_canonical.proofs.least.least_entry.Goals as goal
-
-pub returns-clause-parts : goal.returns-clause-parts
-returns-clause-parts c =
-    let octets = c.args.octets.now in
-    let key = c.in-Some._key.now in
-    let middle = c.in-Some.value.now in
-    let rest = c.in-Some-behind_least.rest.now in
-    let parts = c.in-Some.ensures.spelled in
-    let utf8 = c.in-Some.ensures.utf8 in
-    let few = c.in-Some.ensures.few in
-    let least = c.in-Some-behind_least.ensures in
-    let split = least-split octets key middle rest parts utf8 few least in
-    least-parts octets (least-front octets key middle rest parts utf8 few least) c.front_of.result.now rest split (c.front_of.ensures (least-front octets key middle rest parts utf8 few least) split)
 
 pub returns-clause-put : goal.returns-clause-put
 returns-clause-put c = λ room old.
     let octets = c.args.octets.now in
-    let key = c.in-Some._key.now in
+    let key = c.in-Some.key.now in
     let middle = c.in-Some.value.now in
     let rest = c.in-Some-behind_least.rest.now in
     let parts = c.in-Some.ensures.spelled in
@@ -26,3 +15,17 @@ returns-clause-put c = λ room old.
     let least = c.in-Some-behind_least.ensures in
     least-put octets key middle rest parts utf8 few least c.front_of.result.now
     (c.front_of.ensures (least-front octets key middle rest parts utf8 few least) (least-split octets key middle rest parts utf8 few least)) room old
+
+pub returns-clause-seen : goal.returns-clause-seen
+returns-clause-seen c =
+    let octets = c.args.octets.now in
+    let key = c.in-Some.key.now in
+    let middle = c.in-Some.value.now in
+    let rest = c.in-Some-behind_least.rest.now in
+    let parts = c.in-Some.ensures.spelled in
+    let utf8 = c.in-Some.ensures.utf8 in
+    let few = c.in-Some.ensures.few in
+    let least = c.in-Some-behind_least.ensures in
+    subst (λ k. IsLeastEntry octets k c.front_of.result.now rest) (sym c.as_bytes.ensures.value)
+    (least-seen octets key middle rest parts utf8 few least c.front_of.result.now
+    (c.front_of.ensures (least-front octets key middle rest parts utf8 few least) (least-split octets key middle rest parts utf8 few least)))
