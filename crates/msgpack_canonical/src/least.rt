@@ -25,6 +25,7 @@ pub(crate) struct LeastEntry<'a> {
 }
 
 /// The octets after the value at the front, where nothing is inside of it and it is spelled as `encode` writes it.
+#[inline(always)]
 fn behind_least(octets: &[u8]) -> Option<&[u8]>
     ensures { IfSome result (λ rest. BeginsLeast octets.now rest.now) }
 {
@@ -46,6 +47,7 @@ fn behind_least(octets: &[u8]) -> Option<&[u8]>
 
 /// The entry at the front, and the octets after it, where the key is a short text, nothing is inside of the value, and both are
 /// spelled as `encode` writes them.
+#[inline(always)]
 pub(crate) fn least_entry(octets: &[u8]) -> Option<(LeastEntry<'_>, &[u8])>
     ensures put { IfSome result (λ x. (room : ℕ) (old : List ℕ)
         → IsEntryPut (value_at room) octets.now x.1.now true old (old ++ x.0.octets.now)) }
@@ -66,6 +68,7 @@ pub(crate) fn least_entry(octets: &[u8]) -> Option<(LeastEntry<'_>, &[u8])>
 }
 
 /// Where an entry belongs by its key among others, and whether one with this key stands there.
+#[inline(always)]
 fn find(entries: &[LeastEntry], one: LeastEntry) -> (usize, bool)
     ensures within { result.0 ≤ length entries.now }
     ensures there { result.1 ≡ true → (result.0 < length entries.now)
@@ -84,6 +87,7 @@ fn find(entries: &[LeastEntry], one: LeastEntry) -> (usize, bool)
 }
 
 /// Puts an entry among others, in the stead of one with its key.
+#[inline(always)]
 fn put_among<'a>(entries: &mut Vec<LeastEntry<'a>>, one: LeastEntry<'a>) -> Result<(), AllocError>
     ensures { OnOk result (entries.new.items ≡ placed key_cmp one.entry entries.old.items) }
 {

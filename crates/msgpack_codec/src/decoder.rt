@@ -55,6 +55,7 @@ pub(crate) fn number_of(octets: &[u8], width: Width) -> Result<(u64, &[u8]), Fau
 }
 
 /// The number in the two octets at the front, as most that take more than one are.
+#[inline(always)]
 pub(crate) fn number_in_two(octets: &[u8]) -> Option<(u16, &[u8])>
     ensures { IfSome result (λ x. number_at Width.Two octets.now ≡ Ok (x.0, x.1.now)) }
 {
@@ -66,6 +67,7 @@ pub(crate) fn number_in_two(octets: &[u8]) -> Option<(u16, &[u8])>
 }
 
 /// The same of four octets.
+#[inline(always)]
 pub(crate) fn number_in_four(octets: &[u8]) -> Option<(u32, &[u8])>
     ensures number { IfSome result (λ x. number_at Width.Four octets.now ≡ Ok (x.0, x.1.now)) }
     ensures bound { IfSome result (λ x. x.0 < 2 ^ 32) }

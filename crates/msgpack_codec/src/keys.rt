@@ -6,6 +6,7 @@ ghost use Rattle.std.specs.Ordering.{nat_cmp};
 use std::cmp::Ordering;
 
 /// How two keys compare, by their bytes. Most differ in the first one, which is told much faster than by the slices.
+#[inline(always)]
 pub fn key_order(key: &[u8], other: &[u8]) -> Ordering
     ensures { result ≡ slice_cmp nat_cmp key.now other.now }
 {

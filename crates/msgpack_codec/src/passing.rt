@@ -97,6 +97,7 @@ fn is_flag(front: &[u8], flag: bool) -> bool
 }
 
 /// A value that is no text.
+#[inline(always)]
 fn no_text(rest: &[u8], carriage: Carriage, is_shortest: bool) -> Seen<'_>
     ensures rest { result.rest.now ≡ rest.entry.now }
     ensures carriage { result.carriage ≡ carriage }
@@ -135,6 +136,7 @@ fn number_seen<'a>(all: &[u8], rest: &'a [u8], number: i128) -> Seen<'a>
 }
 
 /// A short text.
+#[inline(always)]
 fn short_text_seen<'a>(text: &'a str, rest: &'a [u8]) -> Seen<'a>
     ensures rest { result.rest.now ≡ rest.entry.now }
     ensures carriage { result.carriage ≡ Carriage.Carried }
@@ -267,6 +269,7 @@ fn nest<'a>(form: Form, all: &'a [u8], octets: &'a [u8], room: u8) -> Result<See
 
 /// A member at the front, as a value that nests no more than `room` levels. Most are short texts.
 #[cycle(passing)]
+#[inline(always)]
 fn member(octets: &[u8], room: u8) -> Result<Seen<'_>, Fault>
     ensures ok { IfOk result (λ s. IsSeen (written_at room octets.now)
         s.rest.now s.carriage (option_map (λ t. t.now) s.text)) }
@@ -283,6 +286,7 @@ fn member(octets: &[u8], room: u8) -> Result<Seen<'_>, Fault>
     value(octets, room)
 }
 
+#[inline(always)]
 fn both(one: bool, other: bool) -> bool
     ensures { result ≡ (one && other) }
 {
@@ -321,6 +325,7 @@ struct Known<'a> {
 }
 
 /// Whether a key stands behind the last one.
+#[inline(always)]
 fn is_behind(last: Option<&[u8]>, key: &[u8]) -> bool
     ensures { result ≡ is_next (option_map (λ l. l.now) last.entry) key.now }
 {
@@ -331,6 +336,7 @@ fn is_behind(last: Option<&[u8]>, key: &[u8]) -> bool
 }
 
 /// What is known with one more pair.
+#[inline(always)]
 fn with<'a>(known: Known<'a>, key: Seen<'a>, carriage: Carriage) -> Known<'a>
     ensures { (found : Entries) (texts : Bool) (k v : Data)
         → AreKnown known.entry.are_texts known.entry.ascend

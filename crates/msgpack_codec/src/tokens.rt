@@ -91,6 +91,7 @@ fn leaf(form: Form, octets: &[u8]) -> Result<(Token<'_>, &[u8]), Fault>
 }
 
 /// The token at the front, whatever it is.
+#[inline(never)]
 fn any_token(octets: &[u8]) -> Result<(Token<'_>, &[u8]), Malformed>
     ensures ok { IfOk result (λ x. IsToken x.0 octets.now x.1.now) }
     ensures err { OnErr result (IsNoToken octets.now) }
@@ -115,6 +116,7 @@ fn any_token(octets: &[u8]) -> Result<(Token<'_>, &[u8]), Malformed>
 }
 
 /// A number of one octet or two.
+#[inline(always)]
 fn whole<'a>(number: u16) -> Token<'a>
     ensures { result ≡ Token.Whole (pos number) }
 {
@@ -127,6 +129,7 @@ fn whole<'a>(number: u16) -> Token<'a>
 ///
 /// # Errors
 /// [`Malformed`] where the octets begin with no whole token.
+#[inline(always)]
 pub fn first_token(octets: &[u8]) -> Result<(Token<'_>, &[u8]), Malformed>
     ensures ok { IfOk result (λ x. IsToken x.0 octets.now x.1.now) }
     ensures err { OnErr result (IsNoToken octets.now) }

@@ -8,6 +8,7 @@ pub(crate) struct NotUtf8;
 
 /// Whether each octet is one of ASCII, as in most texts. It stops nowhere before the end, so that many octets are looked at at once: it
 /// takes far less time than to tell UTF-8.
+#[inline(always)]
 pub fn is_ascii(octets: &[u8]) -> bool
     ensures { result ≡ true → IsAscii octets.now }
 {

@@ -57,6 +57,7 @@ impl<'a> Model for Value<'a> {
 
 impl<'a> Value<'a> {
     /// The octets that spell it.
+    #[inline(always)]
     pub fn spelling(&self) -> Spelling<'a>
         ensures spelled { Spells result.room result.octets.now self.now }
         ensures room { result.room ≤ 100 }
@@ -86,6 +87,7 @@ impl<'a> Value<'a> {
     }
 
     /// What it begins as. No octet behind the first ones is looked at.
+    #[inline(always)]
     pub fn beginning(&self) -> Beginning
         ensures { BeginsAs result self.now }
     {
@@ -115,6 +117,7 @@ impl<'a> Value<'a> {
 }
 
 /// What a token begins.
+#[inline(always)]
 fn beginning_of(token: &Token) -> Beginning
     ensures { IsBegun result token.now }
 {
