@@ -4,6 +4,7 @@ ghost use Rattle.message_tree.specs.Data.{Data, depth};
 ghost use Rattle.arguments.specs.Reading.{args_of, kwargs_of};
 ghost use Rattle.msgpack_codec.specs.Grammar.{Spells};
 ghost use Rattle.msgpack_codec.specs.Written.{IsShortest};
+ghost use Rattle.msgpack_cursor.specs.Seen.{BeginsAs};
 ghost use Rattle.arguments.specs.body.Parts.{AreValue, IsPartPut, IsPut, IsSpelledPut};
 
 use crate::fault::Fault;
@@ -62,12 +63,29 @@ pub(crate) fn put_args(alloc: Global, value: &Value, out: &mut Appender) -> Resu
     ensures shape { result ≡ Err Fault.Shape → args_of value.now ≡ None }
     ensures fault { IfErr result (λ f. (f ≡ Fault.NoMemory) ⊎ (f ≡ Fault.Shape)) }
 {
-    match value.seen() {
-        Seen::Null => {
+    match value.beginning() {
+        Beginning::Null => {
             out.put(EMPTY_LIST)?;
             Ok(true)
         }
-        Seen::List(_) | Seen::Uncarried => put_value(alloc, value, out),
+        Beginning::List | Beginning::Uncarried => put_value(alloc, value, out),
+        Beginning::Map => put_map_args(alloc, value, out),
+        Beginning::Leaf => Err(Fault::Shape),
+    }
+}
+
+/// Writes Arguments that begin as a map: they are of another kind, unless a key is no text.
+#[inline(never)]
+fn put_map_args(alloc: Global, value: &Value, out: &mut Appender) -> Result<bool, Fault>
+    requires shallow { depth value.now ≤ 99 }
+    requires begun { BeginsAs Beginning.Map value.now }
+    ensures ok { IfOk result (λ b. IsPartPut (args_of value.now) b out.old.since out.new.since) }
+    ensures before { out.new.before ≡ out.old.before }
+    ensures shape { result ≡ Err Fault.Shape → args_of value.now ≡ None }
+    ensures fault { IfErr result (λ f. (f ≡ Fault.NoMemory) ⊎ (f ≡ Fault.Shape)) }
+{
+    match value.seen() {
+        Seen::Uncarried => put_value(alloc, value, out),
         _ => Err(Fault::Shape),
     }
 }

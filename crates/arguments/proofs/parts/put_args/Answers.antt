@@ -7,6 +7,6 @@ use Rattle.arguments.proofs.parts.put_args.Goals as goal
 pub returns-in_ok-put-in-Null-clause-ok : goal.returns-in_ok-put-in-Null-clause-ok
 returns-in_ok-put-in-Null-clause-ok c = record {
   part = tree.list tree.no_items;
-  is_read = ap args_of (sym c.in-Null.ensures);
+  is_read = ap args_of c.in-Null.ensures;
   put = (empty_list, c.in_ok-put-in-Null.ensures.ok ∙ ap (λ o. c.args.out.now.since ++ o) (sym short_list));
 }
