@@ -427,6 +427,7 @@ fn refused(fault: Fault) -> Refusal
 /// The first fault from the left decides: [`Refusal::TooDeep`] where a list or map stands inside
 /// `room` others and each value before it is whole; [`Refusal::Malformed`] where the octets
 /// otherwise begin with no value.
+#[inline(always)]
 pub fn pass(octets: &[u8], room: u8) -> Result<Passed<'_>, Refusal>
     ensures ok { IfOk result (λ p. IsPassed room octets.now p.rest.now p.carriage p.is_shortest) }
     ensures too_deep { IfErr result (λ e. e ≡ Refusal.TooDeep → IsDeep room octets.now) }

@@ -36,4 +36,4 @@ returns-in-Some-number_in_four c =
     let is = c.in-Some.ensures.cases.0 ∙ ap (λ n. n ∷ c.in-Some.behind.now) c.in-206.is in
     subst (λ o. BeginsPlainly o rest) (sym is)
     (great-begins c.in-Some.behind.now c.in-Some-number_in_four.number rest
-    (λ i. subst (λ o. get_or o (suc i) 0 < 256) c.in-Some.ensures.cases.0 ((c.type_inv.octets (suc i)).fits)) c.if-number-ge65536.true c.in-Some-number_in_four.ensures.bound c.in-Some-number_in_four.ensures.number)
+    (λ i. subst (λ o. get_or o (suc i) 0 < 256) c.in-Some.ensures.cases.0 ((c.type_inv.octets (suc i)).fits)) c.if-number-ge-LEAST_IN_FOUR.true c.in-Some-number_in_four.ensures.bound c.in-Some-number_in_four.ensures.number)
