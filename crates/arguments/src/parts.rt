@@ -20,6 +20,7 @@ const EMPTY_LIST: u8 = 0x90;
 const EMPTY_DICT: u8 = 0x80;
 
 /// Writes the value that octets spell behind others, where it is carried.
+#[inline(always)]
 fn put_canonical(alloc: Global, octets: &[u8], room: u8, out: &mut Appender) -> Result<bool, Fault>
     requires { AreValue room octets.now }
     ensures ok { IfOk result (λ b. (d : Data) → Spells room octets.now d → depth d ≤ 99
@@ -41,6 +42,7 @@ fn put_shortest(octets: &[u8], out: &mut Appender) -> Result<(), Fault>
 }
 
 /// Writes a value behind others, where it is carried.
+#[inline(always)]
 fn put_value(alloc: Global, value: &Value, out: &mut Appender) -> Result<bool, Fault>
     requires { depth value.now ≤ 99 }
     ensures ok { IfOk result (λ b. IsPut value.now b out.old.since out.new.since) }

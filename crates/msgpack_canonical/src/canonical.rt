@@ -101,6 +101,7 @@ pub fn canonicalize<'a>(
 /// # Errors
 /// [`AllocError`] where a growth was refused, or the entries of a dictionary have 2^32 octets or more;
 /// some of the value may have been written. What stood in `out` at its start stays.
+#[inline(always)]
 pub fn canonicalize_value(
     alloc: Global,
     octets: &[u8],

@@ -25,6 +25,7 @@ fn text_of(token: Token<'_>) -> Option<&str>
 }
 
 /// The text at the front, and the octets after it; `None` where another value stands there, or none.
+#[inline(always)]
 pub fn first_text(octets: &[u8]) -> Option<(&str, &[u8])>
     ensures some { IfSome result (λ x. (room : ℕ)
         → value_at room octets.now ≡ Ok (text x.0.now, x.1.now)) }
@@ -38,6 +39,7 @@ pub fn first_text(octets: &[u8]) -> Option<(&str, &[u8])>
 }
 
 /// The same of any text.
+#[inline(never)]
 fn any_text(octets: &[u8]) -> Option<(&str, &[u8])>
     ensures some { IfSome result (λ x. (room : ℕ)
         → value_at room octets.now ≡ Ok (text x.0.now, x.1.now)) }

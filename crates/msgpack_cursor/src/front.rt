@@ -8,6 +8,7 @@ use crate::value::Value;
 use msgpack_codec::{Token, first_token, pass};
 
 /// The octets up to the rest of them.
+#[inline(always)]
 fn before<'a>(octets: &'a [u8], rest: &[u8]) -> &'a [u8]
     ensures { (front : List ℕ) → octets.entry.now ≡ front ++ rest.now → result.now ≡ front }
 {
@@ -17,6 +18,7 @@ fn before<'a>(octets: &'a [u8], rest: &[u8]) -> &'a [u8]
 /// The value at the front of octets, which nests no more than `room` levels, and the octets after it; `None` where there is none.
 ///
 /// `room` is 100 at most.
+#[inline(always)]
 pub fn first_value(octets: &[u8], room: u8) -> Option<(Value<'_>, &[u8])>
     requires { room ≤ 100 }
     ensures some { IfSome result (λ x. value_at room octets.now ≡ Ok (x.0, x.1.now)) }
@@ -36,6 +38,7 @@ pub fn first_value(octets: &[u8], room: u8) -> Option<(Value<'_>, &[u8])>
 }
 
 /// The whole number at the front, and the octets after it; `None` where another value stands there, or none.
+#[inline(always)]
 pub(crate) fn whole_at(octets: &[u8]) -> Option<(i128, &[u8])>
     ensures some { IfSome result (λ x. (room : ℕ)
         → value_at room octets.now ≡ Ok (whole x.0, x.1.now)) }

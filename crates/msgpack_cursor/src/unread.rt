@@ -59,6 +59,7 @@ impl<'a> Unread<'a> {
     }
 
     /// The next element.
+    #[inline(always)]
     pub fn value(&mut self) -> Option<Value<'a>>
         ensures some { IfSome result (λ v. StandsBefore v self.new self.old) }
         ensures bounded { IfSome result (λ v. depth v ≤ 99) }
@@ -76,6 +77,7 @@ impl<'a> Unread<'a> {
     }
 
     /// The next element, a whole number.
+    #[inline(always)]
     pub fn whole(&mut self) -> Option<i128>
         ensures some { IfSome result (λ z. StandsBefore (whole z) self.new self.old) }
         ensures none { IfNone result (HasNone whole self.old) }
@@ -92,6 +94,7 @@ impl<'a> Unread<'a> {
     }
 
     /// The next element, a text.
+    #[inline(always)]
     pub fn text(&mut self) -> Option<&'a str>
         ensures some { IfSome result (λ s. StandsBefore (text s.now) self.new self.old) }
         ensures none { IfNone result (HasNone text self.old) }
