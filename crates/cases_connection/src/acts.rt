@@ -1,6 +1,8 @@
 //! What is posted, and in words.
 ghost use Rattle.std.specs.Prelude.{◌≡◌, ◌++◌, ◌∷◌, [], MatchResult, false};
 ghost use Rattle.realm_inbox.specs.Joins.{is_join};
+ghost use Rattle.realm_inbox.specs.Posted.{with_acts};
+ghost use Rattle.cases_connection.specs.Outside.{outside};
 
 use case_text::spell;
 use realm_inbox::{Act, Posting, Shut};
@@ -66,18 +68,9 @@ impl Log {
         }
         Ok(published)
     }
-}
 
-impl Posting<Nowhere> for Log {
-    ghost posted = { λ l. l.acts.items };
-
-    fn post<R: Wait>(
-        &mut self,
-        _rt: &R,
-        act: Act<Nowhere>,
-        _octets: usize,
-    ) -> Result<(), Act<Nowhere>>
-        requires { is_join act ≡ false }
+    // Adds an act, where there is room.
+    fn add(&mut self, act: Act<Nowhere>) -> Result<(), Act<Nowhere>>
         ensures { MatchResult result (λ _. self.new.acts.items ≡ self.old.acts.items ++ act ∷ [])
             (λ back. (back ≡ act) × (self.new.acts.items ≡ self.old.acts.items)) }
     {
@@ -88,6 +81,24 @@ impl Posting<Nowhere> for Log {
             Ok(()) => Ok(()),
             Err(refused) => Err(refused.value),
         }
+    }
+}
+
+impl Posting<Nowhere> for Log {
+    ghost posted = { λ l. outside l.acts.items };
+
+    fn post<R: Wait>(
+        &mut self,
+        _rt: &R,
+        act: Act<Nowhere>,
+        _octets: usize,
+    ) -> Result<(), Act<Nowhere>>
+        requires { is_join act ≡ false }
+        ensures { MatchResult result (λ _. outside self.new.acts.items
+            ≡ with_acts (outside self.old.acts.items) (act ∷ [])) (λ back. (back ≡ act)
+            × (outside self.new.acts.items ≡ outside self.old.acts.items)) }
+    {
+        self.add(act)
     }
 }
 

@@ -1,7 +1,9 @@
 //! A thread posts PINGs, and another writes their PONGs.
-ghost use Rattle.std.specs.Prelude.{◌≡◌, ◌++◌, ◌∷◌, [], MatchResult, false};
+ghost use Rattle.std.specs.Prelude.{◌≡◌, ◌∷◌, [], MatchResult, false};
 ghost use Rattle.ghost_state.specs.GhostList.{items_of};
 ghost use Rattle.realm_inbox.specs.Joins.{is_join};
+ghost use Rattle.realm_inbox.specs.Posted.{with_acts};
+ghost use Rattle.cases_connection.specs.Outside.{outside};
 
 use crate::acts::Nowhere;
 use case_text::{Work, line_of, start};
@@ -28,7 +30,7 @@ pub struct Counter {
 }
 
 impl Posting<Nowhere> for Counter {
-    ghost posted = { λ c. items_of c.acts };
+    ghost posted = { λ c. outside (items_of c.acts) };
 
     fn post<R: Wait>(
         &mut self,
@@ -37,9 +39,9 @@ impl Posting<Nowhere> for Counter {
         _octets: usize,
     ) -> Result<(), Act<Nowhere>>
         requires { is_join act ≡ false }
-        ensures { MatchResult result (λ _.
-            items_of self.new.acts ≡ items_of self.old.acts ++ act ∷ []) (λ back. (back ≡ act)
-            × (items_of self.new.acts ≡ items_of self.old.acts)) }
+        ensures { MatchResult result (λ _. outside (items_of self.new.acts)
+            ≡ with_acts (outside (items_of self.old.acts)) (act ∷ [])) (λ back. (back ≡ act)
+            × (outside (items_of self.new.acts) ≡ outside (items_of self.old.acts))) }
     {
         self.acts.add(Snapshot::of(&act));
         self.count.fetch_add(1, Ordering::SeqCst);

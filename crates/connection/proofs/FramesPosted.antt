@@ -1,13 +1,18 @@
 -- Frames that are posted one by one.
-use Rattle.std.proofs.Common.{◌≡◌, ◌≢◌, ◌⊎◌, ℕ, List, [], ◌∷◌, ◌++◌, Option, Some, None, Result, Ok, Err, inl, inr, refl, sym, ap, ◌∙◌, subst, append_assoc, append-nil}
+use Rattle.std.proofs.Common.{◌≡◌, ◌≢◌, ◌⊎◌, ℕ, List, [], ◌∷◌, ◌++◌, Option, Some, None, Result, Ok, Err, IfErr, OnOk, OnErr, true, false, inl, inr, refl, sym, ap, ◌∙◌, subst, append_assoc, append-nil}
 use Rattle.rawsocket.specs.Frames.{Content}
 use Rattle.rawsocket.specs.declared.fault.Fault as stream
 use Rattle.rawsocket.specs.declared.frame.Kind.{Kind}
 use Rattle.rawsocket.specs.declared.frame.Kind.TheVariants as kind
 use Rattle.rawsocket.specs.declared.handshake.Serializer.{Serializer}
-use Rattle.connection.specs.Posts.{Course, GoesOn, Leaves, Breaks, First, SaysMore, SaysFarewell, Spoils, Posts}
+use Rattle.connection.specs.Posts.{Course, GoesOn, Leaves, Breaks, First, Says, SaysMore, SaysFarewell, SaysNothing, Spoils, Posts, is_farewell}
 use Rattle.connection.specs.Reader.{PostsAll, PostsSome, IsPosted, batch}
 use Rattle.session.specs.Opened.{ByKind}
+use Rattle.session.specs.Faults.{stream_fault}
+use Rattle.session.specs.declared.fault.Fault.{Fault}
+use Rattle.session.specs.declared.messages.said.Said as session
+use Rattle.realm_inbox.specs.Posted.{Posted, with_acts}
+use Rattle.realm_inbox.proofs.PosterLemmas.{with_both, with_none}
 use Rattle.realm_inbox.specs.declared.act.Act.{Act}
 use Rattle.realm_inbox.specs.declared.act.Act.TheVariants as act
 use Rattle.connection.specs.declared.reader.ReadEnd.{ReadEnd}
@@ -69,50 +74,50 @@ module _ {S : Type 0} (s : Serializer) where
   Posts-open fault (c ∷ a) acts w = by_other c.kind c.payload (Posts s fault a) (Posts s None a) acts GoesOn (λ xs u. Posts-open fault a xs u) w
 
   -- these frames are left, and the posts of those before them are posted
-  pub record Halfway (frames left : List Content) (before now : List (Act S)) : Type 0 where
+  pub record Halfway (frames left : List Content) (before now : Posted S) : Type 0 where
     pub done : List Content
     pub frames_are : frames ≡ done ++ left
     pub acts : List (Act S)
-    pub posted : now ≡ before ++ acts
+    pub posted : now ≡ with_acts before acts
     pub posts : Posts s None done acts GoesOn
 
-  pub Halfway-start : (frames left : List Content) (before : List (Act S)) → frames ≡ left → Halfway frames left before before
-  Halfway-start frames left before e = record { done = []; frames_are = e; acts = []; posted = sym (append-nil before); posts = (refl, refl) }
+  pub Halfway-start : (frames left : List Content) (before : Posted S) → frames ≡ left → Halfway frames left before before
+  Halfway-start frames left before e = record { done = []; frames_are = e; acts = []; posted = sym (with_none before); posts = (refl, refl) }
 
   -- all that is left is posted
-  all_posted : (fault : Option stream.Fault) (frames left : List Content) (course : Course) (before now after : List (Act S)) → Halfway frames left before now → PostsAll s (batch left fault) course now after → PostsAll s (batch frames fault) course before after
+  all_posted : (fault : Option stream.Fault) (frames left : List Content) (course : Course) (before now after : Posted S) → Halfway frames left before now → PostsAll s (batch left fault) course now after → PostsAll s (batch frames fault) course before after
   all_posted fault frames left course before now after h w = record {
     acts = h.acts ++ w.acts;
-    posted = w.posted ∙ ap (λ p. p ++ w.acts) h.posted ∙ append_assoc before h.acts w.acts;
+    posted = w.posted ∙ ap (λ p. with_acts p w.acts) h.posted ∙ with_both before h.acts w.acts;
     posts = subst (λ fs. Posts s fault fs (h.acts ++ w.acts) course) (sym h.frames_are) (Posts-join None fault h.done left h.acts w.acts course h.posts w.posts);
   }
 
-  some_posted : (frames left : List Content) (before now after : List (Act S)) → Halfway frames left before now → PostsSome s left now after → PostsSome s frames before after
+  some_posted : (frames left : List Content) (before now after : Posted S) → Halfway frames left before now → PostsSome s left now after → PostsSome s frames before after
   some_posted frames left before now after h w = record {
     done = h.done ++ w.done;
     left = w.left;
     frames_are = h.frames_are ∙ ap (λ fs. h.done ++ fs) w.frames_are ∙ sym (append_assoc h.done w.done w.left);
     acts = h.acts ++ w.acts;
-    posted = w.posted ∙ ap (λ p. p ++ w.acts) h.posted ∙ append_assoc before h.acts w.acts;
+    posted = w.posted ∙ ap (λ p. with_acts p w.acts) h.posted ∙ with_both before h.acts w.acts;
     posts = Posts-join None None h.done w.done h.acts w.acts GoesOn h.posts w.posts;
   }
 
-  pub Halfway-more : (frames : List Content) (frame : Content) (left : List Content) (before now after : List (Act S)) → Halfway frames (frame ∷ left) before now → PostsAll s (batch (frame ∷ []) None) GoesOn now after → Halfway frames left before after
+  pub Halfway-more : (frames : List Content) (frame : Content) (left : List Content) (before now after : Posted S) → Halfway frames (frame ∷ left) before now → PostsAll s (batch (frame ∷ []) None) GoesOn now after → Halfway frames left before after
   Halfway-more frames frame left before now after h w = record {
     done = h.done ++ frame ∷ [];
     frames_are = h.frames_are ∙ sym (append_assoc h.done (frame ∷ []) left);
     acts = h.acts ++ w.acts;
-    posted = w.posted ∙ ap (λ p. p ++ w.acts) h.posted ∙ append_assoc before h.acts w.acts;
+    posted = w.posted ∙ ap (λ p. with_acts p w.acts) h.posted ∙ with_both before h.acts w.acts;
     posts = Posts-join None None h.done (frame ∷ []) h.acts w.acts GoesOn h.posts w.posts;
   }
 
   -- the posts of one frame that end, as those of all frames
-  ended_all : (fault : Option stream.Fault) (frames : List Content) (frame : Content) (left : List Content) (course : Course) (before now after : List (Act S)) → course ≢ GoesOn
+  ended_all : (fault : Option stream.Fault) (frames : List Content) (frame : Content) (left : List Content) (course : Course) (before now after : Posted S) → course ≢ GoesOn
       → Halfway frames (frame ∷ left) before now → PostsAll s (batch (frame ∷ []) None) course now after → PostsAll s (batch frames fault) course before after
   ended_all fault frames frame left course before now after ended h w =
       all_posted fault frames (frame ∷ left) course before now after h (record { acts = w.acts; posted = w.posted; posts = Posts-ended fault (frame ∷ []) left w.acts course ended w.posts })
 
-  ended_some : (frames : List Content) (frame : Content) (left : List Content) (before now after : List (Act S)) → Halfway frames (frame ∷ left) before now → PostsSome s (frame ∷ []) now after → PostsSome s frames before after
+  ended_some : (frames : List Content) (frame : Content) (left : List Content) (before now after : Posted S) → Halfway frames (frame ∷ left) before now → PostsSome s (frame ∷ []) now after → PostsSome s frames before after
   ended_some frames frame left before now after h w = some_posted frames (frame ∷ left) before now after h (record {
     done = w.done;
     left = w.left ++ left;
@@ -122,7 +127,7 @@ module _ {S : Type 0} (s : Serializer) where
     posts = w.posts;
   })
 
-  pub Halfway-ends : (end : ReadEnd) (fault : Option stream.Fault) (frames : List Content) (frame : Content) (left : List Content) (before now after : List (Act S)) → Halfway frames (frame ∷ left) before now
+  pub Halfway-ends : (end : ReadEnd) (fault : Option stream.Fault) (frames : List Content) (frame : Content) (left : List Content) (before now after : Posted S) → Halfway frames (frame ∷ left) before now
       → IsPosted s (batch (frame ∷ []) None) now after (Err end) → IsPosted s (batch frames fault) before after (Err end)
   Halfway-ends reader.Left fault frames frame left before now after h w = ended_all fault frames frame left Leaves before now after (λ (e : Leaves ≡ GoesOn). cc) h w
   Halfway-ends (reader.Violation f) fault frames frame left before now after h w = ended_all fault frames frame left (Breaks f) before now after (λ (e : Breaks f ≡ GoesOn). cc) h w
@@ -133,7 +138,7 @@ module _ {S : Type 0} (s : Serializer) where
   Halfway-ends reader.TooManyTurns fault frames frame left before now after h w = absurd w
 
   -- all frames are posted, and then what stands behind them
-  pub Halfway-last : (result : Result Unit ReadEnd) (fault : Option stream.Fault) (frames left : List Content) (before now after : List (Act S)) → left ≡ [] → Halfway frames left before now
+  pub Halfway-last : (result : Result Unit ReadEnd) (fault : Option stream.Fault) (frames left : List Content) (before now after : Posted S) → left ≡ [] → Halfway frames left before now
       → IsPosted s (batch [] fault) now after result → IsPosted s (batch frames fault) before after result
   Halfway-last (Ok u) fault frames left before now after none h w = all_posted fault frames [] GoesOn before now after (subst (λ fs. Halfway frames fs before now) none h) w
   Halfway-last (Err reader.Left) fault frames left before now after none h w = all_posted fault frames [] Leaves before now after (subst (λ fs. Halfway frames fs before now) none h) w
@@ -145,25 +150,25 @@ module _ {S : Type 0} (s : Serializer) where
   Halfway-last (Err reader.TooManyTurns) fault frames left before now after none h w = absurd w
 
   -- the posts of a frame that is the same
-  pub posted_as : (result : Result Unit ReadEnd) (k l : Kind) (p q : List ℕ) (before now : List (Act S)) → k ≡ l → p ≡ q → let frame : Kind → List ℕ → Content = λ kind payload. record { kind = kind; payload = payload } in
+  pub posted_as : (result : Result Unit ReadEnd) (k l : Kind) (p q : List ℕ) (before now : Posted S) → k ≡ l → p ≡ q → let frame : Kind → List ℕ → Content = λ kind payload. record { kind = kind; payload = payload } in
       IsPosted s (batch (frame k p ∷ []) None) before now result → IsPosted s (batch (frame l q ∷ []) None) before now result
   posted_as result k l p q before now same_kind same w =
       let frame : Kind → List ℕ → Content = λ kind payload. record { kind = kind; payload = payload } in
       subst (λ kind. IsPosted s (batch (frame kind q ∷ []) None) before now result) same_kind (subst (λ payload. IsPosted s (batch (frame k payload ∷ []) None) before now result) same w)
 
-  pub none_posted : (before : List (Act S)) → PostsAll s (batch [] None) GoesOn before before
-  none_posted before = record { acts = []; posted = sym (append-nil before); posts = (refl, refl) }
+  pub none_posted : (before : Posted S) → PostsAll s (batch [] None) GoesOn before before
+  none_posted before = record { acts = []; posted = sym (with_none before); posts = (refl, refl) }
 
   -- all frames are posted
-  pub Halfway-done : (frames left : List Content) (before now : List (Act S)) → left ≡ [] → Halfway frames left before now → PostsAll s (batch frames None) GoesOn before now
+  pub Halfway-done : (frames left : List Content) (before now : Posted S) → left ≡ [] → Halfway frames left before now → PostsAll s (batch frames None) GoesOn before now
   Halfway-done frames left before now none h = Halfway-last (Ok tt) None frames left before now now none h (none_posted now)
 
   -- where all are posted, some are
-  pub all_is_some : (frames : List Content) (before now : List (Act S)) → PostsAll s (batch frames None) GoesOn before now → PostsSome s frames before now
+  pub all_is_some : (frames : List Content) (before now : Posted S) → PostsAll s (batch frames None) GoesOn before now → PostsSome s frames before now
   all_is_some frames before now w = record { done = frames; left = []; frames_are = sym (append-nil frames); acts = w.acts; posted = w.posted; posts = w.posts }
 
   -- part is posted, and then what is left
-  pub Halfway-rest : (result : Result Unit ReadEnd) (fault : Option stream.Fault) (frames left : List Content) (before now after : List (Act S)) → Halfway frames left before now
+  pub Halfway-rest : (result : Result Unit ReadEnd) (fault : Option stream.Fault) (frames left : List Content) (before now after : Posted S) → Halfway frames left before now
       → IsPosted s (batch left fault) now after result → IsPosted s (batch frames fault) before after result
   Halfway-rest (Ok u) fault frames left before now after h w = all_posted fault frames left GoesOn before now after h w
   Halfway-rest (Err reader.Left) fault frames left before now after h w = all_posted fault frames left Leaves before now after h w
@@ -174,17 +179,41 @@ module _ {S : Type 0} (s : Serializer) where
   Halfway-rest (Err reader.Device) fault frames left before now after h w = absurd w
   Halfway-rest (Err reader.TooManyTurns) fault frames left before now after h w = absurd w
 
-  pub Halfway-of : (a b : List Content) (before now : List (Act S)) → PostsAll s (batch a None) GoesOn before now → Halfway (a ++ b) b before now
+  -- the posts of a message, by what it says
+  pub says_more : (said : session.Said) (payload : List ℕ) → Says s payload said → is_farewell said ≡ false → Posts {S = S} s None (record { kind = kind.Message; payload = payload } ∷ []) (act.Said said ∷ []) GoesOn
+  says_more said payload says stays = inl (record { said = said; says = says; stays = stays; first = record { more = []; acts_are = refl; next = (refl, refl) } })
+
+  pub says_farewell : (said : session.Said) (payload : List ℕ) → Says s payload said → is_farewell said ≡ true → Posts {S = S} s None (record { kind = kind.Message; payload = payload } ∷ []) (act.Said said ∷ []) Leaves
+  says_farewell said payload says leaves = inr (inl (record { said = said; says = says; leaves = leaves; acts_are = refl; course_is = refl }))
+
+  pub says_nothing : (fault : Fault) (payload : List ℕ) → SaysNothing s payload fault → Posts {S = S} s None (record { kind = kind.Message; payload = payload } ∷ []) (act.Spoilt ∷ []) (Breaks fault)
+  says_nothing fault payload nothing = inr (inr (record { fault = fault; nothing = nothing; acts_are = refl; course_is = refl }))
+
+  -- what stands behind the last frame is at fault
+  pub fault_posted : (given : Option stream.Fault) (broken : stream.Fault) (fault : Fault) (before now : Posted S) → given ≡ Some broken → fault ≡ stream_fault broken → now ≡ with_acts before (act.Spoilt ∷ [])
+      → PostsAll s (batch [] given) (Breaks fault) before now
+  fault_posted given broken fault before now e f posted = subst (λ g. PostsAll s (batch [] g) (Breaks fault) before now) (sym e) (record { acts = act.Spoilt ∷ []; posted = posted; posts = (refl, ap Breaks f) })
+
+  -- a PING is posted, or comes back
+  pub ping_posted : (result : Result Unit ReadEnd) (payload : List ℕ) (before now : Posted S) → OnOk result (now ≡ with_acts before (act.Ping payload ∷ [])) → OnErr result (now ≡ before) → IfErr result (λ e. e ≡ reader.ActorGone)
+      → IsPosted s (batch (record { kind = kind.Ping; payload = payload } ∷ []) None) before now result
+  ping_posted (Ok u) payload before now posted back end = record { acts = act.Ping payload ∷ []; posted = posted; posts = record { more = []; acts_are = refl; next = (refl, refl) } }
+  ping_posted (Err e) payload before now posted back end =
+      let frames : List Content = record { kind = kind.Ping; payload = payload } ∷ [] in
+      subst (λ x. IsPosted s (batch frames None) before now (Err x)) (sym end)
+      (record { done = []; left = frames; frames_are = refl; acts = []; posted = back ∙ sym (with_none before); posts = (refl, refl) })
+
+  pub Halfway-of : (a b : List Content) (before now : Posted S) → PostsAll s (batch a None) GoesOn before now → Halfway (a ++ b) b before now
   Halfway-of a b before now w = record { done = a; frames_are = refl; acts = w.acts; posted = w.posted; posts = w.posts }
 
-  longer_all : (fault : Option stream.Fault) (a b : List Content) (course : Course) (before now : List (Act S)) → course ≢ GoesOn → PostsAll s (batch a None) course before now → PostsAll s (batch (a ++ b) fault) course before now
+  longer_all : (fault : Option stream.Fault) (a b : List Content) (course : Course) (before now : Posted S) → course ≢ GoesOn → PostsAll s (batch a None) course before now → PostsAll s (batch (a ++ b) fault) course before now
   longer_all fault a b course before now ended w = record { acts = w.acts; posted = w.posted; posts = Posts-ended fault a b w.acts course ended w.posts }
 
-  longer_some : (a b : List Content) (before now : List (Act S)) → PostsSome s a before now → PostsSome s (a ++ b) before now
+  longer_some : (a b : List Content) (before now : Posted S) → PostsSome s a before now → PostsSome s (a ++ b) before now
   longer_some a b before now w = record { done = w.done; left = w.left ++ b; frames_are = ap (λ fs. fs ++ b) w.frames_are ∙ append_assoc w.done w.left b; acts = w.acts; posted = w.posted; posts = w.posts }
 
   -- what ended at the first frames ended
-  pub longer_ends : (end : ReadEnd) (fault : Option stream.Fault) (a b : List Content) (before now : List (Act S)) → IsPosted s (batch a None) before now (Err end) → IsPosted s (batch (a ++ b) fault) before now (Err end)
+  pub longer_ends : (end : ReadEnd) (fault : Option stream.Fault) (a b : List Content) (before now : Posted S) → IsPosted s (batch a None) before now (Err end) → IsPosted s (batch (a ++ b) fault) before now (Err end)
   longer_ends reader.Left fault a b before now w = longer_all fault a b Leaves before now (λ (e : Leaves ≡ GoesOn). cc) w
   longer_ends (reader.Violation f) fault a b before now w = longer_all fault a b (Breaks f) before now (λ (e : Breaks f ≡ GoesOn). cc) w
   longer_ends reader.NoMemory fault a b before now w = longer_some a b before now w

@@ -9,17 +9,17 @@ use Rattle.rawsocket.specs.declared.handshake.Serializer.{Serializer}
 use Rattle.rawsocket.proofs.Lemmas.{all_joined, resumed_more, resumed_reads, some_reads}
 use Rattle.connection.specs.Posts.{GoesOn}
 use Rattle.connection.specs.Reader.{Advances, IsAdvance, IsPosted, PostsAll, PostsFront, Start, batch, start, taking}
-use Rattle.realm_inbox.specs.declared.act.Act.{Act}
+use Rattle.realm_inbox.specs.Posted.{Posted}
 use Rattle.connection.specs.declared.reader.ReadEnd.{ReadEnd}
 use Rattle.connection.specs.declared.reader.ReadEnd.TheVariants.{NoMemory}
 use Rattle.connection.proofs.FramesPosted.{Halfway, Halfway-last, Halfway-of, Halfway-rest, all_is_some, longer_ends, none_posted}
 
 module _ {S : Type 0} (s : Serializer) where
-  pub front_start : (octets : List ℕ) (before : List (Act S)) → PostsFront s octets octets before before (Ok tt)
+  pub front_start : (octets : List ℕ) (before : Posted S) → PostsFront s octets octets before before (Ok tt)
   front_start octets before = record { frames = []; each = tt; whole = refl; posted = none_posted s before }
 
   -- the next frame, however it goes
-  pub front_next : (result : Result Unit ReadEnd) (frame : Content) (octets rest after : List ℕ) (before now later : List (Act S)) → length frame.payload ≤ 1048576 → rest ≡ spelled frame ++ after
+  pub front_next : (result : Result Unit ReadEnd) (frame : Content) (octets rest after : List ℕ) (before now later : Posted S) → length frame.payload ≤ 1048576 → rest ≡ spelled frame ++ after
       → PostsFront s octets rest before now (Ok tt) → IsPosted s (batch (frame ∷ []) None) now later result → PostsFront s octets after before later result
   front_next result frame octets rest after before now later taken is w next = record {
     frames = w.frames ++ frame ∷ [];
@@ -29,44 +29,44 @@ module _ {S : Type 0} (s : Serializer) where
     posted = Halfway-rest s result None (w.frames ++ frame ∷ []) (frame ∷ []) before now later (Halfway-of s w.frames (frame ∷ []) before now w.posted) next;
   }
 
-  advance_of : (result : Result Unit ReadEnd) (begun : Start) (octets new : List ℕ) (before now : List (Act S)) → Advances begun (taking octets new) before now result → IsAdvance begun (taking octets new) before now result
+  advance_of : (result : Result Unit ReadEnd) (begun : Start) (octets new : List ℕ) (before now : Posted S) → Advances begun (taking octets new) before now result → IsAdvance begun (taking octets new) before now result
   advance_of (Ok u) begun octets new before now w = w
   advance_of (Err end) begun octets new before now w = (new, w)
 
   -- without memory for a piece nothing of it is posted
-  pub stops_at_once : (old piece new : List ℕ) (before : List (Act S)) → IsAdvance (start s [] old) (taking piece new) before before (Err NoMemory)
+  pub stops_at_once : (old piece new : List ℕ) (before : Posted S) → IsAdvance (start s [] old) (taking piece new) before before (Err NoMemory)
   stops_at_once old piece new before =
       let w = some_reads (old ++ piece) in
       (w.held, record { frames = w.more; reads = w.reads; posted = longer_ends s NoMemory (fault_of w.held) [] w.more before before (all_is_some s [] before before (none_posted s before)) })
 
   -- what ends the posts of the first frames of a piece ends those of the piece
-  stops : (end : ReadEnd) (old piece new held rest back : List ℕ) (frames more : List Content) (before now : List (Act S)) → Resumes old piece frames held rest → AllByRecursion IsTaken more → rest ≡ flat_map spelled more ++ back
+  stops : (end : ReadEnd) (old piece new held rest back : List ℕ) (frames more : List Content) (before now : Posted S) → Resumes old piece frames held rest → AllByRecursion IsTaken more → rest ≡ flat_map spelled more ++ back
       → IsPosted s (batch (frames ++ more) None) before now (Err end) → IsAdvance (start s [] old) (taking piece new) before now (Err end)
   stops end old piece new held rest back frames more before now r each whole w =
       let m = resumed_more old piece rest back held frames more r each whole in
       (m.held, record { frames = (frames ++ more) ++ m.more; reads = m.reads; posted = longer_ends s end (fault_of m.held) (frames ++ more) m.more before now w })
 
-  pub stops_at_completed : (end : ReadEnd) (old piece new held rest : List ℕ) (frames : List Content) (before now : List (Act S)) → Resumes old piece frames held rest → IsPosted s (batch frames None) before now (Err end)
+  pub stops_at_completed : (end : ReadEnd) (old piece new held rest : List ℕ) (frames : List Content) (before now : Posted S) → Resumes old piece frames held rest → IsPosted s (batch frames None) before now (Err end)
       → IsAdvance (start s [] old) (taking piece new) before now (Err end)
   stops_at_completed end old piece new held rest frames before now r w =
       stops end old piece new held rest rest frames [] before now r tt refl (subst (λ fs. IsPosted s (batch fs None) before now (Err end)) (sym (append-nil frames)) w)
 
-  pub stops_behind : (end : ReadEnd) (old piece new held rest back : List ℕ) (frames : List Content) (before now later : List (Act S)) → Resumes old piece frames held rest → IsPosted s (batch frames None) before now (Ok tt)
+  pub stops_behind : (end : ReadEnd) (old piece new held rest back : List ℕ) (frames : List Content) (before now later : Posted S) → Resumes old piece frames held rest → IsPosted s (batch frames None) before now (Ok tt)
       → PostsFront s rest back now later (Err end) → IsAdvance (start s [] old) (taking piece new) before later (Err end)
   stops_behind end old piece new held rest back frames before now later r first w =
       stops end old piece new held rest back frames w.frames before later r w.each w.whole (Halfway-rest s (Err end) None (frames ++ w.frames) w.frames before now later (Halfway-of s frames w.frames before now first) w.posted)
 
-  posted_both : (octets rest : List ℕ) (frames : List Content) (before now later : List (Act S)) → IsPosted s (batch frames None) before now (Ok tt) → (w : PostsFront s octets rest now later (Ok tt)) → PostsAll s (batch (frames ++ w.frames) None) GoesOn before later
+  posted_both : (octets rest : List ℕ) (frames : List Content) (before now later : Posted S) → IsPosted s (batch frames None) before now (Ok tt) → (w : PostsFront s octets rest now later (Ok tt)) → PostsAll s (batch (frames ++ w.frames) None) GoesOn before later
   posted_both octets rest frames before now later first w = Halfway-rest s (Ok tt) None (frames ++ w.frames) w.frames before now later (Halfway-of s frames w.frames before now first) w.posted
 
   -- without memory for what stands behind the frames all of these are posted
-  pub stops_at_rest : (old piece new held rest back : List ℕ) (frames : List Content) (before now later : List (Act S)) → Resumes old piece frames held rest → IsPosted s (batch frames None) before now (Ok tt)
+  pub stops_at_rest : (old piece new held rest back : List ℕ) (frames : List Content) (before now later : Posted S) → Resumes old piece frames held rest → IsPosted s (batch frames None) before now (Ok tt)
       → PostsFront s rest back now later (Ok tt) → IsAdvance (start s [] old) (taking piece new) before later (Err NoMemory)
   stops_at_rest old piece new held rest back frames before now later r first w =
       stops NoMemory old piece new held rest back frames w.frames before later r w.each w.whole (all_is_some s (frames ++ w.frames) before later (posted_both rest back frames before now later first w))
 
   -- all of a piece, and what is at fault behind its frames
-  pub goes_through : (result : Result Unit ReadEnd) (fault : Option Fault) (old piece new held rest back : List ℕ) (frames : List Content) (before now later last : List (Act S)) → Resumes old piece frames held rest → IsPosted s (batch frames None) before now (Ok tt)
+  pub goes_through : (result : Result Unit ReadEnd) (fault : Option Fault) (old piece new held rest back : List ℕ) (frames : List Content) (before now later last : Posted S) → Resumes old piece frames held rest → IsPosted s (batch frames None) before now (Ok tt)
       → PostsFront s rest back now later (Ok tt) → IsShort back → new ≡ held ++ kept back → fault ≡ fault_of new → IsPosted s (batch [] fault) later last result → IsAdvance (start s [] old) (taking piece new) before last result
   goes_through result fault old piece new held rest back frames before now later last r first w short new_is fault_is end =
       let all : List Content = frames ++ w.frames in
@@ -80,7 +80,7 @@ module _ {S : Type 0} (s : Serializer) where
       })
 
   -- the early frames, and then the octets
-  pub early_then : (result : Result Unit ReadEnd) (early : List Content) (old octets new : List ℕ) (before now later : List (Act S)) → IsPosted s (batch early None) before now (Ok tt) → IsAdvance (start s [] old) (taking octets new) now later result
+  pub early_then : (result : Result Unit ReadEnd) (early : List Content) (old octets new : List ℕ) (before now later : Posted S) → IsPosted s (batch early None) before now (Ok tt) → IsAdvance (start s [] old) (taking octets new) now later result
       → IsAdvance (start s early old) (taking octets new) before later result
   early_then (Ok u) early old octets new before now later first w = record {
     frames = w.frames;
@@ -96,7 +96,7 @@ module _ {S : Type 0} (s : Serializer) where
     },
   )
 
-  pub stops_early : (end : ReadEnd) (early : List Content) (old octets new : List ℕ) (before now : List (Act S)) → IsPosted s (batch early None) before now (Err end) → IsAdvance (start s early old) (taking octets new) before now (Err end)
+  pub stops_early : (end : ReadEnd) (early : List Content) (old octets new : List ℕ) (before now : Posted S) → IsPosted s (batch early None) before now (Err end) → IsAdvance (start s early old) (taking octets new) before now (Err end)
   stops_early end early old octets new before now w =
       let r = some_reads (old ++ octets) in
       (r.held, record { frames = r.more; reads = r.reads; posted = longer_ends s end (fault_of r.held) early r.more before now w })

@@ -9,7 +9,7 @@ use Rattle.session.specs.declared.fault.Fault.TheVariants as fault
 use Rattle.session.specs.declared.messages.item.Item.{Item}
 use Rattle.session.specs.ItemFrames.{octets_of, IsTooLong}
 use Rattle.connection.specs.Writer.{IsWritable, frames_of, IsWhole, LacksLast, IsRefused, IsMissing, IsBegun, IsWrittenBy, WritesSince}
-use Rattle.connection.specs.body.Writer.{Output, output, Passes, HandsOver, IsOfDevice, EndsBetween, EndsWith, StopsAt, EndsFrom, BreaksAt}
+use Rattle.connection.specs.body.Writer.{output, Passes, HandsOver, IsOfDevice, EndsBetween, EndsWith, StopsAt, EndsFrom, BreaksAt}
 use Rattle.connection.specs.declared.writer.Client.{Client}
 use Rattle.connection.specs.declared.writer.WriteEnd.{WriteEnd}
 use Rattle.connection.specs.declared.writer.WriteEnd.TheVariants.{Stopped, Device, TooLong, NoMemory, TooManyTurns}

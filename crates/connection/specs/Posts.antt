@@ -1,18 +1,14 @@
 -- What the frames of a client are posted as.
 use Rattle.std.specs.Prelude.{◌≡◌, ◌⊎◌, ℕ, Bool, true, false, List, [], ◌∷◌, None, Some}
 use Rattle.std.specs.declared.option.Option.{Option}
-use Rattle.message_tree.specs.Data.{Data}
 use Rattle.rawsocket.specs.Frames.{Content}
 use Rattle.rawsocket.specs.declared.fault.Fault as stream
 use Rattle.rawsocket.specs.declared.handshake.Serializer.{Serializer}
 use Rattle.realm_inbox.specs.declared.act.Act.{Act}
 use Rattle.realm_inbox.specs.declared.act.Act.TheVariants.{Said, Ping, Spoilt}
 use Rattle.session.specs.Faults.{stream_fault}
-use Rattle.session.specs.FromClient.{said_of}
 use Rattle.session.specs.Opened.{ByKind}
-use Rattle.session.specs.Serializer.{Decodes, IsUndecodable}
 use Rattle.session.specs.declared.fault.Fault.{Fault}
-use Rattle.session.specs.declared.fault.Fault.TheVariants.{Shape}
 use Rattle.session.specs.declared.messages.said.Said as session
 use Rattle.session.specs.declared.messages.said.Said.TheVariants.{Abort, Goodbye}
 -- what a payload says

@@ -8,6 +8,7 @@ use Rattle.rawsocket.specs.Steps.{Meter, Told, Fine, Failed, NoTurn, WholeSteps}
 use Rattle.rawsocket.specs.declared.devices.no_octets.NoOctets.{NoOctets}
 use Rattle.rawsocket.specs.declared.devices.no_octets.NoOctets.TheVariants as no_octets
 use Rattle.rawsocket.specs.declared.handshake.Serializer.{Serializer}
+use Rattle.realm_inbox.specs.Posted.{Posted, with_acts}
 use Rattle.realm_inbox.specs.declared.act.Act.{Act}
 use Rattle.realm_inbox.specs.declared.act.Act.TheVariants.{Gone}
 use Rattle.connection.specs.Posts.{Course, GoesOn, Leaves, Breaks, Posts}
@@ -107,30 +108,30 @@ module _ {S : Type 0} where
   IsReadUpTo begun ActorGone octets acts = IsReadPartly begun octets acts
 
   -- these octets were read, and these acts posted, since
-  pub record ReadsSince (given_before given : List ℕ) (before now : List (Act S)) (Read : List ℕ → List (Act S) → Type 0) : Type 0 where
+  pub record ReadsSince (given_before given : List ℕ) (before now : Posted S) (Read : List ℕ → List (Act S) → Type 0) : Type 0 where
     pub octets : List ℕ
     pub acts : List (Act S)
     pub read : given ≡ given_before ++ octets
-    pub posted : now ≡ before ++ acts
+    pub posted : now ≡ with_acts before acts
     pub holds : Read octets acts
 
   -- all of them were posted since
-  pub record PostsAll (s : Serializer) (given : Batch) (course : Course) (before now : List (Act S)) : Type 0 where
+  pub record PostsAll (s : Serializer) (given : Batch) (course : Course) (before now : Posted S) : Type 0 where
     pub acts : List (Act S)
-    pub posted : now ≡ before ++ acts
+    pub posted : now ≡ with_acts before acts
     pub posts : Posts s given.fault given.frames acts course
 
   -- those of the first frames were
-  pub record PostsSome (s : Serializer) (frames : List Content) (before now : List (Act S)) : Type 0 where
+  pub record PostsSome (s : Serializer) (frames : List Content) (before now : Posted S) : Type 0 where
     pub done : List Content
     pub left : List Content
     pub frames_are : frames ≡ done ++ left
     pub acts : List (Act S)
-    pub posted : now ≡ before ++ acts
+    pub posted : now ≡ with_acts before acts
     pub posts : Posts s None done acts GoesOn
 
   -- by what ends it, if anything does
-  abbrev pub IsPosted : Serializer → Batch → List (Act S) → List (Act S) → Result Unit ReadEnd → Type 0
+  abbrev pub IsPosted : Serializer → Batch → Posted S → Posted S → Result Unit ReadEnd → Type 0
   IsPosted s given before now (Ok _) = PostsAll s given GoesOn before now
   IsPosted s given before now (Err Left) = PostsAll s given Leaves before now
   IsPosted s given before now (Err (Violation broken)) = PostsAll s given (Breaks broken) before now
@@ -139,29 +140,29 @@ module _ {S : Type 0} where
   IsPosted s given before now (Err _) = ⊥
 
   -- those of the frames at the front of octets were posted, by what ended it, if anything did
-  pub record PostsFront (s : Serializer) (octets rest : List ℕ) (before now : List (Act S)) (result : Result Unit ReadEnd) : Type 0 where
+  pub record PostsFront (s : Serializer) (octets rest : List ℕ) (before now : Posted S) (result : Result Unit ReadEnd) : Type 0 where
     pub frames : List Content
     pub each : AllByRecursion IsTaken frames
     pub whole : octets ≡ flat_map spelled frames ++ rest
     pub posted : IsPosted s (batch frames None) before now result
 
   -- octets give these frames behind what was held, and they are posted behind the early ones
-  pub record Advances (begun : Start) (read : Taking) (before now : List (Act S)) (result : Result Unit ReadEnd) : Type 0 where
+  pub record Advances (begun : Start) (read : Taking) (before now : Posted S) (result : Result Unit ReadEnd) : Type 0 where
     pub frames : List Content
     pub reads : Reads (begun.held ++ read.octets) frames read.held
     pub posted : IsPosted begun.serializer (batch (begun.early ++ frames) (fault_of read.held)) before now result
 
   -- where something ended it, the deframer needn't hold what stands behind them
-  abbrev pub IsAdvance : Start → Taking → List (Act S) → List (Act S) → Result Unit ReadEnd → Type 0
+  abbrev pub IsAdvance : Start → Taking → Posted S → Posted S → Result Unit ReadEnd → Type 0
   IsAdvance begun read before now (Ok u) = Advances begun read before now (Ok u)
   IsAdvance begun read before now (Err end) = (held : List ℕ) × Advances begun (taking read.octets held) before now (Err end)
 
   -- that the client is gone is posted, or comes back
-  abbrev pub GoesWith : ReadEnd → List (Act S) → List (Act S) → ReadEnd → Type 0
-  GoesWith end before now result = ((result ≡ end) × (now ≡ before ++ Gone ∷ [])) ⊎ ((result ≡ ActorGone) × (now ≡ before))
+  abbrev pub GoesWith : ReadEnd → Posted S → Posted S → ReadEnd → Type 0
+  GoesWith end before now result = ((result ≡ end) × (now ≡ with_acts before (Gone ∷ []))) ⊎ ((result ≡ ActorGone) × (now ≡ before))
 
   -- it is posted where nothing that the client sent ended it
-  abbrev pub Departs : ReadEnd → List (Act S) → List (Act S) → ReadEnd → Type 0
+  abbrev pub Departs : ReadEnd → Posted S → Posted S → ReadEnd → Type 0
   Departs Left before now result = (result ≡ Left) × (now ≡ before)
   Departs (Violation fault) before now result = (result ≡ Violation fault) × (now ≡ before)
   Departs ActorGone before now result = (result ≡ ActorGone) × (now ≡ before)

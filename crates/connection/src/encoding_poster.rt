@@ -1,6 +1,7 @@
 //! Events are encoded once for many receivers, before they are posted.
-ghost use Rattle.std.specs.Prelude.{◌≡◌, ◌++◌, ◌∷◌, [], MatchResult, false};
+ghost use Rattle.std.specs.Prelude.{◌≡◌, ◌∷◌, [], MatchResult, false};
 ghost use Rattle.realm_inbox.specs.Joins.{is_join};
+ghost use Rattle.realm_inbox.specs.Posted.{with_acts};
 
 use crate::in_use::InUse;
 use rawsocket::Serializer;
@@ -33,7 +34,7 @@ impl<S: Shut, P: Posting<S>> Posting<S> for EncodingPoster<'_, P> {
     fn post<R: Wait>(&mut self, rt: &R, act: Act<S>, octets: usize) -> Result<(), Act<S>>
         requires { is_join act ≡ false }
         ensures { MatchResult result (λ _.
-            P.posted self.new.poster ≡ P.posted self.old.poster ++ act ∷ []) (λ back. (back ≡ act)
+            P.posted self.new.poster ≡ with_acts (P.posted self.old.poster) (act ∷ [])) (λ back. (back ≡ act)
             × (P.posted self.new.poster ≡ P.posted self.old.poster)) }
     {
         let act = encoded(self.alloc, self.in_use, self.own, act);

@@ -1,6 +1,7 @@
 //! A client that doesn't take its PONGs is read no further.
-ghost use Rattle.std.specs.Prelude.{◌≡◌, ◌++◌, ◌∷◌, [], MatchResult, false};
+ghost use Rattle.std.specs.Prelude.{◌≡◌, ◌∷◌, [], MatchResult, false};
 ghost use Rattle.realm_inbox.specs.Joins.{is_join};
+ghost use Rattle.realm_inbox.specs.Posted.{with_acts};
 
 use realm_inbox::{Act, Backlog, Posting, Shut};
 use session::Item;
@@ -69,7 +70,7 @@ impl<S: Shut, P: Posting<S>> Posting<S> for PongPoster<P> {
     fn post<R: Wait>(&mut self, rt: &R, act: Act<S>, octets: usize) -> Result<(), Act<S>>
         requires { is_join act ≡ false }
         ensures { MatchResult result (λ _.
-            P.posted self.new.poster ≡ P.posted self.old.poster ++ act ∷ []) (λ back. (back ≡ act)
+            P.posted self.new.poster ≡ with_acts (P.posted self.old.poster) (act ∷ [])) (λ back. (back ≡ act)
             × (P.posted self.new.poster ≡ P.posted self.old.poster)) }
     {
         if let Act::Ping(payload) = &act {

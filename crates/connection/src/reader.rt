@@ -1,10 +1,11 @@
 //! The reader of a connection: it reads octets, and posts what they say.
-ghost use Rattle.std.specs.Prelude.{◌≡◌, ◌≢◌, ◌≤◌, ◌<◌, ◌+◌, ◌++◌, ◌∷◌, [], None, Ok, Err, ℕ, List, length, take, IfOk, IfErr, OnOk, OnErr, true, false};
+ghost use Rattle.std.specs.Prelude.{◌≡◌, ◌≢◌, ◌≤◌, ◌<◌, ◌+◌, ◌∷◌, [], None, Ok, Err, ℕ, List, length, take, IfOk, IfErr, OnOk, OnErr, true, false};
 ghost use Rattle.rawsocket.specs.Frames.{content, contents, fault_of};
 ghost use Rattle.rawsocket.specs.Deframer.{IsShort, completed};
 ghost use Rattle.rawsocket.specs.declared.handshake.Serializer.{Serializer};
 ghost use Rattle.rawsocket.specs.Steps.{WholeSteps, meter};
 ghost use Rattle.realm_inbox.specs.Joins.{is_join};
+ghost use Rattle.realm_inbox.specs.Posted.{with_acts};
 ghost use Rattle.connection.specs.Posts.{Says, SaysNothing, is_farewell};
 ghost use Rattle.connection.specs.Reader.{IsPosted, IsAdvance, PostsFront, IsReadUpTo, IsReadBy, ReadsSince, ReadsUntil, Departs, batch, read_told, start, taking};
 
@@ -69,7 +70,7 @@ fn post<R: Wait, S: Shut, P: Posting<S>>(
     octets: usize,
 ) -> Result<(), ReadEnd>
     requires { is_join act ≡ false }
-    ensures posted { OnOk result (P.posted poster.new ≡ P.posted poster.old ++ act ∷ []) }
+    ensures posted { OnOk result (P.posted poster.new ≡ with_acts (P.posted poster.old) (act ∷ [])) }
     ensures back { OnErr result (P.posted poster.new ≡ P.posted poster.old) }
     ensures end { IfErr result (λ e. e ≡ ReadEnd.ActorGone) }
 {

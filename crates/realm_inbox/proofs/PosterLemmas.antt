@@ -1,9 +1,12 @@
 -- What a poster of a connection that has joined posts.
-use Rattle.std.proofs.Common.{◌≡◌, ℕ, false, true≢false, sym, ap, ◌∙◌, List, [], ◌∷◌, ◌++◌, map, Ok, Err, MatchResult}
+use Rattle.std.proofs.Common.{◌≡◌, ℕ, false, true≢false, sym, ap, ◌∙◌, List, [], ◌∷◌, ◌++◌, map, Some, Ok, Err, MatchResult, append_assoc, append-nil}
 use Rattle.std.specs.declared.result.Result.{Result}
 use Rattle.std.proofs.lemmas.List.{map-append}
 use Rattle.realm_inbox.specs.declared.act.Act.{Act}
+use Rattle.realm_inbox.specs.declared.ends.Poster.{Poster}
+use Rattle.realm_inbox.specs.EndViews.{posted, posted_by, poster_conn, inbox_of_poster}
 use Rattle.realm_inbox.specs.Joins.{is_join}
+use Rattle.realm_inbox.specs.Posted.{Posted, with_acts}
 use Rattle.realm_inbox.specs.Seats.{BringsOwn}
 
 module _ {S : Type 0} where
@@ -11,11 +14,26 @@ module _ {S : Type 0} where
   pub brings_nothing : (c : ℕ) (act : Act S) → is_join act ≡ false → BringsOwn c act
   brings_nothing c act other joining e = absurd (true≢false (sym (ap is_join e) ∙ other))
 
-  pub acts_grow : (l k : List (ℕ × Act S)) (c : ℕ) (act : Act S) → k ≡ l ++ (c, act) ∷ [] → map (λ x. x.1) k ≡ map (λ x. x.1) l ++ act ∷ []
-  acts_grow l k c act e = ap (λ t. map (λ (x : ℕ × Act S). x.1) t) e ∙ map-append (λ (x : ℕ × Act S). x.1) l ((c, act) ∷ [])
+  same_posted : (p q : Posted S) → p.inbox ≡ q.inbox → p.conn ≡ q.conn → p.said ≡ q.said → p ≡ q
+  same_posted p q inbox conn said =
+      let a : p ≡ record { inbox = q.inbox; conn = p.conn; said = p.said } = ap (λ x. record { inbox = x; conn = p.conn; said = p.said }) inbox in
+      let b : record { inbox = q.inbox; conn = p.conn; said = p.said } ≡ record { inbox = q.inbox; conn = q.conn; said = p.said } = ap (λ x. record { inbox = q.inbox; conn = x; said = p.said }) conn in
+      a ∙ b ∙ ap (λ x. record { inbox = q.inbox; conn = q.conn; said = x }) said
 
-  pub posts_acts : (r : Result Unit (Act S)) (c : ℕ) (act : Act S) (l k : List (ℕ × Act S))
-      → MatchResult r (λ done. k ≡ l ++ (c, act) ∷ []) (λ back. (back ≡ act) × (k ≡ l))
-      → MatchResult r (λ done. map (λ x. x.1) k ≡ map (λ x. x.1) l ++ act ∷ []) (λ back. (back ≡ act) × (map (λ x. x.1) k ≡ map (λ x. x.1) l))
-  posts_acts (Ok done) c act l k e = acts_grow l k c act e
-  posts_acts (Err back) c act l k e = (e.0, ap (λ t. map (λ (x : ℕ × Act S). x.1) t) e.1)
+  -- nothing more
+  pub with_none : (p : Posted S) → with_acts p [] ≡ p
+  with_none p = ap (λ x. record { inbox = p.inbox; conn = p.conn; said = x }) (append-nil p.said)
+
+  -- some, and then more
+  pub with_both : (p : Posted S) (acts more : List (Act S)) → with_acts (with_acts p acts) more ≡ with_acts p (acts ++ more)
+  with_both p acts more =
+      let of : Act S → ℕ × Act S = λ act. (p.conn, act) in
+      ap (λ x. record { inbox = p.inbox; conn = p.conn; said = x }) (append_assoc p.said (map of acts) (map of more) ∙ ap (λ x. p.said ++ x) (sym (map-append of acts more)))
+
+  -- a poster posts, and stays at its place
+  pub posts_on : (r : Result Unit (Act S)) (act : Act S) (p q : Poster S)
+      → MatchResult r (λ done. posted q ≡ posted p ++ (poster_conn p, act) ∷ []) (λ back. (back ≡ act) × (posted q ≡ posted p))
+      → (poster_conn q ≡ poster_conn p) × (inbox_of_poster q ≡ inbox_of_poster p)
+      → MatchResult r (λ done. posted_by q ≡ with_acts (posted_by p) (act ∷ [])) (λ back. (back ≡ act) × (posted_by q ≡ posted_by p))
+  posts_on (Ok done) act p q e same = same_posted (posted_by q) (with_acts (posted_by p) (act ∷ [])) (ap Some same.1) same.0 e
+  posts_on (Err back) act p q e same = (e.0, same_posted (posted_by q) (posted_by p) (ap Some same.1) same.0 e.1)

@@ -1,5 +1,5 @@
 -- What contracts see of an inbox's ends.
-use Rattle.std.specs.Prelude.{◌≡◌, Option, ℕ, ◌+◌, ◌<◌, List, [], map, length, slice_index_or}
+use Rattle.std.specs.Prelude.{◌≡◌, Option, Some, ℕ, ◌+◌, ◌<◌, List, [], length, slice_index_or}
 use Rattle.atomic_table.specs.Seated.{TableId}
 use Rattle.crossbeam_channel.specs.Claims.{view}
 use Rattle.crossbeam_channel.specs.Ends.{receives_on, ruled_capacity}
@@ -10,6 +10,7 @@ use Rattle.realm_inbox.specs.declared.ends.Inbox.{Inbox}
 use Rattle.realm_inbox.specs.declared.ends.Seat.{Seat}
 use Rattle.realm_inbox.specs.declared.ends.Poster.{Poster}
 use Rattle.realm_inbox.specs.Ends.{home_in, Place, place_of, posted_in, received_in, stops_in}
+use Rattle.realm_inbox.specs.Posted.{Posted}
 
 module _ {S : Type 0} where
   -- what the inbox gave so far, the oldest first
@@ -34,10 +35,6 @@ module _ {S : Type 0} where
   -- what was posted at a poster's seat, also by posters before it
   abbrev pub posted : Poster S → List (ℕ × Act S)
   posted p = posted_at p.seat
-
-  -- the acts alone
-  abbrev pub posted_acts : Poster S → List (Act S)
-  posted_acts p = map (λ said. said.1) (posted p)
 
   -- how many stops a door has posted
   abbrev pub stops : Door S → ℕ
@@ -65,6 +62,10 @@ module _ {S : Type 0} where
 
   abbrev pub inbox_of_door : Door S → Place S
   inbox_of_door d = place_of d.pass
+
+  -- what was posted at a poster's seat, and where
+  abbrev pub posted_by : Poster S → Posted S
+  posted_by p = record { inbox = Some (inbox_of_poster p); conn = poster_conn p; said = posted p }
 
   -- the seat of this number, where nothing was posted yet
   abbrev pub IsNewSeat : Place S → ℕ → Seat S → Type 0

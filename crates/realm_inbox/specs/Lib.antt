@@ -5,3 +5,4 @@ pub mod InTurn
 pub mod Ends
 pub mod EndViews
 pub mod Laws
+pub mod Posted

@@ -1,7 +1,7 @@
 //! Where a reader posts what its client does.
-ghost use Rattle.std.specs.Prelude.{◌≡◌, ◌++◌, ◌∷◌, [], List, MatchResult, false};
+ghost use Rattle.std.specs.Prelude.{◌≡◌, ◌∷◌, [], MatchResult, false};
 ghost use Rattle.realm_inbox.specs.Joins.{is_join};
-ghost use Rattle.realm_inbox.specs.declared.act.Act.{Act as AnAct};
+ghost use Rattle.realm_inbox.specs.Posted.{Posted, with_acts};
 
 use crate::act::Act;
 use crate::ends::Poster;
@@ -10,8 +10,8 @@ use std::sync::Wait;
 
 /// Where the acts of one connection go once it has asked for its session, one after another.
 pub trait Posting<S: Shut> {
-    /// What was posted so far, the oldest first.
-    ghost posted: { Self → List (AnAct S) };
+    /// What was posted so far, and where: that stays.
+    ghost posted: { Self → Posted S };
 
     /// Posts an act that is no Join, and may wait for room. It was read from so many octets of the client's, or from none.
     ///
@@ -19,19 +19,20 @@ pub trait Posting<S: Shut> {
     /// The act, where nobody receives it any more. Nothing was posted then.
     fn post<R: Wait>(&mut self, rt: &R, act: Act<S>, octets: usize) -> Result<(), Act<S>>
         requires { is_join act ≡ false }
-        ensures { MatchResult result (λ _. posted self.new ≡ posted self.old ++ act ∷ [])
+        ensures { MatchResult result (λ _. posted self.new ≡ with_acts (posted self.old) (act ∷ []))
             (λ back. (back ≡ act) × (posted self.new ≡ posted self.old)) };
 }
 
 impl<S: Shut> Posting<S> for Poster<S> {
-    ghost use Rattle.realm_inbox.specs.EndViews.{posted_acts};
+    ghost use Rattle.realm_inbox.specs.EndViews.{posted_by};
 
-    ghost posted = { posted_acts };
+    ghost posted = { posted_by };
 
     fn post<R: Wait>(&mut self, rt: &R, act: Act<S>, octets: usize) -> Result<(), Act<S>>
         requires { is_join act ≡ false }
-        ensures { MatchResult result (λ _. posted_acts self.new ≡ posted_acts self.old ++ act ∷ [])
-            (λ back. (back ≡ act) × (posted_acts self.new ≡ posted_acts self.old)) }
+        ensures { MatchResult result
+            (λ _. posted_by self.new ≡ with_acts (posted_by self.old) (act ∷ []))
+            (λ back. (back ≡ act) × (posted_by self.new ≡ posted_by self.old)) }
     {
         Poster::post(self, rt, act, octets)
     }

@@ -5,7 +5,7 @@ use denote.Struct.Tuple.{type_at, TupleAt}
 use mir.Syntax.{Sym}
 use mathlib.Core.List.{[], ◌∷◌}
 use denote.Param.Send.{IsSend, IsSync, sendable}
-use denote.Param.SendFields.{declared_send, as_row_send}
+use denote.Param.SendFields.{declared_send, as_row_send, variants_send}
 use Rattle.std.proofs.Crossing.{crosses}
 use Rattle.std.proofs.Crossing as heap
 use Rattle.std.proofs.MapsCrossing.{crosses as maps}
@@ -20,23 +20,32 @@ use Rattle.outbox_queue.proofs.SendLemmas.{drain_send}
 use Rattle.outbox_queue.specs.contracts.drain.Drain as Drain
 use Rattle.rawsocket.proofs.handshake.Serializer.TheSendSync as serializer
 use Rattle.rawsocket.specs.contracts.handshake.Serializer as Serializer
+use Rattle.connection.proofs.reader.ReadEnd.TheSendSync as read_end
 use Rattle.connection.proofs.writer.WriteEnd.TheSendSync as write_end
 use Rattle.connection.specs.contracts.pongs.OwedPongs as OwedPongs
+use Rattle.connection.specs.contracts.reader.ReadEnd as ReadEnd
 use Rattle.connection.specs.contracts.writer.WriteEnd as WriteEnd
+use Rattle.notices.proofs.reason.Reason.TheSendSync as reason
+use Rattle.notices.specs.contracts.reason.Reason as Reason
 use Rattle.realm_inbox.proofs.SendLemmas.{backlog_send, backlog_sync, chronicle_send, history, history_owed, history_send, moment, moment_recorded, inbox_send, poster_send}
 use Rattle.realm_inbox.specs.contracts.ends.Poster as Poster
 use Rattle.realm_inbox.specs.declared.transport.Shut.{Ghosts}
 use Rattle.session.proofs.SendLemmas.{item_send}
+use Rattle.session.proofs.fault.Fault.TheSendSync as session_fault
+use Rattle.session.specs.contracts.fault.Fault as SessionFault
 use Rattle.session.specs.contracts.messages.item.Item as Item
 use Rattle.threaded_server.specs.contracts.actor_thread.Acted as Acted
 use Rattle.threaded_server.specs.contracts.actor_thread.ActorThread as ActorThread
+use Rattle.threaded_server.specs.contracts.closed.Closed as Closed
+use Rattle.threaded_server.specs.contracts.course.Course as Course
 use Rattle.threaded_server.specs.contracts.fate.Fate as Fate
 use Rattle.threaded_server.specs.contracts.fate.Marked as Marked
-use Rattle.threaded_server.specs.contracts.handover.Handover as Handover
+use Rattle.threaded_server.specs.contracts.handover.Shared as Shared
 use Rattle.threaded_server.specs.contracts.log.LogWriter as LogWriter
 use Rattle.threaded_server.specs.contracts.seat_table.SeatTable as SeatTable
 use Rattle.threaded_server.specs.contracts.id_words.IdWords as IdWords
 use Rattle.threaded_server.specs.contracts.plan.Plan as Plan
+use Rattle.threaded_server.specs.contracts.reader_thread.Ended as Ended
 use Rattle.threaded_server.specs.contracts.reader_thread.Reader as Reader
 use Rattle.threaded_server.specs.contracts.writer_thread.Writer as Writer
 use Rattle.threaded_server.specs.contracts.writer_thread.Written as Written
@@ -74,32 +83,39 @@ writer_send O S o s = declared_send (Writer.the_type O S) (search (heap.send, cr
 option_send : (R : RattleType) → IsSend R → IsSend (Option.the_row R)
 option_send R s = search (sendable, crosses) depth 40
 
-pub written_send : (O : RattleType) → IsSend O → IsSend (Written.the_row O)
-written_send O o = declared_send (Written.the_type O) (as_row_send (row_field O) o, (option_send history history_send, (search (crosses, sendable) depth 60, (as_row_send WriteEnd.the_field write_end.the_field_send, (search (crosses, sendable) depth 60, tt)))))
+closed_send : (D : RattleType) → IsSend (Closed.the_row D)
+closed_send D = declared_send (Closed.the_type D) (search (crosses, sendable) depth 60, tt)
+
+pub written_send : (O : RattleType) → IsSend (Written.the_row O)
+written_send O = declared_send (Written.the_type O) (closed_send O, (option_send history history_send, (search (crosses, sendable) depth 60, (as_row_send WriteEnd.the_field write_end.the_field_send, (search (crosses, sendable) depth 60, tt)))))
+
+course_send : (O : RattleType) → IsSend (Course.the_row O)
+course_send O = variants_send (Course.enum O)
+    ((closed_send O, tt), ((closed_send O, (as_row_send SessionFault.the_field session_fault.the_field_send, tt)), ((closed_send O, tt), ((as_row_send ReadEnd.the_field read_end.the_field_send, (written_send O, tt)), tt))))
+
+module _ (S : RattleType) where
+  transport_send : IsSend S → IsSend (Mutex.the_row (Option.the_row S))
+  transport_send s = let h = option_send S s in search (h, crosses, sendable) depth 40
+
+  transport_sync : IsSend S → IsSync (Mutex.the_row (Option.the_row S))
+  transport_sync s = let h = option_send S s in search (h, crosses, sendable) depth 40
+
+  shared_send : IsSend S → IsSend (Shared.the_row S)
+  shared_send s = declared_send (Shared.the_type S)
+      (as_row_send (Arc.the_field (Mutex.the_row (Option.the_row S)) Global.the_row global.ghosts) (heap.Arc-send _ (transport_send s) (transport_sync s)), (search (crosses, sendable) depth 60, tt))
 
 module _ (S : RattleType) (shut : Ghosts S.Denot) where
-  abbrev posters : RattleType
-  posters = Option.the_row (Vec.the_row (Option.the_row (Poster.the_row S shut)) Global.the_row global.ghosts)
-
-  posters_send : IsSend S → IsSend posters
-  posters_send s = option_send _ (heap.Vec-send _ (option_send _ (poster_send S shut s)))
-
-  handover_send : IsSend S → IsSend (Handover.the_row S shut)
-  handover_send s = declared_send (Handover.the_type S shut) (posters_send s, (option_send S s, tt))
-
-  slot_send : IsSend S → IsSend (Mutex.the_row (Handover.the_row S shut))
-  slot_send s = let h = handover_send s in search (h, crosses, sendable) depth 40
-
-  slot_sync : IsSend S → IsSync (Mutex.the_row (Handover.the_row S shut))
-  slot_sync s = let h = handover_send s in search (h, crosses, sendable) depth 40
-
-  shared_send : IsSend S → IsSend (Arc.the_row (Mutex.the_row (Handover.the_row S shut)) Global.the_row global.ghosts)
-  shared_send s = heap.Arc-send _ (slot_send s) (slot_sync s)
+  posters_send : IsSend S → IsSend (Vec.the_row (Option.the_row (Poster.the_row S shut)) Global.the_row global.ghosts)
+  posters_send s = heap.Vec-send _ (option_send _ (poster_send S shut s))
 
 module _ (I O S : RattleType) (shut : Ghosts S.Denot) where
   pub reader_send : IsSend I → IsSend O → IsSend S → IsSend (Reader.the_row I O S shut)
   reader_send i o s = declared_send (Reader.the_type I O S shut)
-      (search (heap.send, crosses, sendable) depth 60, (search (plan_send, plan_sync, crosses, sendable) depth 60 fits 20000, (search (crosses, sendable) depth 60 fits 20000, (search (fate_send, fate_sync, crosses, sendable) depth 60 fits 20000, (as_row_send (row_field I) i, (as_row_send (row_field O) o, (as_row_send (row_field S) s, (as_row_send (Arc.the_field (Mutex.the_row (Handover.the_row S shut)) Global.the_row global.ghosts) (shared_send S shut s), (search (crosses, sendable) depth 60, tt)))))))))
+      (search (heap.send, crosses, sendable) depth 60, (search (plan_send, plan_sync, crosses, sendable) depth 60 fits 20000, (search (crosses, sendable) depth 60 fits 20000, (search (fate_send, fate_sync, crosses, sendable) depth 60 fits 20000, (as_row_send (row_field I) i, (as_row_send (row_field O) o, (as_row_send (Vec.the_field (Option.the_row (Poster.the_row S shut)) Global.the_row global.ghosts) (posters_send S shut s), (as_row_send (row_field S) s, (shared_send S s, tt)))))))))
+
+  pub ended_send : IsSend S → IsSend (Ended.the_row I O S shut)
+  ended_send s = declared_send (Ended.the_type I O S shut)
+      (closed_send I, (as_row_send (Vec.the_field (Option.the_row (Poster.the_row S shut)) Global.the_row global.ghosts) (posters_send S shut s), (course_send O, (as_row_send Reason.the_field reason.the_field_send, tt))))
 
 module _ (S : RattleType) (shut : Ghosts S.Denot) where
   pub actor_work_send : IsSend S → IsSend (ActorThread.the_row S shut)

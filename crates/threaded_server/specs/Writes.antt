@@ -28,10 +28,10 @@ module _ {O S : Type 0} (taken : O → List ℕ) (calls failures : O → ℕ) wh
   -- what the writer took from its drain it wrote to its sink, in its serialization and limit, up to its end. What the drain saw last comes back with it: that
   -- history is of the drain's chronicle, and owes the connection what was taken, or more
   pub record Writes (w : Writer O S) (done : Written O) : Type 0 where
-    pub written : WritesSince w.drain.taken done.drain.value.taken (taken w.sink) (taken done.sink) (IsWrittenBy w.serializer w.limit done.end)
+    pub written : WritesSince w.drain.taken done.drain.value.taken (taken w.sink) (taken done.sink.last.value) (IsWrittenBy w.serializer w.limit done.end)
     pub later : IsLater BeginsKept w.drain done.drain.value
     pub stopped : done.end ≡ Stopped → w.drain.empty_finds < done.drain.value.empty_finds
-    pub steps : WholeSteps (meter (calls w.sink) (failures w.sink)) (meter (calls done.sink) (failures done.sink)) (write_told done.end)
+    pub steps : WholeSteps (meter (calls w.sink) (failures w.sink)) (meter (calls done.sink.last.value) (failures done.sink.last.value)) (write_told done.end)
     pub seen : done.seen ≡ done.drain.value.seen
     pub owes : Owes owed_kept done.drain.value.seen done.drain.value.conn done.drain.value.taken
     pub of : IsOf (λ h chronicle. h.chronicle ≡ chronicle) done.drain.value.seen done.drain.value.chronicle

@@ -1,30 +1,37 @@
 //! The connections that are served, and their seats.
+ghost use Rattle.std.specs.Prelude.{◌≡◌, IfOk};
+
 use crate::acceptor::Parts;
 use crate::fate::Fate;
-use crate::handover::{Handover, Posters, Slot};
+use crate::handover::{Posters, Shared};
 use crate::plan::Plan;
-use crate::reader_thread::Reader;
+use crate::reader_thread::{Ended, Reader};
 use crate::realm_handle::RealmHandle;
 use crate::seat_table::SeatTable;
 use crate::told::{tell_accepted, tell_closed, tell_refused};
+use crate::work::Doing;
 use connection::Seats;
 use notices::{Reason, Refusal};
 use rawsocket::devices::{Sink, Source, Turns, send};
 use rawsocket::no_seat_reply;
 use realm_inbox::Shut;
 use std::alloc::{AllocError, Global};
+use std::snapshot::Snapshot;
 use std::sync::atomic::{AtomicBool, Ordering};
-use std::sync::{Arc, Mutex, Wait};
-use std::thread::{self, JoinHandle, Threads};
+use std::sync::{Arc, Wait};
+use std::thread::{self, PromisedHandle, Threads};
 use wamp_ids::{Conn, SEATS, seat};
 
 /// A connection that is served: its reader's thread, which waits for its writer's.
 #[derive(Drop)]
-struct Connection<S: Shut> {
+struct Connection<
+    I: Source + Drop + Send + 'static,
+    O: Sink + Drop + Send + 'static,
+    S: Shut + Send + 'static,
+> {
     conn: Conn,
-    slot: Arc<Slot<S>>,
-    is_over: Arc<AtomicBool>,
-    reader: JoinHandle<()>,
+    shared: Shared<S>,
+    reader: PromisedHandle<Ended<I, O, S>, Doing<Reader<I, O, S>>>,
 }
 
 /// A stream that came, taken apart.
@@ -39,19 +46,27 @@ pub struct Arrival<I, O, S> {
 
 /// The connections that are served. The accepting thread alone has it.
 #[derive(Drop)]
-pub struct ConnectionTable<S: Shut + 'static> {
+pub struct ConnectionTable<
+    I: Source + Drop + Send + 'static,
+    O: Sink + Drop + Send + 'static,
+    S: Shut + Send + 'static,
+> {
     pub alloc: Global,
     pub plan: Arc<Plan>,
     pub marks: Arc<SeatTable>,
     pub realms: Vec<RealmHandle<S>>,
     seats: Seats,
     // By seat.
-    entries: Vec<Option<Connection<S>>>,
+    entries: Vec<Option<Connection<I, O, S>>>,
 }
 
-impl<S: Shut + 'static> ConnectionTable<S> {
+impl<
+    I: Source + Drop + Send + 'static,
+    O: Sink + Drop + Send + 'static,
+    S: Shut + Send + 'static,
+> ConnectionTable<I, O, S> {
     /// Nobody is served, and there are no realms yet.
-    pub fn new(alloc: Global, plan: Plan) -> Result<ConnectionTable<S>, AllocError> {
+    pub fn new(alloc: Global, plan: Plan) -> Result<ConnectionTable<I, O, S>, AllocError> {
         let mut entries = Vec::with_capacity(alloc, SEATS as usize)?;
         for _ in 0..SEATS {
             entries.push(None)?;
@@ -76,33 +91,29 @@ impl<S: Shut + 'static> ConnectionTable<S> {
     }
 
     // The connection at the seat of this place, if it is over.
-    fn take_over(&mut self, place: usize) -> Option<Connection<S>> {
+    fn take_over(&mut self, place: usize) -> Option<Connection<I, O, S>> {
         let slot = self.entries.get_mut(place)?;
         match slot {
-            Some(entry) if entry.is_over.load(Ordering::SeqCst) => slot.take(),
+            Some(entry) if entry.shared.is_over.load(Ordering::SeqCst) => slot.take(),
             _ => None,
         }
     }
 
-    fn release<R: Threads + Wait>(&mut self, rt: &R, entry: Connection<S>) {
+    fn release<R: Threads + Wait>(&mut self, rt: &R, entry: Connection<I, O, S>) {
         let Connection {
             conn,
-            slot,
-            is_over: _,
+            shared: _,
             reader,
         } = entry;
-        reader.join(rt);
-        self.free(rt, conn, &slot);
+        let ended = reader.join(rt);
+        self.free(conn, ended.posters);
     }
 
-    // Frees the seat of a connection. It stays taken, if its posters aren't there.
-    fn free<R: Wait>(&mut self, rt: &R, conn: Conn, slot: &Slot<S>) {
-        let posters = slot.lock(rt).posters.take();
-        if let Some(posters) = posters {
-            self.put_posters(posters);
-            self.marks.leaves(conn);
-            self.seats.give_back(conn);
-        }
+    // Frees the seat of a connection, whose posters these are.
+    fn free(&mut self, conn: Conn, posters: Posters<S>) {
+        self.put_posters(posters);
+        self.marks.leaves(conn);
+        self.seats.give_back(conn);
     }
 
     fn put_posters(&mut self, posters: Posters<S>) {
@@ -129,7 +140,7 @@ impl<S: Shut + 'static> ConnectionTable<S> {
     pub fn shut_unheld<R: Wait>(&self, rt: &R) {
         for entry in self.entries.iter().flatten() {
             if !self.marks.is_held(entry.conn) {
-                end_stream(rt, &entry.slot);
+                entry.shared.end_stream(rt);
             }
         }
     }
@@ -144,16 +155,14 @@ impl<S: Shut + 'static> ConnectionTable<S> {
             }
         }
     }
-}
 
-impl<S: Shut + Send + 'static> ConnectionTable<S> {
     /// Starts the reader of a stream at the lowest free seat. Where none is free its client is told so, and where memory or a thread is
     /// refused it is told nothing; the stream is closed then.
-    pub fn admit<
-        R: Threads + Wait + Copy + Send + 'static,
-        I: Source + Drop + Send + 'static,
-        O: Sink + Drop + Send + 'static,
-    >(&mut self, rt: R, arrival: Arrival<I, O, S>) {
+    pub fn admit<R: Threads + Wait + Copy + Send + 'static>(
+        &mut self,
+        rt: R,
+        arrival: Arrival<I, O, S>,
+    ) {
         let Arrival { parts, fate, peer } = arrival;
         let Ok(conn) = self.seats.take() else {
             tell_refused(&rt, &self.plan.log, &peer, Refusal::NoSeat);
@@ -161,108 +170,94 @@ impl<S: Shut + Send + 'static> ConnectionTable<S> {
             return;
         };
         tell_accepted(&rt, &self.plan.log, conn, &peer);
-        let seated = match new_slot(self.alloc) {
-            Ok(slot) => self.seat(rt, conn, parts, fate, slot),
-            Err(_) => {
-                self.seats.give_back(conn);
-                Err(Reason::NoMemory)
-            }
-        };
-        if let Err(reason) = seated {
+        if let Err(reason) = self.seat(rt, conn, parts, fate) {
             tell_closed(&rt, &self.plan.log, conn, reason);
         }
     }
 
-    fn seat<
-        R: Threads + Wait + Copy + Send + 'static,
-        I: Source + Drop + Send + 'static,
-        O: Sink + Drop + Send + 'static,
-    >(
+    // Gives a stream the seat of the connection, and starts its reader. Where that can't be, the seat is free again.
+    fn seat<R: Threads + Wait + Copy + Send + 'static>(
         &mut self,
         rt: R,
         conn: Conn,
         parts: Parts<I, O, S>,
         fate: Arc<Fate>,
-        slot: Arc<Slot<S>>,
     ) -> Result<(), Reason> {
         let Ok(posters) = self.take_posters(conn) else {
             self.seats.give_back(conn);
             return Err(Reason::NoMemory);
         };
-        let is_whole = posters.len() == self.realms.len();
-        slot.lock(&rt).posters = Some(posters);
         self.marks.sits(conn);
-        if !is_whole {
-            self.free(&rt, conn, &slot);
-            return Err(Reason::NoMemory);
-        }
-        match self.start(rt, conn, parts, fate, &slot) {
+        match self.start(rt, conn, parts, fate, posters) {
             Ok(entry) => {
                 self.keep(entry);
                 Ok(())
             }
-            Err(reason) => {
-                self.free(&rt, conn, &slot);
+            Err((reason, posters)) => {
+                self.free(conn, posters);
                 Err(reason)
             }
         }
     }
 
-    // Starts the reader of a connection, whose posters are all there.
-    fn start<
-        R: Threads + Wait + Copy + Send + 'static,
-        I: Source + Drop + Send + 'static,
-        O: Sink + Drop + Send + 'static,
-    >(
+    // Starts the reader of a connection, where its posters are all there. The posters come back where it can't be started.
+    fn start<R: Threads + Wait + Copy + Send + 'static>(
         &self,
         rt: R,
         conn: Conn,
         parts: Parts<I, O, S>,
         fate: Arc<Fate>,
-        slot: &Arc<Slot<S>>,
-    ) -> Result<Connection<S>, Reason> {
-        let Some((reader, is_over, slot)) = self.make_reader(&rt, conn, parts, fate, slot) else {
-            return Err(Reason::NoMemory);
-        };
-        match start_reader(rt, reader) {
-            Ok(reader) => Ok(Connection {
-                conn,
-                slot,
-                is_over,
-                reader,
-            }),
-            Err(_) => Err(Reason::NoThread),
+        posters: Posters<S>,
+    ) -> Result<Connection<I, O, S>, (Reason, Posters<S>)> {
+        if posters.len() != self.realms.len() {
+            return Err((Reason::NoMemory, posters));
         }
-    }
-
-    // The reader of a connection, what it sets at its end, and the slot. None where memory was refused.
-    fn make_reader<R: Wait, I: Source + Drop, O: Sink + Drop>(
-        &self,
-        rt: &R,
-        conn: Conn,
-        parts: Parts<I, O, S>,
-        fate: Arc<Fate>,
-        slot: &Arc<Slot<S>>,
-    ) -> Option<(Reader<I, O, S>, Arc<AtomicBool>, Arc<Slot<S>>)> {
         let Parts { source, sink, shut } = parts;
-        let is_over = Arc::new(self.alloc, AtomicBool::new(false)).ok()?;
+        let Some(
+            Tools {
+                plan,
+                transport,
+                ours,
+                theirs,
+            },
+        ) = self.tools(shut)
+        else {
+            return Err((Reason::NoMemory, posters));
+        };
         let reader = Reader {
             alloc: self.alloc,
-            plan: Arc::try_clone(&self.plan).ok()?,
+            plan,
             conn,
             fate,
             source,
             sink,
-            transport: shut.twin()?,
-            slot: Arc::try_clone(slot).ok()?,
-            is_over: Arc::try_clone(&is_over).ok()?,
+            posters,
+            transport,
+            shared: theirs,
         };
-        let slot = Arc::try_clone(slot).ok()?;
-        slot.lock(rt).transport = Some(shut);
-        Some((reader, is_over, slot))
+        match start_reader(rt, reader, &ours.is_over) {
+            Ok(reader) => Ok(Connection {
+                conn,
+                shared: ours,
+                reader,
+            }),
+            Err(ended) => Err((ended.reason, ended.posters)),
+        }
     }
 
-    fn keep(&mut self, entry: Connection<S>) {
+    // What a reader has of a stream, beside its halves. None where memory was refused: the stream's handle is gone then.
+    fn tools(&self, shut: S) -> Option<Tools<S>> {
+        let transport = shut.twin()?;
+        let ours = Shared::new(self.alloc, shut).ok()?;
+        Some(Tools {
+            plan: Arc::try_clone(&self.plan).ok()?,
+            transport,
+            theirs: ours.another().ok()?,
+            ours,
+        })
+    }
+
+    fn keep(&mut self, entry: Connection<I, O, S>) {
         let place = (seat(entry.conn) - 1) as usize;
         if let Some(slot) = self.entries.get_mut(place) {
             *slot = Some(entry);
@@ -270,31 +265,37 @@ impl<S: Shut + Send + 'static> ConnectionTable<S> {
     }
 }
 
-fn new_slot<S: Shut>(alloc: Global) -> Result<Arc<Slot<S>>, AllocError> {
-    let handover = Handover {
-        posters: None,
-        transport: None,
-    };
-    Ok(Arc::new(alloc, Mutex::new(handover))?)
+// What a reader has of a stream beside its halves, and what is kept here.
+#[derive(Drop)]
+struct Tools<S> {
+    plan: Arc<Plan>,
+    transport: S,
+    ours: Shared<S>,
+    theirs: Shared<S>,
 }
 
-// Ends the stream of a connection, unless that is over.
-fn end_stream<R: Wait, S: Shut>(rt: &R, slot: &Slot<S>) {
-    let transport = slot.lock(rt).transport.take();
-    if let Some(transport) = transport {
-        transport.shut();
-    }
-}
-
-// Starts the thread of a reader.
+// Starts the thread of a reader. Where no thread can be made the reader is run here, which is told first that it is over: so it gives back
+// what it has at once.
 fn start_reader<
     R: Threads + Wait + Copy + Send + 'static,
     I: Source + Drop + Send + 'static,
     O: Sink + Drop + Send + 'static,
     S: Shut + Send + 'static,
->(rt: R, reader: Reader<I, O, S>) -> Result<JoinHandle<()>, AllocError> {
-    let handle = thread::spawn(&rt, move || reader.run(rt))?;
-    Ok(handle)
+>(
+    rt: R,
+    reader: Reader<I, O, S>,
+    is_over: &AtomicBool,
+) -> Result<PromisedHandle<Ended<I, O, S>, Doing<Reader<I, O, S>>>, Ended<I, O, S>>
+    ensures { IfOk result (λ thread. thread.promise.0.value ≡ reader) }
+{
+    let doing = Doing(Snapshot::of(&reader));
+    match thread::spawn_with(&rt, doing, move || reader.run(rt)) {
+        Ok(thread) => Ok(thread),
+        Err(refused) => {
+            is_over.store(true, Ordering::SeqCst);
+            Err((refused.value)())
+        }
+    }
 }
 
 // Tells a client that no seat is free, and ends its stream.

@@ -1,6 +1,7 @@
 //! What a client says that tells why its session ends.
-ghost use Rattle.std.specs.Prelude.{◌≡◌, ◌++◌, ◌∷◌, [], MatchResult, false};
+ghost use Rattle.std.specs.Prelude.{◌≡◌, ◌∷◌, [], MatchResult, false};
 ghost use Rattle.realm_inbox.specs.Joins.{is_join};
+ghost use Rattle.realm_inbox.specs.Posted.{with_acts};
 
 use realm_inbox::{Act, Posting, Shut};
 use session::Said;
@@ -23,7 +24,7 @@ impl<S: Shut, P: Posting<S>> Posting<S> for FarewellPoster<P> {
     fn post<R: Wait>(&mut self, rt: &R, act: Act<S>, octets: usize) -> Result<(), Act<S>>
         requires { is_join act ≡ false }
         ensures { MatchResult result (λ _.
-            P.posted self.new.poster ≡ P.posted self.old.poster ++ act ∷ []) (λ back. (back ≡ act)
+            P.posted self.new.poster ≡ with_acts (P.posted self.old.poster) (act ∷ [])) (λ back. (back ≡ act)
             × (P.posted self.new.poster ≡ P.posted self.old.poster)) }
     {
         self.has_aborted = self.has_aborted || is_abort(&act);

@@ -1,19 +1,78 @@
-//! What a connection's reader and the accepting thread hand to each other.
+//! What a connection's reader and the accepting thread share.
+ghost use Rattle.std.specs.Prelude.{◌≡◌, None, Some, MatchOption, set, slice_get};
+
 use realm_inbox::{Poster, Shut};
-use std::sync::Mutex;
+use std::alloc::{AllocError, Global};
+use std::sync::atomic::AtomicBool;
+use std::sync::{Arc, Mutex, Wait};
 
 /// The posters of a connection, one of each realm, in the order of the realms. One that is in use isn't here.
 pub type Posters<S> = Vec<Option<Poster<S>>>;
 
-/// What a connection's reader and the accepting thread hand to each other.
+/// What a connection's reader and the accepting thread share of its stream.
 #[derive(Drop)]
-pub struct Handover<S: Shut> {
-    /// The posters, while the reader doesn't have them.
-    pub posters: Option<Posters<S>>,
-    /// The handle by which the accepting thread ends the stream, until one of the two threads has taken it out: who ends the stream, or
-    /// finds it ended. So the stream isn't kept open by it.
-    pub transport: Option<S>,
+pub struct Shared<S> {
+    // The handle by which the accepting thread ends the stream, until one of the two threads has taken it out: who ends the stream, or
+    // finds it ended. So the stream isn't kept open by it. The lock is held only while the handle is moved in or out: it is used and
+    // dropped behind it.
+    transport: Arc<Mutex<Option<S>>>,
+    /// Set last of all by the reader; and before it begins, where no thread could be made for it: then it does nothing.
+    pub is_over: Arc<AtomicBool>,
 }
 
-/// Where both find it. The lock is held only while a part is moved in or out: a handle is used and dropped behind it.
-pub type Slot<S> = Mutex<Handover<S>>;
+impl<S: Shut> Shared<S> {
+    /// Of a stream that isn't over.
+    ///
+    /// # Errors
+    /// Where memory was refused.
+    pub fn new(alloc: Global, transport: S) -> Result<Shared<S>, AllocError> {
+        Ok(Shared {
+            transport: Arc::new(alloc, Mutex::new(Some(transport)))?,
+            is_over: Arc::new(alloc, AtomicBool::new(false))?,
+        })
+    }
+
+    /// The same, for the other thread.
+    ///
+    /// # Errors
+    /// Where memory was refused.
+    pub fn another(&self) -> Result<Shared<S>, AllocError> {
+        Ok(Shared {
+            transport: Arc::try_clone(&self.transport)?,
+            is_over: Arc::try_clone(&self.is_over)?,
+        })
+    }
+
+    /// Ends the stream, unless that is over.
+    pub fn end_stream<R: Wait>(&self, rt: &R) {
+        if let Some(transport) = self.take_transport(rt) {
+            transport.shut();
+        }
+    }
+
+    /// The handle by which the accepting thread ends the stream, if it is still here.
+    pub fn take_transport<R: Wait>(&self, rt: &R) -> Option<S> {
+        self.transport.lock(rt).take()
+    }
+}
+
+/// Takes the poster of the realm at this place, if it is here.
+pub fn take_poster<S: Shut>(posters: &mut Posters<S>, realm: usize) -> Option<Poster<S>>
+    ensures { MatchOption result (posters.new.items ≡ posters.old.items)
+        (λ p. (slice_get posters.old.items realm ≡ Some (Some p))
+        × (posters.new.items ≡ set posters.old.items realm None)) }
+{
+    match posters.get_mut(realm) {
+        Some(place) => place.take(),
+        None => None,
+    }
+}
+
+/// Puts the poster of the realm at this place back, where there is such a realm.
+pub fn put_poster<S: Shut>(posters: &mut Posters<S>, realm: usize, poster: Poster<S>)
+    ensures { posters.new.items ≡ set posters.old.items realm (Some poster) }
+{
+    if let Some(place) = posters.get_mut(realm) {
+        *place = Some(poster);
+    }
+}

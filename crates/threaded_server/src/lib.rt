@@ -14,9 +14,11 @@
 mod acceptor;
 mod actor_thread;
 mod answer;
+mod closed;
 mod closing;
 mod config;
 mod connection_table;
+mod course;
 mod farewell;
 mod fate;
 mod fault;

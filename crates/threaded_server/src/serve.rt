@@ -87,7 +87,7 @@ pub fn serve_logged<R: Threads + Wait + RandomSource + Copy + Send + 'static, A:
 fn open_and_accept<R: Threads + Wait + RandomSource + Copy + Send + 'static, A: Acceptor>(
     rt: R,
     acceptor: &mut A,
-    connection_table: &mut ConnectionTable<Marked<A::Shut>>,
+    connection_table: &mut ConnectionTable<A::Source, A::Sink, Marked<A::Shut>>,
     config: &Config,
 ) -> Result<(), Fault>
     ensures { Serves (A.answers acceptor.old) (A.answers acceptor.new) result }
@@ -142,9 +142,14 @@ fn realm_config(alloc: Global, name: &Topic, config: &Config) -> Result<RealmCon
 }
 
 // Starts the realms' actors.
-fn open<R: Threads + Wait + RandomSource + Copy + Send + 'static, S: Shut + Send + 'static>(
+fn open<
+    R: Threads + Wait + RandomSource + Copy + Send + 'static,
+    I: Source + Drop + Send + 'static,
+    O: Sink + Drop + Send + 'static,
+    S: Shut + Send + 'static,
+>(
     rt: R,
-    connection_table: &mut ConnectionTable<S>,
+    connection_table: &mut ConnectionTable<I, O, S>,
     config: &Config,
 ) -> Result<(), AllocError> {
     for name in &config.realms {
@@ -153,9 +158,14 @@ fn open<R: Threads + Wait + RandomSource + Copy + Send + 'static, S: Shut + Send
     Ok(())
 }
 
-fn open_realm<R: Threads + Wait + RandomSource + Copy + Send + 'static, S: Shut + Send + 'static>(
+fn open_realm<
+    R: Threads + Wait + RandomSource + Copy + Send + 'static,
+    I: Source + Drop + Send + 'static,
+    O: Sink + Drop + Send + 'static,
+    S: Shut + Send + 'static,
+>(
     rt: R,
-    connection_table: &mut ConnectionTable<S>,
+    connection_table: &mut ConnectionTable<I, O, S>,
     config: &Config,
     name: &Topic,
 ) -> Result<(), AllocError> {
@@ -190,7 +200,7 @@ fn open_realm<R: Threads + Wait + RandomSource + Copy + Send + 'static, S: Shut 
 fn accept_all<R: Threads + Wait + Copy + Send + 'static, A: Acceptor>(
     rt: R,
     acceptor: &mut A,
-    connection_table: &mut ConnectionTable<Marked<A::Shut>>,
+    connection_table: &mut ConnectionTable<A::Source, A::Sink, Marked<A::Shut>>,
 ) -> Result<(), Fault>
     ensures { Serves (A.answers acceptor.old) (A.answers acceptor.new) result }
 {
@@ -205,7 +215,7 @@ fn accept_all<R: Threads + Wait + Copy + Send + 'static, A: Acceptor>(
             Accepted::Stop => return Ok(()),
             Accepted::Failed => {
                 failures += 1;
-                tell_failure(&rt, acceptor, connection_table);
+                tell_failure(&rt, acceptor, &connection_table.plan);
                 if failures >= MOST_FAILURES {
                     return Err(Fault::ListenFault);
                 }
@@ -221,12 +231,12 @@ fn accept_all<R: Threads + Wait + Copy + Send + 'static, A: Acceptor>(
 fn receive<R: Threads + Wait + Copy + Send + 'static, A: Acceptor>(
     rt: R,
     acceptor: &mut A,
-    connection_table: &mut ConnectionTable<Marked<A::Shut>>,
+    connection_table: &mut ConnectionTable<A::Source, A::Sink, Marked<A::Shut>>,
     stream: A::Stream,
 )
     ensures { A.answers acceptor.new ≡ A.answers acceptor.old }
 {
-    let peer = peer_of(acceptor, connection_table, &stream);
+    let peer = peer_of(acceptor, &connection_table.plan, &stream);
     match acceptor.split(connection_table.alloc, stream) {
         Ok(parts) => admit(rt, connection_table, parts, peer),
         Err(_) => tell_refused(&rt, &connection_table.plan.log, &peer, Refusal::NoMemory),
@@ -234,24 +244,16 @@ fn receive<R: Threads + Wait + Copy + Send + 'static, A: Acceptor>(
 }
 
 // Who is at the other end of a stream, in words, where anybody is told.
-fn peer_of<A: Acceptor, S: Shut + 'static>(
-    acceptor: &A,
-    connection_table: &ConnectionTable<S>,
-    stream: &A::Stream,
-) -> Option<String> {
-    match &connection_table.plan.log {
+fn peer_of<A: Acceptor>(acceptor: &A, plan: &Plan, stream: &A::Stream) -> Option<String> {
+    match &plan.log {
         Some(log) => acceptor.peer(log.alloc(), stream),
         None => None,
     }
 }
 
 // Tells why accepting failed, where anybody is told.
-fn tell_failure<R: Wait, A: Acceptor, S: Shut + 'static>(
-    rt: &R,
-    acceptor: &A,
-    connection_table: &ConnectionTable<S>,
-) {
-    if let Some(log) = &connection_table.plan.log {
+fn tell_failure<R: Wait, A: Acceptor>(rt: &R, acceptor: &A, plan: &Plan) {
+    if let Some(log) = &plan.log {
         tell_failed(rt, log, &acceptor.failure(log.alloc()));
     }
 }
@@ -264,7 +266,7 @@ fn admit<
     S: Shut + Send + 'static,
 >(
     rt: R,
-    connection_table: &mut ConnectionTable<Marked<S>>,
+    connection_table: &mut ConnectionTable<I, O, Marked<S>>,
     parts: Parts<I, O, S>,
     peer: Option<String>,
 ) {
@@ -279,7 +281,12 @@ fn admit<
 
 // Stops the actors, ends the streams that no session's writer will end, and waits for all threads. Each actor turns away what is posted behind
 // its stop until the realm's door and seats are given up, which is last of all: so no thread waits for what nobody would do.
-fn close<R: Threads + Wait, S: Shut + 'static>(rt: &R, connection_table: &mut ConnectionTable<S>) {
+fn close<
+    R: Threads + Wait,
+    I: Source + Drop + Send + 'static,
+    O: Sink + Drop + Send + 'static,
+    S: Shut + Send + 'static,
+>(rt: &R, connection_table: &mut ConnectionTable<I, O, S>) {
     connection_table
         .plan
         .is_stopping

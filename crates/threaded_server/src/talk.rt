@@ -1,20 +1,24 @@
 //! A session that was opened: its writer, and what is posted for it.
-ghost use Rattle.std.specs.Prelude.{◌≡◌, Option, None, option_map, min, IfOk, IfSome};
+ghost use Rattle.std.specs.Prelude.{◌≡◌, MatchResult, Option, option_map, IfOk, IfSome};
 ghost use Rattle.std.specs.String.{string_bytes};
 ghost use Rattle.atomic_table.specs.Seated.{TableId};
-ghost use Rattle.realm_inbox.specs.EndViews.{home_of_poster, posted_acts, poster_conn};
+ghost use Rattle.realm_inbox.specs.EndViews.{home_of_poster, poster_conn};
 ghost use Rattle.session.specs.Opened.{session as session_of};
+ghost use Rattle.threaded_server.specs.Begun.{IsMade, IsRefused, course_of};
 ghost use Rattle.threaded_server.specs.Talks.{Converses, Talks, passage, start_of};
 ghost use Rattle.threaded_server.specs.Writes.{IsNewDrain};
 
+use crate::closed::Closed;
 use crate::closing::Closing;
+use crate::course::Course;
 use crate::farewell::FarewellPoster;
 use crate::fate::Fate;
 use crate::plan::Plan;
-use crate::work::{Doing, start};
+use crate::work::{Doing, Work};
 use crate::writer_thread::{Writer, Written};
 use connection::{
-    AskedPongs, EncodingPoster, PongPoster, ReadEnd, Using, WriteEnd, read_posts, share_pongs,
+    AskedPongs, EncodingPoster, OwedPongs, PongPoster, ReadEnd, Using, WriteEnd, read_posts,
+    share_pongs,
 };
 use message_tree::Text;
 use notices::Reason;
@@ -23,9 +27,10 @@ use rawsocket::devices::{Sink, Source};
 use realm_inbox::{Act, Joining, Poster, RealmHistory, Shut};
 use session::{Item, Opened};
 use std::alloc::Global;
+use std::snapshot::Snapshot;
 use std::sync::atomic::Ordering;
 use std::sync::{Arc, Wait};
-use std::thread::{PromisedHandle, Threads};
+use std::thread::{self, PromisedHandle, Threads};
 
 /// The most octets that a payload has.
 const MOST_OCTETS: u32 = 16_777_215;
@@ -52,10 +57,7 @@ pub struct Session<'a, O, S> {
 pub struct Talked<O, S: Shut> {
     /// What posted for it.
     pub poster: Poster<S>,
-    /// How its reader ended.
-    pub read: ReadEnd,
-    /// What its writer gave back, if one began.
-    pub written: Option<Written<O>>,
+    pub course: Course<O>,
     /// Why it is over.
     pub reason: Reason,
 }
@@ -68,10 +70,9 @@ pub fn talk<
     O: Sink + Drop + Send + 'static,
     S: Shut + Send + 'static,
 >(rt: R, session: Session<O, S>, source: &mut I, poster: Poster<S>) -> Talked<O, S>
-    ensures { Talks O.taken O.calls O.failures (session_of session.entry.opened) (poster_conn poster)
-        (home_of_poster poster) session.entry.sink
-        (passage (I.given source.old) (posted_acts poster))
-        (passage (I.given source.new) (posted_acts result.poster)) result.read result.written }
+    ensures { Talks O.taken O.calls O.failures (session_of session.entry.opened)
+        session.entry.sink (passage (I.given source.old) poster)
+        (passage (I.given source.new) result.poster) result.course }
 {
     let broker = session.broker;
     let limit = session.opened.limit.min(MOST_OCTETS);
@@ -98,22 +99,27 @@ pub fn talk<
     };
     Talked {
         poster,
-        read,
-        written: Some(written),
+        course: Course::Served(read, written),
         reason: reason_of(broker, ends, limit),
     }
 }
 
 // Nothing was read or posted, as no writer began.
-fn not_begun<O, S: Shut>(poster: Poster<S>, refused: Refused) -> Talked<O, S>
+fn not_begun<O, S: Shut>(poster: Poster<S>, refused: Refused<O>) -> Talked<O, S>
     ensures poster { result.poster ≡ poster }
-    ensures written { result.written ≡ None }
+    ensures course { result.course ≡ course_of refused }
 {
-    Talked {
-        poster,
-        read: ReadEnd::NoMemory,
-        written: None,
-        reason: refused.reason(),
+    match refused {
+        Refused::Memory(sink) => Talked {
+            poster,
+            course: Course::OpenedAlone(sink),
+            reason: Reason::NoMemory,
+        },
+        Refused::Thread(written) => Talked {
+            poster,
+            course: Course::Served(ReadEnd::NoMemory, written),
+            reason: Reason::NoThread,
+        },
     }
 }
 
@@ -137,8 +143,8 @@ fn converse<R: Wait, I: Source, S: Shut>(
     requires own { made.joining.outbox.conn ≡ poster_conn poster }
     requires home { made.joining.outbox.chronicle ≡ home_of_poster poster }
     ensures { Converses (start_of (session_of made.opened)) made.joining
-        (passage (I.given source.old) (posted_acts poster))
-        (passage (I.given source.new) (posted_acts result.poster)) result.read }
+        (passage (I.given source.old) poster) (passage (I.given source.new) result.poster)
+        result.read }
 {
     let Made {
         opened,
@@ -226,54 +232,42 @@ struct Begun<O: Sink + Drop + Send + 'static, S: Shut + 'static> {
     writer: PromisedHandle<Written<O>, Doing<Writer<O, S>>>,
 }
 
-// Why the writer of a session wasn't started.
-#[derive(Clone, Copy, Drop)]
-enum Refused {
-    Memory,
-    Thread,
+// Why no writer runs for a session.
+#[derive(Drop)]
+pub(crate) enum Refused<O> {
+    // There was no memory for it.
+    Memory(Closed<O>),
+    // There was no thread for it: it ran in this one, behind its outbox's end.
+    Thread(Written<O>),
 }
 
-impl Refused {
-    // The reason that it is.
-    fn reason(self) -> Reason {
-        match self {
-            Refused::Memory => Reason::NoMemory,
-            Refused::Thread => Reason::NoThread,
-        }
-    }
-}
-
-// Starts the writer of a session.
+// Starts the writer of a session. Where no thread can be made for it, it is run here once its outbox is dropped: so it waits for nothing.
 fn begin<
     R: Threads + Wait + Copy + Send + 'static,
     O: Sink + Drop + Send + 'static,
     S: Shut + Send + 'static,
->(rt: R, session: Session<O, S>, poster: &Poster<S>) -> Result<Begun<O, S>, Refused>
-    ensures own { IfOk result (λ b. b.made.joining.outbox.conn ≡ poster_conn poster.now) }
-    ensures home { IfOk result (λ b. b.made.joining.outbox.chronicle ≡ home_of_poster poster.now) }
-    ensures asks { IfOk result (λ b. b.made.joining.authid
-        ≡ (session_of session.entry.opened).authid) }
-    ensures start { IfOk result (λ b. start_of (session_of b.made.opened)
-        ≡ start_of (session_of session.entry.opened)) }
-    ensures drain { IfOk result (λ b. IsNewDrain b.made.joining.outbox.queue
-        (poster_conn poster.now) (home_of_poster poster.now) b.writer.promise.0.value.drain) }
-    ensures writer { IfOk result (λ b.
-        (b.writer.promise.0.value.serializer ≡ session.entry.opened.serializer)
-        × (b.writer.promise.0.value.limit ≡ min session.entry.opened.limit 16777215)
-        × (b.writer.promise.0.value.sink ≡ session.entry.sink)) }
+>(rt: R, session: Session<O, S>, poster: &Poster<S>) -> Result<Begun<O, S>, Refused<O>>
+    ensures { MatchResult result
+        (λ b. IsMade session.entry poster.now b.made b.writer.promise.0.value)
+        (λ refused. IsRefused O.taken O.calls O.failures session.entry poster.now refused) }
 {
-    let Some((made, writer)) = make(session, poster) else {
-        return Err(Refused::Memory);
+    let (made, writer) = match make(session, poster) {
+        Ok(parts) => parts,
+        Err(sink) => return Err(Refused::Memory(sink)),
     };
-    match start(rt, writer) {
+    let doing = Doing(Snapshot::of(&writer));
+    match thread::spawn_with(&rt, doing, move || writer.run(rt)) {
         Ok(writer) => Ok(Begun { made, writer }),
-        Err(_) => Err(Refused::Thread),
+        Err(refused) => {
+            drop(made);
+            Err(Refused::Thread((refused.value)()))
+        }
     }
 }
 
 // A session whose writer doesn't run yet.
 #[derive(Drop)]
-struct Made<S: Shut> {
+pub(crate) struct Made<S: Shut> {
     opened: Opened,
     joining: Joining<S>,
     pongs: AskedPongs,
@@ -281,53 +275,83 @@ struct Made<S: Shut> {
     using: Using,
 }
 
-// What a session begins with. None where memory was refused.
+// What a session begins with, and its writer, of whose sink nothing else is taken. The sink, where memory was refused.
 fn make<O: Sink + Drop, S: Shut>(
     session: Session<O, S>,
     poster: &Poster<S>,
-) -> Option<(Made<S>, Writer<O, S>)>
-    ensures own { IfSome result (λ r. r.0.joining.outbox.conn ≡ poster_conn poster.now) }
-    ensures home { IfSome result (λ r. r.0.joining.outbox.chronicle ≡ home_of_poster poster.now) }
-    ensures asks { IfSome result (λ r. r.0.joining.authid
-        ≡ (session_of session.entry.opened).authid) }
-    ensures start { IfSome result (λ r. start_of (session_of r.0.opened)
-        ≡ start_of (session_of session.entry.opened)) }
-    ensures drain { IfSome result (λ r. IsNewDrain r.0.joining.outbox.queue
-        (poster_conn poster.now) (home_of_poster poster.now) r.1.drain) }
-    ensures writer { IfSome result (λ r. (r.1.serializer ≡ session.entry.opened.serializer)
-        × (r.1.limit ≡ min session.entry.opened.limit 16777215)
-        × (r.1.sink ≡ session.entry.sink)) }
+) -> Result<(Made<S>, Writer<O, S>), Closed<O>>
+    ensures { MatchResult result (λ r. IsMade session.entry poster.now r.0 r.1)
+        (λ closed. closed.last.value ≡ session.entry.sink) }
 {
     let Session {
         broker,
         transport,
         sink,
-        mut opened,
+        opened,
     } = session;
+    let Some((made, tools)) = prepare(broker, transport, opened, poster) else {
+        return Err(Closed::of(sink));
+    };
+    let writer = Writer {
+        alloc: broker.alloc,
+        plan: tools.plan,
+        fate: tools.fate,
+        realm: made.opened.realm,
+        drain: tools.drain,
+        pongs: tools.pongs,
+        sink,
+        transport: tools.transport,
+        serializer: made.opened.serializer,
+        limit: made.opened.limit.min(MOST_OCTETS),
+    };
+    Ok((made, writer))
+}
+
+// What a writer has, beside its sink.
+#[derive(Drop)]
+struct Tools<S> {
+    plan: Arc<Plan>,
+    fate: Arc<Fate>,
+    drain: Drain<Item, RealmHistory>,
+    pongs: OwedPongs,
+    transport: S,
+}
+
+// What a session begins with, and what its writer has beside its sink. None where memory was refused.
+fn prepare<S: Shut>(
+    broker: Broker<'_>,
+    transport: &S,
+    mut opened: Opened,
+    poster: &Poster<S>,
+) -> Option<(Made<S>, Tools<S>)>
+    ensures own { IfSome result (λ r. r.0.joining.outbox.conn ≡ poster_conn poster.now) }
+    ensures home { IfSome result (λ r. r.0.joining.outbox.chronicle ≡ home_of_poster poster.now) }
+    ensures asks { IfSome result (λ r. r.0.joining.authid ≡ (session_of opened).authid) }
+    ensures start { IfSome result (λ r. start_of (session_of r.0.opened)
+        ≡ start_of (session_of opened)) }
+    ensures limit { IfSome result (λ r. r.0.opened.limit ≡ opened.limit) }
+    ensures drain { IfSome result (λ r. IsNewDrain r.0.joining.outbox.queue
+        (poster_conn poster.now) (home_of_poster poster.now) r.1.drain) }
+{
     let Broker { alloc, plan, fate } = broker;
     let in_use = plan.in_use.get(opened.realm)?;
     let using = in_use.enter(opened.serializer).ok()?;
     let (joining, drain) = joining(alloc, plan, opened.authid.take(), poster, transport)?;
-    let (pongs, owed) = share_pongs(alloc).ok()?;
-    let writer = Writer {
-        alloc,
+    let (asked, owed) = share_pongs(alloc).ok()?;
+    let tools = Tools {
         plan: Arc::try_clone(plan).ok()?,
         fate: Arc::try_clone(fate).ok()?,
-        realm: opened.realm,
         drain,
         pongs: owed,
-        sink,
         transport: transport.twin()?,
-        serializer: opened.serializer,
-        limit: opened.limit.min(MOST_OCTETS),
     };
     let made = Made {
         opened,
         joining,
-        pongs,
+        pongs: asked,
         using,
     };
-    Some((made, writer))
+    Some((made, tools))
 }
 
 // What the connection brings to join, with an outbox of its own, whose chronicle the caller picks, and the other end of that.

@@ -1,6 +1,7 @@
 //! The thread that writes to a client.
 ghost use Rattle.std.specs.Prelude.{◌≤◌};
 
+use crate::closed::Closed;
 use crate::fate::Fate;
 use crate::herald::Herald;
 use crate::plan::Plan;
@@ -37,7 +38,7 @@ pub struct Writer<O, S> {
 #[derive(Drop)]
 pub struct Written<O> {
     /// What it wrote to.
-    pub sink: O,
+    pub sink: Closed<O>,
     /// The history that the last item named, if it took one.
     pub seen: Option<RealmHistory>,
     /// What it took from, as it left that. It takes no bytes.
@@ -95,7 +96,7 @@ impl<R: Wait + Copy, O: Sink + Drop + Send + 'static, S: Shut> Work<R> for Write
         let seen = drain.into_seen();
         drop(pongs);
         Written {
-            sink,
+            sink: Closed::of(sink),
             seen,
             drain: left,
             end,

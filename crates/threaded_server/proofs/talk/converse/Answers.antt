@@ -1,4 +1,3 @@
-use Rattle.realm_inbox.specs.EndViews.{posted, posted_acts, poster_conn}
 use Rattle.session.specs.Opened.{session as session_of}
 use Rattle.threaded_server.specs.Talks.{start_of}
 use Rattle.threaded_server.proofs.Talking.{posted_behind}
@@ -6,5 +5,5 @@ use Rattle.threaded_server.proofs.talk.converse.Goals as goal
 
 pub returns : goal.returns
 returns g c =
-    posted_behind (start_of (session_of c.args.made.opened)) c.args.made.joining (g.I.Source.given c.args.source.now) (g.I.Source.given c.read_posts-read.new.source) (poster_conn c.args.poster) (posted c.args.poster) (posted c.post.new.self)
-    (posted_acts c.read_posts-read.new.poster.poster.poster.poster) c.read_posts-read.result c.in_default.ensures.posted c.read_posts-read.ensures.posted
+    posted_behind (start_of (session_of c.args.made.opened)) c.args.made.joining (g.I.Source.given c.args.source.now) (g.I.Source.given c.read_posts-read.new.source) c.args.poster c.post.new.self
+    c.read_posts-read.new.poster.poster.poster.poster c.read_posts-read.result c.in_default.ensures.posted c.in_default.ensures.same c.read_posts-read.ensures.posted

@@ -1,5 +1,5 @@
-use Rattle.realm_inbox.proofs.PosterLemmas.{posts_acts}
+use Rattle.realm_inbox.proofs.PosterLemmas.{posts_on}
 use Rattle.realm_inbox.proofs.posting.PosterPosting.post.Goals as goal
 
 pub returns : goal.returns
-returns g c = posts_acts _ _ _ _ _ c.post.ensures.posted
+returns g c = posts_on c.post.result c.args.act c.args.self.now c.post.new.self c.post.ensures.posted c.post.ensures.same

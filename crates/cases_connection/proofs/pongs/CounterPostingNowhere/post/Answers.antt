@@ -1,0 +1,6 @@
+use Rattle.cases_connection.proofs.PostedOutside.{outside_more}
+use Rattle.ghost_state.specs.GhostList.{items_of}
+use Rattle.cases_connection.proofs.pongs.CounterPostingNowhere.post.Goals as goal
+
+pub returns : goal.returns
+returns g c = outside_more (items_of c.args.self.now.acts) _ c.args.act c.add.ensures
