@@ -11,7 +11,9 @@ use std::io;
 use std::net::{Net, SocketAddr, TcpListener, TcpStream};
 use std::snapshot::Snapshot;
 use std::time::Clock;
-use threaded_server::{Accepted, Acceptor, Answer, Parts, TcpAcceptor, TcpHandle};
+use threaded_server::{
+    Accepted, Acceptor, Account, Answer, Closed, Parts, TcpAcceptor, TcpHandle,
+};
 
 /// What is still to be accepted, and the clients of all streams, which connect to the acceptor inside.
 #[derive(Drop)]
@@ -27,8 +29,9 @@ pub struct Sockets<R: Clock + Drop> {
 #[derive(Drop)]
 pub struct Loopback<R: Clock + Drop> {
     pub sockets: Sockets<R>,
-    // It takes no bytes.
+    // These take no bytes.
     answers: GhostList<Answer>,
+    account: Account<ReadSource<TcpHandle>, WriteSink<TcpHandle>>,
 }
 
 impl<R: Net<Stream = TcpStream, Listener = TcpListener> + Clock + Copy + Drop> Loopback<R> {
@@ -48,6 +51,7 @@ impl<R: Net<Stream = TcpStream, Listener = TcpListener> + Clock + Copy + Drop> L
         Ok(Loopback {
             sockets,
             answers: GhostList::new(),
+            account: Account::new(),
         })
     }
 }
@@ -77,6 +81,7 @@ impl<R: Net<Stream = TcpStream, Listener = TcpListener> + Clock + Copy + Drop> S
 impl<R: Net<Stream = TcpStream, Listener = TcpListener> + Clock + Copy + Drop> Acceptor
     for Loopback<R> {
     ghost use Rattle.ghost_state.specs.GhostList.{items_of};
+    ghost use Rattle.threaded_server.specs.Lending.{lending_of, with_returned};
 
     type Stream = TcpStream;
 
@@ -87,6 +92,8 @@ impl<R: Net<Stream = TcpStream, Listener = TcpListener> + Clock + Copy + Drop> A
     type Shut = TcpHandle;
 
     ghost answers = { λ l. items_of l.answers };
+
+    ghost lending = { λ l. lending_of l.account };
 
     fn accept(&mut self) -> Accepted<TcpStream> {
         let accepted = self.sockets.accept();
@@ -99,7 +106,25 @@ impl<R: Net<Stream = TcpStream, Listener = TcpListener> + Clock + Copy + Drop> A
         alloc: Global,
         stream: TcpStream,
     ) -> Result<Parts<ReadSource<TcpHandle>, WriteSink<TcpHandle>, TcpHandle>, AllocError> {
-        self.sockets.tcp.split(alloc, stream)
+        match self.sockets.tcp.split(alloc, stream) {
+            Ok(parts) => Ok(self.account.lend(parts)),
+            Err(refused) => {
+                self.account.refuse();
+                Err(refused)
+            }
+        }
+    }
+
+    fn take_back(
+        &mut self,
+        source: Closed<ReadSource<TcpHandle>>,
+        sink: Closed<WriteSink<TcpHandle>>,
+    )
+        ensures answers { items_of self.new.answers ≡ items_of self.old.answers }
+        ensures lending { lending_of self.new.account
+            ≡ with_returned (lending_of self.old.account) (source.last.value, sink.last.value) }
+    {
+        self.account.take_back(source, sink);
     }
 
     fn pause(&mut self, failures: u32) {

@@ -13,7 +13,7 @@ use std::net::Net;
 use std::os::unix::net::UnixStream;
 use std::snapshot::Snapshot;
 use std::sync::Arc;
-use threaded_server::{Accepted, Acceptor, Answer, Parts};
+use threaded_server::{Accepted, Acceptor, Account, Answer, Closed, Parts};
 
 /// What is still to be accepted, and the clients of all streams.
 #[derive(Drop)]
@@ -27,8 +27,9 @@ pub struct Pairs<R: Net + Drop> {
 #[derive(Drop)]
 pub struct Script<R: Net + Drop> {
     pub pairs: Pairs<R>,
-    // It takes no bytes.
+    // These take no bytes.
     answers: GhostList<Answer>,
+    account: Account<ReadSource<End>, WriteSink<End>>,
 }
 
 impl<R: Net + Drop> Script<R> {
@@ -41,6 +42,7 @@ impl<R: Net + Drop> Script<R> {
         Script {
             pairs: Pairs { net, alloc, play },
             answers: GhostList::new(),
+            account: Account::new(),
         }
     }
 }
@@ -101,8 +103,18 @@ impl<R: Net + Drop> Pairs<R> {
     }
 }
 
+// The parts of a stream, which share it.
+fn parts_of(stream: End) -> Result<Parts<ReadSource<End>, WriteSink<End>, End>, AllocError> {
+    Ok(Parts {
+        source: ReadSource::new(stream.another()?),
+        sink: WriteSink::new(stream.another()?),
+        shut: stream,
+    })
+}
+
 impl<R: Net + Drop> Acceptor for Script<R> {
     ghost use Rattle.ghost_state.specs.GhostList.{items_of};
+    ghost use Rattle.threaded_server.specs.Lending.{lending_of, with_returned};
 
     type Stream = End;
 
@@ -113,6 +125,8 @@ impl<R: Net + Drop> Acceptor for Script<R> {
     type Shut = End;
 
     ghost answers = { λ s. items_of s.answers };
+
+    ghost lending = { λ s. lending_of s.account };
 
     fn accept(&mut self) -> Accepted<End> {
         let accepted = self.pairs.accept();
@@ -125,11 +139,21 @@ impl<R: Net + Drop> Acceptor for Script<R> {
         _alloc: Global,
         stream: End,
     ) -> Result<Parts<ReadSource<End>, WriteSink<End>, End>, AllocError> {
-        Ok(Parts {
-            source: ReadSource::new(stream.another()?),
-            sink: WriteSink::new(stream.another()?),
-            shut: stream,
-        })
+        match parts_of(stream) {
+            Ok(parts) => Ok(self.account.lend(parts)),
+            Err(refused) => {
+                self.account.refuse();
+                Err(refused)
+            }
+        }
+    }
+
+    fn take_back(&mut self, source: Closed<ReadSource<End>>, sink: Closed<WriteSink<End>>)
+        ensures answers { items_of self.new.answers ≡ items_of self.old.answers }
+        ensures lending { lending_of self.new.account
+            ≡ with_returned (lending_of self.old.account) (source.last.value, sink.last.value) }
+    {
+        self.account.take_back(source, sink);
     }
 
     fn pause(&mut self, _failures: u32) {}

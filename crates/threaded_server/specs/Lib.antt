@@ -2,7 +2,14 @@ pub mod Acts
 pub mod Answers
 pub mod Begun
 pub mod Closing
+pub mod Lending
+pub mod Overs
+pub mod Roster
+pub mod Served
+pub mod Slots
+pub mod Starting
 pub mod Streams
+pub mod Table
 pub mod Talks
 pub mod Words
 pub mod Writes

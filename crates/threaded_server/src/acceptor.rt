@@ -1,8 +1,10 @@
 //! Where streams come from.
-ghost use Rattle.std.specs.Prelude.{◌≡◌, ◌++◌, ◌∷◌, []};
+ghost use Rattle.std.specs.Prelude.{◌≡◌, ◌++◌, ◌∷◌, [], MatchResult};
 ghost use Rattle.threaded_server.specs.Answers.{answer_of};
+ghost use Rattle.threaded_server.specs.Lending.{with_lent, with_refused, with_returned};
 
 use crate::answer::Answer;
+use crate::closed::Closed;
 use rawsocket::devices::{Sink, Source};
 use realm_inbox::Shut;
 use std::alloc::{AllocError, Global};
@@ -45,6 +47,7 @@ pub struct Parts<I, O, S> {
 /// Gives the streams of clients, one after another, and tells when to stop.
 pub trait Acceptor {
     ghost use Rattle.std.specs.Prelude.{List};
+    ghost use Rattle.threaded_server.specs.Lending.{Lending};
     ghost use Rattle.threaded_server.specs.declared.answer.Answer.{Answer};
 
     /// A stream that was accepted. One that is dropped is closed.
@@ -59,9 +62,13 @@ pub trait Acceptor {
     /// What accepting answered so far, the oldest first.
     ghost answers: { Self → List Answer };
 
+    /// The streams that were taken apart, and those of them that were let go of.
+    ghost lending: { Self → Lending Self.Source Self.Sink };
+
     /// Waits for the next stream, or to be told to stop.
     fn accept(&mut self) -> Accepted<Self::Stream>
-        ensures { answers self.new ≡ answers self.old ++ answer_of result ∷ [] };
+        ensures answers { answers self.new ≡ answers self.old ++ answer_of result ∷ [] }
+        ensures lending { lending self.new ≡ lending self.old };
 
     /// Takes a stream apart. The parts share it: once it is shut, its source has ended and its sink fails. It is closed when the last
     /// part is dropped.
@@ -73,7 +80,16 @@ pub trait Acceptor {
         alloc: Global,
         stream: Self::Stream,
     ) -> Result<Parts<Self::Source, Self::Sink, Self::Shut>, AllocError>
-        ensures { answers self.new ≡ answers self.old };
+        ensures answers { answers self.new ≡ answers self.old }
+        ensures lending { MatchResult result
+            (λ parts. lending self.new ≡ with_lent (lending self.old) (parts.source, parts.sink))
+            (λ _. lending self.new ≡ with_refused (lending self.old)) };
+
+    /// Takes back what is left of a stream, once both of its halves were let go of.
+    fn take_back(&mut self, source: Closed<Self::Source>, sink: Closed<Self::Sink>)
+        ensures answers { answers self.new ≡ answers self.old }
+        ensures lending { lending self.new
+            ≡ with_returned (lending self.old) (source.last.value, sink.last.value) };
 
     /// Who is at the other end of a stream, in words: empty where that isn't known. `None` where memory was refused.
     fn peer(&self, alloc: Global, _stream: &Self::Stream) -> Option<String> {
@@ -87,5 +103,6 @@ pub trait Acceptor {
 
     /// A pause after a failure, before accepting is tried again: so many failures there were in a row, that one included.
     fn pause(&mut self, failures: u32)
-        ensures { answers self.new ≡ answers self.old };
+        ensures answers { answers self.new ≡ answers self.old }
+        ensures lending { lending self.new ≡ lending self.old };
 }

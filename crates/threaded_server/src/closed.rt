@@ -19,4 +19,11 @@ impl<D: Drop> Closed<D> {
             last: Snapshot::of(&half),
         }
     }
+
+    // What contracts saw last of it.
+    pub(crate) fn into_last(self) -> Snapshot<D>
+        ensures { result.value ≡ self.last.value }
+    {
+        self.last
+    }
 }

@@ -1,12 +1,22 @@
 //! The connections that are served, and their seats.
-ghost use Rattle.std.specs.Prelude.{◌≡◌, IfOk};
+ghost use Rattle.std.specs.Prelude.{◌≡◌, ◌-◌, [], ◌∷◌, ◌++◌, All, None, Some, MatchResult, IfOk, IfSome, length, option_map, set, slice_get};
+ghost use Rattle.ghost_state.specs.GhostList.{items_of};
+ghost use Rattle.wamp_ids.specs.Numbers.{seat_of};
+ghost use Rattle.std.specs.Arc.{arc_value};
+ghost use Rattle.threaded_server.specs.Overs.{AllWent, GoesOver, TellsRefusal};
+ghost use Rattle.threaded_server.specs.Starting.{Runs, Starts};
+ghost use Rattle.threaded_server.specs.Streams.{Reads, sight};
 
 use crate::acceptor::Parts;
+use crate::closed::Closed;
+use crate::entry::Connection;
 use crate::fate::Fate;
 use crate::handover::{Posters, Shared};
+use crate::over::{Gone, Over};
 use crate::plan::Plan;
 use crate::reader_thread::{Ended, Reader};
 use crate::realm_handle::RealmHandle;
+use crate::roster::Roster;
 use crate::seat_table::SeatTable;
 use crate::told::{tell_accepted, tell_closed, tell_refused};
 use crate::work::Doing;
@@ -20,19 +30,7 @@ use std::snapshot::Snapshot;
 use std::sync::atomic::{AtomicBool, Ordering};
 use std::sync::{Arc, Wait};
 use std::thread::{self, PromisedHandle, Threads};
-use wamp_ids::{Conn, SEATS, seat};
-
-/// A connection that is served: its reader's thread, which waits for its writer's.
-#[derive(Drop)]
-struct Connection<
-    I: Source + Drop + Send + 'static,
-    O: Sink + Drop + Send + 'static,
-    S: Shut + Send + 'static,
-> {
-    conn: Conn,
-    shared: Shared<S>,
-    reader: PromisedHandle<Ended<I, O, S>, Doing<Reader<I, O, S>>>,
-}
+use wamp_ids::{Conn, seat};
 
 /// A stream that came, taken apart.
 #[derive(Drop)]
@@ -56,8 +54,9 @@ pub struct ConnectionTable<
     pub marks: Arc<SeatTable>,
     pub realms: Vec<RealmHandle<S>>,
     seats: Seats,
-    // By seat.
-    entries: Vec<Option<Connection<I, O, S>>>,
+    // By seat, from 0.
+    roster: Roster<I, O, S>,
+    ghost same: { arc_value plan ≡ roster.over.plan.value },
 }
 
 impl<
@@ -66,57 +65,76 @@ impl<
     S: Shut + Send + 'static,
 > ConnectionTable<I, O, S> {
     /// Nobody is served, and there are no realms yet.
-    pub fn new(alloc: Global, plan: Plan) -> Result<ConnectionTable<I, O, S>, AllocError> {
-        let mut entries = Vec::with_capacity(alloc, SEATS as usize)?;
-        for _ in 0..SEATS {
-            entries.push(None)?;
-        }
+    pub fn new(alloc: Global, plan: Plan) -> Result<ConnectionTable<I, O, S>, AllocError>
+        ensures plan { IfOk result (λ t. t.roster.over.plan.value ≡ plan) }
+        ensures lent { IfOk result (λ t. items_of t.roster.lent ≡ []) }
+        ensures over { IfOk result (λ t. items_of t.roster.over.streams ≡ []) }
+    {
+        let realms = Vec::with_capacity(alloc, plan.realms.len())?;
+        let plan = Arc::new(alloc, plan)?;
+        let roster = Roster::new(alloc, &plan)?;
         Ok(ConnectionTable {
             alloc,
-            realms: Vec::with_capacity(alloc, plan.realms.len())?,
-            plan: Arc::new(alloc, plan)?,
+            realms,
+            plan,
             marks: Arc::new(alloc, SeatTable::new(alloc)?)?,
             seats: Seats::new(),
-            entries,
+            roster,
         })
     }
 
-    /// Joins the readers that are over, and frees their seats.
-    pub fn reap<R: Threads + Wait>(&mut self, rt: &R) {
-        for place in 0..self.entries.len() {
-            if let Some(entry) = self.take_over(place) {
-                self.release(rt, entry);
-            }
+    /// How many connections there can be at a time.
+    pub fn places(&self) -> usize
+        ensures { result ≡ length self.now.roster.entries.items }
+    {
+        self.roster.places()
+    }
+
+    /// Joins the reader at this place, from 0, if it is over, and frees its seat. What is left of its stream, where it was.
+    pub fn reap<R: Threads + Wait>(&mut self, rt: &R, place: usize) -> Option<Gone<I, O>>
+        ensures plan { self.new.roster.over.plan ≡ self.old.roster.over.plan }
+        ensures lent { items_of self.new.roster.lent ≡ items_of self.old.roster.lent }
+        ensures over { GoesOver (items_of self.old.roster.over.streams) (items_of self.new.roster.over.streams) result }
+    {
+        if self.roster.is_over(place) {
+            self.release(rt, place)
+        } else {
+            None
         }
     }
 
-    // The connection at the seat of this place, if it is over.
-    fn take_over(&mut self, place: usize) -> Option<Connection<I, O, S>> {
-        let slot = self.entries.get_mut(place)?;
-        match slot {
-            Some(entry) if entry.shared.is_over.load(Ordering::SeqCst) => slot.take(),
-            _ => None,
-        }
-    }
-
-    fn release<R: Threads + Wait>(&mut self, rt: &R, entry: Connection<I, O, S>) {
-        let Connection {
-            conn,
-            shared: _,
-            reader,
-        } = entry;
-        let ended = reader.join(rt);
-        self.free(conn, ended.posters);
+    /// Waits for the reader at this place, if there is one, and frees its seat. What is left of its stream, where there was one.
+    pub fn release<R: Threads + Wait>(&mut self, rt: &R, place: usize) -> Option<Gone<I, O>>
+        ensures plan { self.new.roster.over.plan ≡ self.old.roster.over.plan }
+        ensures lent { items_of self.new.roster.lent ≡ items_of self.old.roster.lent }
+        ensures over { GoesOver (items_of self.old.roster.over.streams) (items_of self.new.roster.over.streams) result }
+        ensures entries { self.new.roster.entries.items
+            ≡ set self.old.roster.entries.items place None }
+    {
+        let (conn, ended) = self.roster.join(rt, place)?;
+        let Ended {
+            source,
+            posters,
+            course,
+            reason: _,
+        } = ended;
+        self.free(conn, posters);
+        let sink = course.into_sink();
+        Some(Gone { source, sink })
     }
 
     // Frees the seat of a connection, whose posters these are.
-    fn free(&mut self, conn: Conn, posters: Posters<S>) {
+    fn free(&mut self, conn: Conn, posters: Posters<S>)
+        ensures { self.new.roster ≡ self.old.roster }
+    {
         self.put_posters(posters);
         self.marks.leaves(conn);
         self.seats.give_back(conn);
     }
 
-    fn put_posters(&mut self, posters: Posters<S>) {
+    fn put_posters(&mut self, posters: Posters<S>)
+        ensures { self.new.roster ≡ self.old.roster }
+    {
         for (realm, poster) in self.realms.iter_mut().zip(posters) {
             if let Some(poster) = poster {
                 realm.put_seat(poster.into_seat());
@@ -125,7 +143,9 @@ impl<
     }
 
     // A poster of the connection in each realm, up to the first in which its seat isn't free.
-    fn take_posters(&mut self, conn: Conn) -> Result<Posters<S>, AllocError> {
+    fn take_posters(&mut self, conn: Conn) -> Result<Posters<S>, AllocError>
+        ensures { self.new.roster ≡ self.old.roster }
+    {
         let mut posters = Vec::with_capacity(self.alloc, self.realms.len())?;
         for realm in self.realms.iter_mut() {
             match realm.take_poster(conn) {
@@ -136,43 +156,46 @@ impl<
         Ok(posters)
     }
 
+    /// Shows that each stream that was lent is over, where nobody is served any more.
+    pub fn shows_all_over(&self)
+        requires { All (λ slot. slot ≡ None) self.now.roster.entries.items }
+        ensures { ∥ AllWent (sight I.given I.is_ended I.calls I.failures O.taken O.calls O.failures)
+            self.now.roster.over.plan.value.realms.items (items_of self.now.roster.lent)
+            (items_of self.now.roster.over.streams) ∥₁ }
+    {
+        self.roster.shows_all_over();
+    }
+
     /// Ends the streams of those whose sessions no actor held at its end.
     pub fn shut_unheld<R: Wait>(&self, rt: &R) {
-        for entry in self.entries.iter().flatten() {
+        for entry in self.roster.entries().iter().flatten() {
             if !self.marks.is_held(entry.conn) {
                 entry.shared.end_stream(rt);
             }
         }
     }
 
-    /// Waits for all threads of connections.
-    pub fn join_all<R: Threads + Wait>(&mut self, rt: &R) {
-        for place in 0..self.entries.len() {
-            if let Some(slot) = self.entries.get_mut(place) {
-                if let Some(entry) = slot.take() {
-                    self.release(rt, entry);
-                }
-            }
-        }
-    }
-
     /// Starts the reader of a stream at the lowest free seat. Where none is free its client is told so, and where memory or a thread is
-    /// refused it is told nothing; the stream is closed then.
+    /// refused it is told nothing; the stream is closed then, and this is what is left of it.
     pub fn admit<R: Threads + Wait + Copy + Send + 'static>(
         &mut self,
         rt: R,
         arrival: Arrival<I, O, S>,
-    ) {
+    ) -> Option<Gone<I, O>>
+        ensures plan { self.new.roster.over.plan ≡ self.old.roster.over.plan }
+        ensures lent { items_of self.new.roster.lent ≡ items_of self.old.roster.lent
+            ++ (arrival.parts.source, arrival.parts.sink) ∷ [] }
+        ensures over { GoesOver (items_of self.old.roster.over.streams) (items_of self.new.roster.over.streams) result }
+    {
         let Arrival { parts, fate, peer } = arrival;
         let Ok(conn) = self.seats.take() else {
             tell_refused(&rt, &self.plan.log, &peer, Refusal::NoSeat);
-            refuse(parts);
-            return;
+            return Some(self.turn_away(parts));
         };
         tell_accepted(&rt, &self.plan.log, conn, &peer);
-        if let Err(reason) = self.seat(rt, conn, parts, fate) {
-            tell_closed(&rt, &self.plan.log, conn, reason);
-        }
+        let (gone, reason) = self.seat(rt, conn, parts, fate)?;
+        tell_closed(&rt, &self.plan.log, conn, reason);
+        Some(gone)
     }
 
     // Gives a stream the seat of the connection, and starts its reader. Where that can't be, the seat is free again.
@@ -182,25 +205,98 @@ impl<
         conn: Conn,
         parts: Parts<I, O, S>,
         fate: Arc<Fate>,
-    ) -> Result<(), Reason> {
+    ) -> Option<(Gone<I, O>, Reason)>
+        ensures plan { self.new.roster.over.plan ≡ self.old.roster.over.plan }
+        ensures lent { items_of self.new.roster.lent ≡ items_of self.old.roster.lent
+            ++ (parts.source, parts.sink) ∷ [] }
+        ensures over { GoesOver (items_of self.old.roster.over.streams) (items_of self.new.roster.over.streams)
+            (option_map (λ r. r.0) result) }
+    {
         let Ok(posters) = self.take_posters(conn) else {
             self.seats.give_back(conn);
-            return Err(Reason::NoMemory);
+            return Some((self.let_go((parts.source, parts.sink)), Reason::NoMemory));
         };
         self.marks.sits(conn);
         match self.start(rt, conn, parts, fate, posters) {
-            Ok(entry) => {
-                self.keep(entry);
-                Ok(())
+            Started::Runs(halves, entry) => {
+                self.roster.seat(place_of(conn), halves, entry);
+                None
             }
-            Err((reason, posters)) => {
+            Started::Ended(halves, began, ended) => Some(self.end(conn, halves, began, ended)),
+            Started::Refused(halves, posters) => {
                 self.free(conn, posters);
-                Err(reason)
+                Some((self.let_go(halves), Reason::NoMemory))
             }
         }
     }
 
-    // Starts the reader of a connection, where its posters are all there. The posters come back where it can't be started.
+    // No thread could be made for the reader of a stream, which has given back what it had.
+    fn end(
+        &mut self,
+        conn: Conn,
+        halves: Snapshot<(I, O)>,
+        began: Snapshot<Reader<I, O, S>>,
+        ended: Ended<I, O, S>,
+    ) -> (Gone<I, O>, Reason)
+        requires halves { halves.value ≡ (began.value.source, began.value.sink) }
+        requires plan { arc_value began.value.plan ≡ self.old.roster.over.plan.value }
+        requires reads { Reads (sight I.given I.is_ended I.calls I.failures O.taken O.calls O.failures)
+            began.value ended }
+        ensures plan { self.new.roster.over.plan ≡ self.old.roster.over.plan }
+        ensures lent { items_of self.new.roster.lent ≡ items_of self.old.roster.lent ++ halves.value ∷ [] }
+        ensures over { GoesOver (items_of self.old.roster.over.streams) (items_of self.new.roster.over.streams)
+            (Some result.0) }
+    {
+        let over = Over::Seated(began, Snapshot::of(&ended));
+        self.roster.pass(halves, Snapshot::of(&over));
+        let Ended {
+            source,
+            posters,
+            course,
+            reason,
+        } = ended;
+        self.free(conn, posters);
+        let sink = course.into_sink();
+        (Gone { source, sink }, reason)
+    }
+
+    /// A stream is let go of, from which nothing was read, and to which nothing was written: memory was refused for it.
+    pub fn let_go(&mut self, halves: (I, O)) -> Gone<I, O>
+        ensures plan { self.new.roster.over.plan ≡ self.old.roster.over.plan }
+        ensures lent { items_of self.new.roster.lent ≡ items_of self.old.roster.lent ++ halves ∷ [] }
+        ensures over { GoesOver (items_of self.old.roster.over.streams) (items_of self.new.roster.over.streams) (Some result) }
+    {
+        let over = Over::Untouched(Snapshot::of(&halves));
+        self.roster.pass(Snapshot::of(&halves), Snapshot::of(&over));
+        let (source, sink) = halves;
+        Gone {
+            source: Closed::of(source),
+            sink: Closed::of(sink),
+        }
+    }
+
+    // Tells the client of a stream that no seat is free, and lets go of it.
+    fn turn_away(&mut self, parts: Parts<I, O, S>) -> Gone<I, O>
+        ensures plan { self.new.roster.over.plan ≡ self.old.roster.over.plan }
+        ensures lent { items_of self.new.roster.lent ≡ items_of self.old.roster.lent
+            ++ (parts.source, parts.sink) ∷ [] }
+        ensures over { GoesOver (items_of self.old.roster.over.streams) (items_of self.new.roster.over.streams) (Some result) }
+    {
+        let Parts { source, sink, shut } = parts;
+        let halves = (source, sink);
+        let (lent, before) = (Snapshot::of(&halves), Snapshot::of(&halves));
+        let (source, mut sink) = halves;
+        refuse(&mut sink);
+        let over = Over::TurnedAway(before, Snapshot::of(&source), Snapshot::of(&sink));
+        self.roster.pass(lent, Snapshot::of(&over));
+        shut.shut();
+        Gone {
+            source: Closed::of(source),
+            sink: Closed::of(sink),
+        }
+    }
+
+    // Starts the reader of a connection, where its posters are all there and nobody is at its place.
     fn start<R: Threads + Wait + Copy + Send + 'static>(
         &self,
         rt: R,
@@ -208,45 +304,39 @@ impl<
         parts: Parts<I, O, S>,
         fate: Arc<Fate>,
         posters: Posters<S>,
-    ) -> Result<Connection<I, O, S>, (Reason, Posters<S>)> {
-        if posters.len() != self.realms.len() {
-            return Err((Reason::NoMemory, posters));
-        }
+    ) -> Started<I, O, S>
+        ensures { Starts (sight I.given I.is_ended I.calls I.failures O.taken O.calls O.failures)
+            (arc_value self.now.plan) (parts.source, parts.sink)
+            (slice_get self.now.roster.entries.items (seat_of conn - 1)) result }
+    {
         let Parts { source, sink, shut } = parts;
-        let Some(
-            Tools {
-                plan,
-                transport,
-                ours,
-                theirs,
-            },
-        ) = self.tools(shut)
-        else {
-            return Err((Reason::NoMemory, posters));
+        let halves = (source, sink);
+        if posters.len() != self.realms.len() || !self.roster.is_free(place_of(conn)) {
+            return Started::Refused(halves, posters);
+        }
+        let Some(tools) = self.tools(shut) else {
+            return Started::Refused(halves, posters);
         };
+        let lent = Snapshot::of(&halves);
+        let (source, sink) = halves;
         let reader = Reader {
             alloc: self.alloc,
-            plan,
+            plan: tools.plan,
             conn,
             fate,
             source,
             sink,
             posters,
-            transport,
-            shared: theirs,
+            transport: tools.transport,
+            shared: tools.theirs,
         };
-        match start_reader(rt, reader, &ours.is_over) {
-            Ok(reader) => Ok(Connection {
-                conn,
-                shared: ours,
-                reader,
-            }),
-            Err(ended) => Err((ended.reason, ended.posters)),
-        }
+        run(rt, lent, reader, tools.ours)
     }
 
     // What a reader has of a stream, beside its halves. None where memory was refused: the stream's handle is gone then.
-    fn tools(&self, shut: S) -> Option<Tools<S>> {
+    fn tools(&self, shut: S) -> Option<Tools<S>>
+        ensures { IfSome result (λ tools. arc_value tools.plan ≡ arc_value self.now.plan) }
+    {
         let transport = shut.twin()?;
         let ours = Shared::new(self.alloc, shut).ok()?;
         Some(Tools {
@@ -256,13 +346,13 @@ impl<
             ours,
         })
     }
+}
 
-    fn keep(&mut self, entry: Connection<I, O, S>) {
-        let place = (seat(entry.conn) - 1) as usize;
-        if let Some(slot) = self.entries.get_mut(place) {
-            *slot = Some(entry);
-        }
-    }
+// The place of a connection, from 0.
+fn place_of(conn: Conn) -> usize
+    ensures { result ≡ seat_of conn - 1 }
+{
+    (seat(conn) - 1) as usize
 }
 
 // What a reader has of a stream beside its halves, and what is kept here.
@@ -272,6 +362,58 @@ struct Tools<S> {
     transport: S,
     ours: Shared<S>,
     theirs: Shared<S>,
+}
+
+/// How the reader of a stream was started.
+#[derive(Drop)]
+pub(crate) enum Started<
+    I: Source + Drop + Send + 'static,
+    O: Sink + Drop + Send + 'static,
+    S: Shut + Send + 'static,
+> {
+    /// Its thread runs.
+    Runs(Snapshot<(I, O)>, Connection<I, O, S>),
+    /// No thread could be made for it: it gave back what it had.
+    Ended(
+        Snapshot<(I, O)>,
+        Snapshot<Reader<I, O, S>>,
+        Ended<I, O, S>,
+    ),
+    /// Memory was refused for it, or its place isn't free.
+    Refused((I, O), Posters<S>),
+}
+
+// Starts the thread of a reader. Where no thread can be made the reader is run here, which is told first that it is over: so it gives back
+// what it has at once.
+fn run<
+    R: Threads + Wait + Copy + Send + 'static,
+    I: Source + Drop + Send + 'static,
+    O: Sink + Drop + Send + 'static,
+    S: Shut + Send + 'static,
+>(
+    rt: R,
+    lent: Snapshot<(I, O)>,
+    reader: Reader<I, O, S>,
+    ours: Shared<S>,
+) -> Started<I, O, S>
+    requires { lent.value ≡ (reader.source, reader.sink) }
+    ensures { Runs (sight I.given I.is_ended I.calls I.failures O.taken O.calls O.failures)
+        reader result }
+{
+    let conn = reader.conn;
+    let began = Snapshot::of(&reader);
+    match start_reader(rt, reader, &ours.is_over) {
+        Ok(reader) => Started::Runs(
+            lent,
+            Connection {
+                conn,
+                shared: ours,
+                began,
+                reader,
+            },
+        ),
+        Err(ended) => Started::Ended(lent, began, ended),
+    }
 }
 
 // Starts the thread of a reader. Where no thread can be made the reader is run here, which is told first that it is over: so it gives back
@@ -286,7 +428,9 @@ fn start_reader<
     reader: Reader<I, O, S>,
     is_over: &AtomicBool,
 ) -> Result<PromisedHandle<Ended<I, O, S>, Doing<Reader<I, O, S>>>, Ended<I, O, S>>
-    ensures { IfOk result (λ thread. thread.promise.0.value ≡ reader) }
+    ensures { MatchResult result (λ thread. thread.promise.0.value ≡ reader)
+        (λ ended. Reads (sight I.given I.is_ended I.calls I.failures O.taken O.calls O.failures)
+        reader ended) }
 {
     let doing = Doing(Snapshot::of(&reader));
     match thread::spawn_with(&rt, doing, move || reader.run(rt)) {
@@ -298,13 +442,9 @@ fn start_reader<
     }
 }
 
-// Tells a client that no seat is free, and ends its stream.
-fn refuse<I: Drop, O: Sink + Drop, S: Shut>(parts: Parts<I, O, S>) {
-    let Parts {
-        source: _,
-        mut sink,
-        shut,
-    } = parts;
-    let _ = send(&mut sink, &no_seat_reply(), &mut Turns::new());
-    shut.shut();
+// Tells a client that no seat is free.
+fn refuse<O: Sink>(sink: &mut O)
+    ensures { TellsRefusal O.taken O.calls O.failures sink.old sink.new }
+{
+    let _ = send(sink, &no_seat_reply(), &mut Turns::new());
 }

@@ -12,6 +12,7 @@
 #![tactic(auto)]
 
 mod acceptor;
+mod account;
 mod actor_thread;
 mod answer;
 mod closed;
@@ -19,6 +20,7 @@ mod closing;
 mod config;
 mod connection_table;
 mod course;
+mod entry;
 mod farewell;
 mod fate;
 mod fault;
@@ -27,9 +29,12 @@ mod handover;
 mod herald;
 mod id_words;
 mod log;
+mod over;
+mod overs;
 mod plan;
 mod reader_thread;
 mod realm_handle;
+mod roster;
 mod seat_table;
 mod serve;
 mod talk;
@@ -38,8 +43,10 @@ mod told;
 mod work;
 mod writer_thread;
 
+pub use account::Account;
 pub use acceptor::{Accepted, Acceptor, Parts};
 pub use answer::Answer;
+pub use closed::Closed;
 pub use config::{Config, Ids};
 pub use fault::Fault;
 pub use grants::copy_grants;

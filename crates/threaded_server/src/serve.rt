@@ -1,7 +1,14 @@
 //! The accepting thread.
-ghost use Rattle.std.specs.Prelude.{◌≡◌, ◌≤◌, ◌<◌, length, IfOk};
+ghost use Rattle.std.specs.Prelude.{◌≡◌, ◌≤◌, ◌<◌, [], ◌∷◌, ◌++◌, length, All, IfOk, MatchOption, None};
+ghost use Rattle.ghost_state.specs.GhostList.{items_of};
 ghost use Rattle.realm.specs.Grants.{pairs_of};
 ghost use Rattle.threaded_server.specs.Answers.{Serves};
+ghost use Rattle.threaded_server.specs.Lending.{with_returned};
+ghost use Rattle.threaded_server.specs.Overs.{GoesOver, Moves};
+ghost use Rattle.threaded_server.specs.Served.{LentUntil, Served};
+ghost use Rattle.threaded_server.specs.Streams.{sight};
+ghost use Rattle.threaded_server.specs.Table.{books};
+ghost use Rattle.threaded_server.specs.declared.fate.Marked.{Marked};
 
 use crate::acceptor::{Accepted, Acceptor, Parts};
 use crate::actor_thread::ActorThread;
@@ -12,6 +19,7 @@ use crate::fault::Fault;
 use crate::grants::copy_grants;
 use crate::id_words::IdWords;
 use crate::log::Log;
+use crate::over::Gone;
 use crate::plan::Plan;
 use crate::realm_handle::RealmHandle;
 use crate::told::{tell_failed, tell_refused, tell_stopping};
@@ -54,7 +62,11 @@ pub fn serve_on<R: Threads + Wait + RandomSource + Copy + Send + 'static, A: Acc
     requires realms { 0 < length config.now.realms.items }
     requires least { 0 < config.now.outbox }
     requires most { config.now.outbox ≤ 65536 }
-    ensures { Serves (A.answers acceptor.old) (A.answers acceptor.new) result }
+    ensures answers { Serves (A.answers acceptor.old) (A.answers acceptor.new) result }
+    ensures streams { ∥ Served (Marked A.Shut)
+        (sight A.Source.given A.Source.is_ended A.Source.calls A.Source.failures A.Sink.taken A.Sink.calls A.Sink.failures)
+        config.now.realms.items (A.answers acceptor.old) (A.answers acceptor.new)
+        (A.lending acceptor.old) (A.lending acceptor.new) ∥₁ }
 {
     serve_logged(rt, alloc, acceptor, config, None)
 }
@@ -73,13 +85,18 @@ pub fn serve_logged<R: Threads + Wait + RandomSource + Copy + Send + 'static, A:
     requires realms { 0 < length config.now.realms.items }
     requires least { 0 < config.now.outbox }
     requires most { config.now.outbox ≤ 65536 }
-    ensures { Serves (A.answers acceptor.old) (A.answers acceptor.new) result }
+    ensures answers { Serves (A.answers acceptor.old) (A.answers acceptor.new) result }
+    ensures streams { ∥ Served (Marked A.Shut)
+        (sight A.Source.given A.Source.is_ended A.Source.calls A.Source.failures A.Sink.taken A.Sink.calls A.Sink.failures)
+        config.now.realms.items (A.answers acceptor.old) (A.answers acceptor.new)
+        (A.lending acceptor.old) (A.lending acceptor.new) ∥₁ }
 {
     let plan = plan_of(alloc, config, log)?;
     let mut connection_table = ConnectionTable::new(alloc, plan)?;
     let served = open_and_accept(rt, acceptor, &mut connection_table, config);
     tell_stopping(&rt, &connection_table.plan.log, &served);
-    close(&rt, &mut connection_table);
+    close(&rt, acceptor, &mut connection_table);
+    connection_table.shows_all_over();
     served
 }
 
@@ -90,7 +107,10 @@ fn open_and_accept<R: Threads + Wait + RandomSource + Copy + Send + 'static, A: 
     connection_table: &mut ConnectionTable<A::Source, A::Sink, Marked<A::Shut>>,
     config: &Config,
 ) -> Result<(), Fault>
-    ensures { Serves (A.answers acceptor.old) (A.answers acceptor.new) result }
+    ensures lent { LentUntil (A.answers acceptor.old) (A.answers acceptor.new)
+        (A.lending acceptor.old) (A.lending acceptor.new) (books connection_table.old.roster.lent connection_table.old.roster.over.streams)
+        (books connection_table.new.roster.lent connection_table.new.roster.over.streams) result }
+    ensures plan { connection_table.new.roster.over.plan ≡ connection_table.old.roster.over.plan }
 {
     if let Err(_) = open(rt, connection_table, config) {
         return Err(Fault::NoMemory);
@@ -98,7 +118,9 @@ fn open_and_accept<R: Threads + Wait + RandomSource + Copy + Send + 'static, A: 
     accept_all(rt, acceptor, connection_table)
 }
 
-fn copies_of(alloc: Global, realms: &[Topic]) -> Result<Vec<Topic>, AllocError> {
+fn copies_of(alloc: Global, realms: &[Topic]) -> Result<Vec<Topic>, AllocError>
+    ensures { IfOk result (λ copies. copies.items ≡ realms.now) }
+{
     let mut copies = Vec::with_capacity(alloc, realms.len())?;
     for realm in realms {
         copies.push(realm.try_copy(alloc)?)?;
@@ -118,6 +140,7 @@ fn counts_of(alloc: Global, realms: usize) -> Result<Vec<InUse>, AllocError> {
 fn plan_of(alloc: Global, config: &Config, log: Option<Log>) -> Result<Plan, AllocError>
     requires least { 0 < config.now.outbox }
     requires most { config.now.outbox ≤ 65536 }
+    ensures { IfOk result (λ plan. plan.realms.items ≡ config.now.realms.items) }
 {
     let realms = copies_of(alloc, &config.realms)?;
     let in_use = counts_of(alloc, realms.len())?;
@@ -151,7 +174,9 @@ fn open<
     rt: R,
     connection_table: &mut ConnectionTable<I, O, S>,
     config: &Config,
-) -> Result<(), AllocError> {
+) -> Result<(), AllocError>
+    ensures { connection_table.new.roster ≡ connection_table.old.roster }
+{
     for name in &config.realms {
         open_realm(rt, connection_table, config, name)?;
     }
@@ -168,7 +193,9 @@ fn open_realm<
     connection_table: &mut ConnectionTable<I, O, S>,
     config: &Config,
     name: &Topic,
-) -> Result<(), AllocError> {
+) -> Result<(), AllocError>
+    ensures { connection_table.new.roster ≡ connection_table.old.roster }
+{
     let alloc = connection_table.alloc;
     let chronicle = RealmChronicle::new(alloc)?;
     let (door, seats, inbox) = inbox_of_chronicle::<S>(alloc, MOST_POSTS, &chronicle)?;
@@ -202,14 +229,17 @@ fn accept_all<R: Threads + Wait + Copy + Send + 'static, A: Acceptor>(
     acceptor: &mut A,
     connection_table: &mut ConnectionTable<A::Source, A::Sink, Marked<A::Shut>>,
 ) -> Result<(), Fault>
-    ensures { Serves (A.answers acceptor.old) (A.answers acceptor.new) result }
+    ensures lent { LentUntil (A.answers acceptor.old) (A.answers acceptor.new)
+        (A.lending acceptor.old) (A.lending acceptor.new) (books connection_table.old.roster.lent connection_table.old.roster.over.streams)
+        (books connection_table.new.roster.lent connection_table.new.roster.over.streams) result }
+    ensures plan { connection_table.new.roster.over.plan ≡ connection_table.old.roster.over.plan }
 {
     let mut failures: u32 = 0;
     'accepting: for _ in rt.forever() {
         match acceptor.accept() {
             Accepted::Stream(stream) => {
                 failures = 0;
-                connection_table.reap(&rt);
+                reap(&rt, acceptor, connection_table);
                 receive(rt, acceptor, connection_table, stream);
             }
             Accepted::Stop => return Ok(()),
@@ -219,12 +249,59 @@ fn accept_all<R: Threads + Wait + Copy + Send + 'static, A: Acceptor>(
                 if failures >= MOST_FAILURES {
                     return Err(Fault::ListenFault);
                 }
-                connection_table.reap(&rt);
+                reap(&rt, acceptor, connection_table);
                 acceptor.pause(failures);
             }
         }
     }
     unreachable!()
+}
+
+// Takes back what is left of a stream, if it is over.
+fn take_back<A: Acceptor>(acceptor: &mut A, gone: Option<Gone<A::Source, A::Sink>>)
+    ensures answers { A.answers acceptor.new ≡ A.answers acceptor.old }
+    ensures lending { MatchOption gone (A.lending acceptor.new ≡ A.lending acceptor.old)
+        (λ gone. A.lending acceptor.new ≡ with_returned (A.lending acceptor.old)
+        (gone.source.last.value, gone.sink.last.value)) }
+{
+    if let Some(Gone { source, sink }) = gone {
+        acceptor.take_back(source, sink);
+    }
+}
+
+// Joins the readers that are over, and frees their seats.
+fn reap<R: Threads + Wait, A: Acceptor>(
+    rt: &R,
+    acceptor: &mut A,
+    connection_table: &mut ConnectionTable<A::Source, A::Sink, Marked<A::Shut>>,
+)
+    ensures answers { A.answers acceptor.new ≡ A.answers acceptor.old }
+    ensures moves { Moves 0 (A.lending acceptor.old) (A.lending acceptor.new)
+        (books connection_table.old.roster.lent connection_table.old.roster.over.streams) (books connection_table.new.roster.lent connection_table.new.roster.over.streams) }
+    ensures plan { connection_table.new.roster.over.plan ≡ connection_table.old.roster.over.plan }
+{
+    for place in 0..connection_table.places() {
+        let gone = connection_table.reap(rt, place);
+        take_back(acceptor, gone);
+    }
+}
+
+// Waits for all threads of connections.
+fn join_all<R: Threads + Wait, A: Acceptor>(
+    rt: &R,
+    acceptor: &mut A,
+    connection_table: &mut ConnectionTable<A::Source, A::Sink, Marked<A::Shut>>,
+)
+    ensures answers { A.answers acceptor.new ≡ A.answers acceptor.old }
+    ensures moves { Moves 0 (A.lending acceptor.old) (A.lending acceptor.new)
+        (books connection_table.old.roster.lent connection_table.old.roster.over.streams) (books connection_table.new.roster.lent connection_table.new.roster.over.streams) }
+    ensures plan { connection_table.new.roster.over.plan ≡ connection_table.old.roster.over.plan }
+    ensures none { All (λ slot. slot ≡ None) connection_table.new.roster.entries.items }
+{
+    for place in 0..connection_table.places() {
+        let gone = connection_table.release(rt, place);
+        take_back(acceptor, gone);
+    }
 }
 
 // Takes a stream apart, and admits it.
@@ -234,11 +311,17 @@ fn receive<R: Threads + Wait + Copy + Send + 'static, A: Acceptor>(
     connection_table: &mut ConnectionTable<A::Source, A::Sink, Marked<A::Shut>>,
     stream: A::Stream,
 )
-    ensures { A.answers acceptor.new ≡ A.answers acceptor.old }
+    ensures answers { A.answers acceptor.new ≡ A.answers acceptor.old }
+    ensures moves { Moves 1 (A.lending acceptor.old) (A.lending acceptor.new)
+        (books connection_table.old.roster.lent connection_table.old.roster.over.streams) (books connection_table.new.roster.lent connection_table.new.roster.over.streams) }
+    ensures plan { connection_table.new.roster.over.plan ≡ connection_table.old.roster.over.plan }
 {
     let peer = peer_of(acceptor, &connection_table.plan, &stream);
     match acceptor.split(connection_table.alloc, stream) {
-        Ok(parts) => admit(rt, connection_table, parts, peer),
+        Ok(parts) => {
+            let gone = admit(rt, connection_table, parts, peer);
+            take_back(acceptor, gone);
+        }
         Err(_) => tell_refused(&rt, &connection_table.plan.log, &peer, Refusal::NoMemory),
     }
 }
@@ -258,7 +341,8 @@ fn tell_failure<R: Wait, A: Acceptor>(rt: &R, acceptor: &A, plan: &Plan) {
     }
 }
 
-// Admits a stream, whose handle marks the fate of its connection from now on. Where memory is refused it is closed.
+// Admits a stream, whose handle marks the fate of its connection from now on. Where memory is refused it is closed. What is left of it,
+// where it is closed.
 fn admit<
     R: Threads + Wait + Copy + Send + 'static,
     I: Source + Drop + Send + 'static,
@@ -269,24 +353,49 @@ fn admit<
     connection_table: &mut ConnectionTable<I, O, Marked<S>>,
     parts: Parts<I, O, S>,
     peer: Option<String>,
-) {
+) -> Option<Gone<I, O>>
+    ensures plan { connection_table.new.roster.over.plan ≡ connection_table.old.roster.over.plan }
+    ensures lent { items_of connection_table.new.roster.lent ≡ items_of connection_table.old.roster.lent
+        ++ (parts.source, parts.sink) ∷ [] }
+    ensures over { GoesOver (items_of connection_table.old.roster.over.streams)
+        (items_of connection_table.new.roster.over.streams) result }
+{
     let Parts { source, sink, shut } = parts;
     let Ok((shut, fate)) = Marked::new(connection_table.alloc, shut) else {
         tell_refused(&rt, &connection_table.plan.log, &peer, Refusal::NoMemory);
-        return;
+        return Some(connection_table.let_go((source, sink)));
     };
     let parts = Parts { source, sink, shut };
-    connection_table.admit(rt, Arrival { parts, fate, peer });
+    connection_table.admit(rt, Arrival { parts, fate, peer })
 }
 
 // Stops the actors, ends the streams that no session's writer will end, and waits for all threads. Each actor turns away what is posted behind
 // its stop until the realm's door and seats are given up, which is last of all: so no thread waits for what nobody would do.
-fn close<
+fn close<R: Threads + Wait, A: Acceptor>(
+    rt: &R,
+    acceptor: &mut A,
+    connection_table: &mut ConnectionTable<A::Source, A::Sink, Marked<A::Shut>>,
+)
+    ensures answers { A.answers acceptor.new ≡ A.answers acceptor.old }
+    ensures moves { Moves 0 (A.lending acceptor.old) (A.lending acceptor.new)
+        (books connection_table.old.roster.lent connection_table.old.roster.over.streams) (books connection_table.new.roster.lent connection_table.new.roster.over.streams) }
+    ensures plan { connection_table.new.roster.over.plan ≡ connection_table.old.roster.over.plan }
+    ensures none { All (λ slot. slot ≡ None) connection_table.new.roster.entries.items }
+{
+    stop(rt, connection_table);
+    join_all(rt, acceptor, connection_table);
+    join_actors(rt, connection_table);
+}
+
+// Stops the actors, and ends the streams that no session's writer will end.
+fn stop<
     R: Threads + Wait,
     I: Source + Drop + Send + 'static,
     O: Sink + Drop + Send + 'static,
     S: Shut + Send + 'static,
->(rt: &R, connection_table: &mut ConnectionTable<I, O, S>) {
+>(rt: &R, connection_table: &mut ConnectionTable<I, O, S>)
+    ensures { connection_table.new.roster ≡ connection_table.old.roster }
+{
     connection_table
         .plan
         .is_stopping
@@ -298,7 +407,17 @@ fn close<
         realm.await_marks(rt);
     }
     connection_table.shut_unheld(rt);
-    connection_table.join_all(rt);
+}
+
+// Gives up the doors and the seats, and waits for the actors' threads.
+fn join_actors<
+    R: Threads + Wait,
+    I: Source + Drop + Send + 'static,
+    O: Sink + Drop + Send + 'static,
+    S: Shut + Send + 'static,
+>(rt: &R, connection_table: &mut ConnectionTable<I, O, S>)
+    ensures { connection_table.new.roster ≡ connection_table.old.roster }
+{
     for _ in rt.forever() {
         match connection_table.realms.pop() {
             Some(realm) => {

@@ -2,7 +2,9 @@
 ghost use Rattle.std.specs.Prelude.{◌≡◌, ◌++◌, ◌∷◌, []};
 
 use crate::acceptor::{Accepted, Acceptor, Parts};
+use crate::account::Account;
 use crate::answer::Answer;
+use crate::closed::Closed;
 use rawsocket::devices::{ReadSource, WriteSink};
 use realm_inbox::{GhostList, Shut};
 use std::alloc::{AllocError, Global};
@@ -71,8 +73,9 @@ pub struct TcpAcceptor<R: Clock + Drop> {
     listener: TcpListener,
     clock: R,
     failure: Option<io::Error>,
-    // It takes no bytes.
+    // These take no bytes.
     answers: GhostList<Answer>,
+    account: Account<ReadSource<TcpHandle>, WriteSink<TcpHandle>>,
 }
 
 impl<R: Clock + Drop> TcpAcceptor<R> {
@@ -83,6 +86,7 @@ impl<R: Clock + Drop> TcpAcceptor<R> {
             clock,
             failure: None,
             answers: GhostList::new(),
+            account: Account::new(),
         }
     }
 
@@ -92,10 +96,28 @@ impl<R: Clock + Drop> TcpAcceptor<R> {
     }
 }
 
+// The parts of a stream, which share it.
+fn parts_of(
+    alloc: Global,
+    stream: TcpStream,
+) -> Result<Parts<ReadSource<TcpHandle>, WriteSink<TcpHandle>, TcpHandle>, AllocError> {
+    let shut = TcpHandle {
+        stream: Arc::new(alloc, stream)?,
+    };
+    Ok(Parts {
+        source: ReadSource::new(shut.another()?),
+        sink: WriteSink::new(shut.another()?),
+        shut,
+    })
+}
+
 impl<R: Clock + Drop> Acceptor for TcpAcceptor<R> {
     ghost use Rattle.ghost_state.specs.GhostList.{items_of};
+    ghost use Rattle.threaded_server.specs.Lending.{lending_of, with_returned};
 
     ghost answers = { λ a. items_of a.answers };
+
+    ghost lending = { λ a. lending_of a.account };
 
     type Stream = TcpStream;
 
@@ -124,14 +146,25 @@ impl<R: Clock + Drop> Acceptor for TcpAcceptor<R> {
         stream: TcpStream,
     ) -> Result<Parts<ReadSource<TcpHandle>, WriteSink<TcpHandle>, TcpHandle>, AllocError> {
         let _ = stream.set_nodelay(true);
-        let shut = TcpHandle {
-            stream: Arc::new(alloc, stream)?,
-        };
-        Ok(Parts {
-            source: ReadSource::new(shut.another()?),
-            sink: WriteSink::new(shut.another()?),
-            shut,
-        })
+        match parts_of(alloc, stream) {
+            Ok(parts) => Ok(self.account.lend(parts)),
+            Err(refused) => {
+                self.account.refuse();
+                Err(refused)
+            }
+        }
+    }
+
+    fn take_back(
+        &mut self,
+        source: Closed<ReadSource<TcpHandle>>,
+        sink: Closed<WriteSink<TcpHandle>>,
+    )
+        ensures answers { items_of self.new.answers ≡ items_of self.old.answers }
+        ensures lending { lending_of self.new.account
+            ≡ with_returned (lending_of self.old.account) (source.last.value, sink.last.value) }
+    {
+        self.account.take_back(source, sink);
     }
 
     fn peer(&self, alloc: Global, stream: &TcpStream) -> Option<String> {

@@ -1,18 +1,24 @@
-use Rattle.std.proofs.Common.{◌∙◌}
-use Rattle.threaded_server.proofs.AcceptLoop.{none_yet, came_on, failed_on, ends_stopped, ends_failed}
+use Rattle.std.proofs.Common.{◌∙◌, refl}
+use Rattle.threaded_server.proofs.Accepting.{failed, none_so_far, stopped}
+use Rattle.threaded_server.proofs.ServeSteps.{accept_failed, stream_came}
 use Rattle.threaded_server.proofs.serve.accept_all.Goals as goal
 
 pub accepting-init : goal.accepting-init
-accepting-init g c = none_yet _
+accepting-init g c = (none_so_far _ _ _, refl)
 
 pub accepting-preserved-in-Stream : goal.accepting-preserved-in-Stream
-accepting-preserved-in-Stream g c = came_on _ _ _ _ c.accepting.invariant (c.receive.ensures ∙ c.in-Stream.ensures)
+accepting-preserved-in-Stream g c =
+    (stream_came _ _ _ _ _ _ _ _ _ _ _ _ _ _ _ c.accepting.invariant.0 c.in-Stream.ensures.answers c.in-Stream.ensures.lending c.reap.ensures.answers c.reap.ensures.moves c.receive.ensures.answers c.receive.ensures.moves,
+    c.receive.ensures.plan ∙ c.reap.ensures.plan ∙ c.accepting.invariant.1)
 
-pub returns-in-Stop : goal.returns-in-Stop
-returns-in-Stop g c = ends_stopped _ _ _ _ c.accepting.invariant c.in-Stop.ensures
+pub returns-in-Stop-clause-lent : goal.returns-in-Stop-clause-lent
+returns-in-Stop-clause-lent g c = stopped _ _ _ _ _ _ _ _ _ c.accepting.invariant.0 c.in-Stop.ensures.answers c.in-Stop.ensures.lending
 
-pub returns-then-failures-ge-MOST_FAILURES : goal.returns-then-failures-ge-MOST_FAILURES
-returns-then-failures-ge-MOST_FAILURES g c = ends_failed _ _ _ _ c.accepting.invariant c.in-Failed.ensures c.if-failures-ge-MOST_FAILURES.true
+pub returns-then-failures-ge-MOST_FAILURES-clause-lent : goal.returns-then-failures-ge-MOST_FAILURES-clause-lent
+returns-then-failures-ge-MOST_FAILURES-clause-lent g c = failed _ _ _ _ _ _ _ _ _ c.accepting.invariant.0 c.in-Failed.ensures.answers c.if-failures-ge-MOST_FAILURES.true c.in-Failed.ensures.lending
 
 pub accepting-preserved : goal.accepting-preserved
-accepting-preserved g c = failed_on _ _ _ _ c.accepting.invariant (c.pause.ensures ∙ c.in-Failed.ensures) c.if-failures-ge-MOST_FAILURES.false
+accepting-preserved g c =
+    (accept_failed _ _ _ _ _ _ _ _ _ _ _ _ _ _ c.accepting.invariant.0 c.in-Failed.ensures.answers c.in-Failed.ensures.lending c.reap-in-Failed.ensures.answers c.reap-in-Failed.ensures.moves c.pause.ensures.answers c.pause.ensures.lending
+    c.if-failures-ge-MOST_FAILURES.false,
+    c.reap-in-Failed.ensures.plan ∙ c.accepting.invariant.1)

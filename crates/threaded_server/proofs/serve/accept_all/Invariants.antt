@@ -1,5 +1,11 @@
-use Rattle.threaded_server.proofs.AcceptLoop.{GoneOn}
+use Rattle.std.proofs.Common.{◌≡◌}
+use Rattle.threaded_server.proofs.Accepting.{Accepting}
+use Rattle.threaded_server.specs.Table.{books}
 use Rattle.threaded_server.proofs.serve.accept_all.Given as goal
 
 abbrev pub invariant-accepting : goal.invariant-accepting
-invariant-accepting g l = GoneOn (g.A.Acceptor.answers l.initial.acceptor) (g.A.Acceptor.answers l.acceptor) l.failures
+invariant-accepting g l =
+    let was = l.initial.connection_table.roster in
+    let now = l.connection_table.roster in
+    Accepting (g.A.Acceptor.answers l.initial.acceptor) (g.A.Acceptor.answers l.acceptor) l.failures (g.A.Acceptor.lending l.initial.acceptor) (g.A.Acceptor.lending l.acceptor) (books was.lent was.over.streams) (books now.lent now.over.streams)
+    × (now.over.plan ≡ was.over.plan)

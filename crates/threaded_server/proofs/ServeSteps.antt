@@ -1,0 +1,74 @@
+-- What the accepting thread does, step by step.
+use Rattle.std.proofs.Common.{◌≡◌, ◌+◌, ◌<◌, ◌≤◌, ℕ, List, [], ◌∷◌, ◌++◌, Ok, Err, IsPermutation, Result, map, refl, sym, ap, ◌∙◌, subst, append-nil, arith}
+use Rattle.std.proofs.Math.Logic.{∥∥₁_map}
+use Rattle.std.proofs.lemmas.List.Elements.{All-nil}
+use Rattle.std.proofs.lemmas.List.Sorted.{IsPermutation-refl}
+use Rattle.threaded_server.proofs.Accepting.{Accepting, failed, none_so_far, one_came, one_failed, stopped}
+use Rattle.threaded_server.proofs.Moving.{moves_on}
+use Rattle.threaded_server.specs.Answers.{Serves}
+use Rattle.threaded_server.specs.Lending.{Lending}
+use Rattle.threaded_server.specs.Overs.{AllWent, Books, Moves, Went, after_of}
+use Rattle.threaded_server.specs.Served.{LentUntil, Served, came_in}
+use Rattle.threaded_server.specs.Streams.{Sight}
+use Rattle.threaded_server.specs.declared.answer.Answer.{Answer}
+use Rattle.threaded_server.specs.declared.answer.Answer.TheVariants.{Came, Failed}
+use Rattle.threaded_server.specs.declared.fault.Fault.{Fault}
+
+module _ {I O S : Type 0} where
+  -- moved from what is the same
+  from_same : (n : ℕ) (now same next : Lending I O) (had has : Books I O S) → same ≡ now → Moves n same next had has → Moves n now next had has
+  from_same n now same next had has e m = subst (λ (l : Lending I O). Moves n l next had has) e m
+
+  -- to what is the same
+  to_same : (n : ℕ) (was next same : Lending I O) (had has : Books I O S) → same ≡ next → Moves n was next had has → Moves n was same had has
+  to_same n was next same had has e m = subst (λ (l : Lending I O). Moves n was l had has) (sym e) m
+
+  -- a stream came: those that are over are joined, and it is received
+  pub stream_came : (before now answered reaped received : List Answer) (failures : ℕ) (was lending accepted joined taken : Lending I O) (had has left seated : Books I O S) → Accepting before now failures was lending had has
+      → answered ≡ now ++ Came ∷ [] → accepted ≡ lending → reaped ≡ answered → Moves 0 accepted joined has left → received ≡ reaped → Moves 1 joined taken left seated → Accepting before received 0 was taken had seated
+  stream_came before now answered reaped received failures was lending accepted joined taken had has left seated h came same e reap f receive =
+      one_came before now received failures was lending taken had has seated h (f ∙ e ∙ came) (from_same 1 lending accepted taken has seated same (moves_on 0 1 accepted joined taken has left seated reap receive))
+
+  -- accepting failed: those that are over are joined
+  pub accept_failed : (before now answered reaped paused : List Answer) (failures : ℕ) (was lending accepted joined taken : Lending I O) (had has left : Books I O S) → Accepting before now failures was lending had has
+      → answered ≡ now ++ Failed ∷ [] → accepted ≡ lending → reaped ≡ answered → Moves 0 accepted joined has left → paused ≡ reaped → taken ≡ joined → failures + 1 < 100 → Accepting before paused (failures + 1) was taken had left
+  accept_failed before now answered reaped paused failures was lending accepted joined taken had has left h came same e reap f pause few =
+      one_failed before now paused failures was lending taken had has left h (f ∙ e ∙ came) few (to_same 0 lending joined taken has left pause (from_same 0 lending accepted joined has left same reap))
+
+  -- serving is over, and each stream is
+  pub served : (see : Sight I O) (shown names : List (List ℕ)) (before now closed : List Answer) (was lending returned : Lending I O) (had has left : Books I O S) (result : Result Unit Fault) → had.lent ≡ [] → had.over ≡ []
+      → LentUntil before now was lending had has result → closed ≡ now → Moves 0 lending returned has left → shown ≡ names → ∥ AllWent see shown left.lent left.over ∥₁ → ∥ Served S see names before closed was returned ∥₁
+  served see shown names before now closed was lending returned had has left result none nobody h e m same all =
+      let whole = moves_on (came_in h.serves.given) 0 was lending returned had has left h.moves m in
+      let lent : left.lent ≡ whole.more = whole.lent_here ∙ ap (λ l. l ++ whole.more) none in
+      let over : left.over ≡ whole.over = whole.over_here ∙ ap (λ l. l ++ whole.over) nobody in
+      ∥∥₁_map all (λ each. record {
+        given = h.serves.given;
+        lent = whole.more;
+        streams = whole.over;
+        refused = whole.refused;
+        answered = e ∙ h.serves.answered;
+        all_came = omega (arith, whole.all_came);
+        refused_are = whole.refused_more;
+        lent_are = whole.lent;
+        returned_are = whole.returned;
+        went = subst (λ (l : List (I × O)). AllWent see names l whole.over) lent (subst (λ o. AllWent see names left.lent o) over (subst (λ (n : List (List ℕ)). AllWent see n left.lent left.over) same each));
+      })
+
+  nothing : (see : Sight I O) (names : List (List ℕ)) (before : List Answer) (was : Lending I O) → Served S see names before before was was
+  nothing see names before was = record {
+    given = [];
+    lent = [];
+    streams = [];
+    refused = 0;
+    answered = sym (append-nil before);
+    all_came = refl;
+    refused_are = omega arith;
+    lent_are = sym (append-nil was.lent);
+    returned_are = sym (append-nil was.returned);
+    went = record { each = IsPermutation-refl []; went = All-nil (λ over. ∥ Went see names over ∥₁) };
+  }
+
+  -- nothing was accepted
+  pub nothing_served : (see : Sight I O) (names : List (List ℕ)) (before : List Answer) (was : Lending I O) → ∥ Served S see names before before was was ∥₁
+  nothing_served see names before was = ∣ nothing see names before was ∣₁

@@ -1,0 +1,15 @@
+use Rattle.std.proofs.Common.{map}
+use Rattle.ghost_state.specs.GhostList.{items_of}
+use Rattle.threaded_server.proofs.RosterSteps.{pass_balances, still_of_plan}
+use Rattle.threaded_server.specs.Roster.{halves_of}
+use Rattle.threaded_server.specs.Slots.{in_slots}
+use Rattle.threaded_server.proofs.roster.Roster.pass.Goals as goal
+
+pub invariant_of-self : goal.invariant_of-self
+invariant_of-self g c =
+    let old = c.args.self.now in
+    record {
+      own = still_of_plan old.over.plan c.add-2.new.self.plan old.entries.items c.add-2.ensures.plan old.own;
+      balance = pass_balances (items_of old.lent) (items_of c.add.new.self) (items_of old.over.streams) (items_of c.add-2.new.self.streams) (map halves_of (in_slots old.entries.items)) c.args.halves.value c.args.over.value
+          c.add.ensures c.add-2.ensures.streams c.requires.halves old.balance;
+    }

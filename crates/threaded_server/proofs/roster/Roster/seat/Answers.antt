@@ -1,0 +1,16 @@
+use Rattle.std.proofs.Common.{rules, ◌<◌, length, None}
+use Rattle.std.proofs.lemmas.Option.{slice_get_within}
+use Rattle.ghost_state.specs.GhostList.{items_of}
+use Rattle.threaded_server.proofs.RosterSteps.{seat_balances, seated_of_plan}
+use Rattle.threaded_server.proofs.roster.Roster.seat.Goals as goal
+
+pub index_mut-requires : goal.index_mut-requires
+index_mut-requires g c = let within : c.args.place < length c.args.self.now.entries.items = slice_get_within c.args.self.now.entries.items c.args.place None c.requires.free in search rules
+
+pub invariant_of-self : goal.invariant_of-self
+invariant_of-self g c =
+    let old = c.args.self.now in
+    record {
+      own = seated_of_plan old.over.plan old.entries.items c.args.place c.args.entry c.requires.plan old.own;
+      balance = seat_balances (items_of old.lent) (items_of c.add.new.self) (items_of old.over.streams) old.entries.items c.args.place c.args.entry c.args.halves.value c.add.ensures c.requires.halves c.requires.free old.balance;
+    }

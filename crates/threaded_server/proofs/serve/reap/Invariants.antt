@@ -1,0 +1,12 @@
+use Rattle.std.proofs.Common.{◌≡◌}
+use Rattle.threaded_server.specs.Overs.{Moves}
+use Rattle.threaded_server.specs.Table.{books}
+use Rattle.threaded_server.proofs.serve.reap.Given as goal
+
+abbrev pub invariant-loop-place : goal.invariant-loop-place
+invariant-loop-place g l =
+    let was = l.initial.connection_table.roster in
+    let now = l.connection_table.roster in
+    (g.A.Acceptor.answers l.acceptor ≡ g.A.Acceptor.answers l.initial.acceptor)
+    × Moves 0 (g.A.Acceptor.lending l.initial.acceptor) (g.A.Acceptor.lending l.acceptor) (books was.lent was.over.streams) (books now.lent now.over.streams)
+    × (now.over.plan ≡ was.over.plan)

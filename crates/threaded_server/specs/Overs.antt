@@ -1,0 +1,85 @@
+-- What became of the streams that were lent.
+use Rattle.std.specs.Prelude.{◌≡◌, ◌⊎◌, ◌<◌, ◌+◌, ⊤, ℕ, List, [], ◌∷◌, ◌++◌, Option, None, Some, All, IsPermutation, length, map}
+use Rattle.std.specs.Arc.{arc_value}
+use Rattle.rawsocket.specs.Devices.{GrowsByBeginning}
+use Rattle.rawsocket.specs.Handshakes.{refusing}
+use Rattle.session.specs.Opened.{AreUsedUp}
+use Rattle.threaded_server.specs.Lending.{Lending}
+use Rattle.threaded_server.specs.Streams.{Reads, Sight}
+use Rattle.threaded_server.specs.declared.closed.Closed.{Closed}
+use Rattle.threaded_server.specs.declared.course.Course.{Course}
+use Rattle.threaded_server.specs.declared.course.Course.TheVariants as course
+use Rattle.threaded_server.specs.declared.over.Gone.{Gone}
+use Rattle.threaded_server.specs.declared.over.Over.{Over}
+use Rattle.threaded_server.specs.declared.over.Over.TheVariants.{Seated, TurnedAway, Untouched}
+
+-- the half of a stream that was written to, as it was let go of
+abbrev pub sink_of : {O : Type 0} → Course O → Closed O
+sink_of (course.Untouched sink) = sink
+sink_of (course.NotOpened sink fault) = sink
+sink_of (course.OpenedAlone sink) = sink
+sink_of (course.Served end written) = written.sink
+
+module _ {I O S : Type 0} where
+  -- the halves of a stream, as it was lent
+  abbrev pub before_of : Over I O S → I × O
+  before_of (Seated reader ended) = (reader.value.source, reader.value.sink)
+  before_of (TurnedAway halves source sink) = halves.value
+  before_of (Untouched halves) = halves.value
+
+  -- and as they were let go of
+  abbrev pub after_of : Over I O S → I × O
+  after_of (Seated reader ended) = (ended.value.source.last.value, (sink_of ended.value.course).last.value)
+  after_of (TurnedAway halves source sink) = (source.value, sink.value)
+  after_of (Untouched halves) = halves.value
+
+  -- one stream more is over, of which this is left
+  pub record Adds (before now : List (Over I O S)) (halves : I × O) : Type 0 where
+    pub over : Over I O S
+    pub added : now ≡ before ++ over ∷ []
+    pub after : after_of over ≡ halves
+
+  -- none is, or one more
+  abbrev pub GoesOver : List (Over I O S) → List (Over I O S) → Option (Gone I O) → Type 0
+  GoesOver before now None = now ≡ before
+  GoesOver before now (Some gone) = Adds before now (gone.source.last.value, gone.sink.last.value)
+
+-- what a broker knows of its streams: the halves of all that it was lent, in their order, and what became of those that are over, in the order of that
+pub record Books (I O S : Type 0) : Type 0 where
+  pub lent : List (I × O)
+  pub over : List (Over I O S)
+
+module _ {I O S : Type 0} where
+  -- Between two moments so many streams came. Each was lent, or couldn't be taken apart; and what is left of each that went over meanwhile was taken back
+  pub record Moves (came : ℕ) (was now : Lending I O) (had has : Books I O S) : Type 0 where
+    pub more : List (I × O)
+    pub over : List (Over I O S)
+    pub refused : ℕ
+    pub lent : now.lent ≡ was.lent ++ more
+    pub lent_here : has.lent ≡ had.lent ++ more
+    pub returned : now.returned ≡ was.returned ++ map after_of over
+    pub over_here : has.over ≡ had.over ++ over
+    pub refused_more : now.refused ≡ was.refused + refused
+    pub all_came : came ≡ length more + refused
+
+-- it is told that no seat is free: 7F 40 00 00 is written, or a beginning of it where the device failed or had no turn left
+abbrev pub TellsRefusal : {O : Type 0} → (O → List ℕ) → (O → ℕ) → (O → ℕ) → O → O → Type 0
+TellsRefusal taken calls failures before now = (taken now ≡ taken before ++ refusing 4)
+    ⊎ (GrowsByBeginning (taken before) (taken now) (refusing 4) × ((failures before < failures now) ⊎ AreUsedUp (calls before) (calls now)))
+
+-- no seat was free: nothing was read, and its client was told so
+pub record IsTurnedAway {I O : Type 0} (see : Sight I O) (before after : I × O) : Type 0 where
+  pub unread : after.0 ≡ before.0
+  pub told : TellsRefusal see.taken see.writes see.write_failures before.1 after.1
+
+module _ {I O S : Type 0} (see : Sight I O) (names : List (List ℕ)) where
+  -- a stream that had a seat went by what its reader gives back, which serves these realms
+  abbrev pub Went : Over I O S → Type 0
+  Went (Seated reader ended) = ((arc_value reader.value.plan).realms.items ≡ names) × Reads see reader.value ended.value
+  Went (TurnedAway halves source sink) = IsTurnedAway see halves.value (source.value, sink.value)
+  Went (Untouched halves) = ⊤
+
+  -- Each stream that was lent was let go of: these are they, in the order of that
+  pub record AllWent (lent : List (I × O)) (streams : List (Over I O S)) : Type 0 where
+    pub each : IsPermutation lent (map before_of streams)
+    pub went : All (λ over. ∥ Went over ∥₁) streams

@@ -1,0 +1,37 @@
+-- What a broker served.
+use Rattle.std.specs.Prelude.{◌≡◌, ◌+◌, ℕ, List, [], ◌∷◌, ◌++◌, Result, length, map}
+use Rattle.threaded_server.specs.Answers.{Serves}
+use Rattle.threaded_server.specs.Lending.{Lending}
+use Rattle.threaded_server.specs.Overs.{AllWent, Books, Moves, after_of}
+use Rattle.threaded_server.specs.Streams.{Sight}
+use Rattle.threaded_server.specs.declared.answer.Answer.{Answer}
+use Rattle.threaded_server.specs.declared.answer.Answer.TheVariants.{Came, Stopped, Failed}
+use Rattle.threaded_server.specs.declared.fault.Fault.{Fault}
+use Rattle.threaded_server.specs.declared.over.Over.{Over}
+
+-- how many streams came, by what accepting answered
+abbrev pub came_in : List Answer → ℕ
+came_in [] = 0
+came_in (Came ∷ more) = came_in more + 1
+came_in (Stopped ∷ more) = came_in more
+came_in (Failed ∷ more) = came_in more
+
+module _ {I O S : Type 0} where
+  -- the broker accepted until it was told to stop, or as for `Serves`: what came meanwhile was lent, or couldn't be taken apart
+  pub record LentUntil (before now : List Answer) (was lending : Lending I O) (had has : Books I O S) (result : Result Unit Fault) : Type 0 where
+    pub serves : Serves before now result
+    pub moves : Moves (came_in serves.given) was lending had has
+
+-- Between two states of an acceptor: each stream that came was lent, or couldn't be taken apart; each that was lent was let go of and came back, as its reader left it, or it was told
+-- that no seat is free, or nothing was read or written; and what came back is these, in the order of that
+pub record Served {I O : Type 0} (S : Type 0) (see : Sight I O) (names : List (List ℕ)) (before now : List Answer) (was lending : Lending I O) : Type 0 where
+  pub given : List Answer
+  pub lent : List (I × O)
+  pub streams : List (Over I O S)
+  pub refused : ℕ
+  pub answered : now ≡ before ++ given
+  pub all_came : came_in given ≡ length lent + refused
+  pub refused_are : lending.refused ≡ was.refused + refused
+  pub lent_are : lending.lent ≡ was.lent ++ lent
+  pub returned_are : lending.returned ≡ was.returned ++ map after_of streams
+  pub went : AllWent see names lent streams

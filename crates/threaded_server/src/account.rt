@@ -1,0 +1,58 @@
+//! The streams that an acceptor gives away.
+ghost use Rattle.std.specs.Prelude.{◌≡◌, [], ◌∷◌, ◌++◌};
+ghost use Rattle.threaded_server.specs.Lending.{lending_of, none_lent, with_lent, with_refused, with_returned};
+
+use crate::acceptor::Parts;
+use crate::closed::Closed;
+use ghost_state::{GhostCount, GhostList};
+use std::snapshot::Snapshot;
+
+/// Which streams an acceptor gave away, and which of them were let go of. It takes no bytes: contracts alone see it.
+#[derive(Drop)]
+pub struct Account<I, O> {
+    lent: GhostList<(I, O)>,
+    returned: GhostList<(Snapshot<I>, Snapshot<O>)>,
+    refused: GhostCount,
+}
+
+impl<I: Drop, O: Drop> Account<I, O> {
+    /// Nothing was given away.
+    pub fn new() -> Account<I, O>
+        ensures { lending_of result ≡ none_lent }
+    {
+        Account {
+            lent: GhostList::new(),
+            returned: GhostList::new(),
+            refused: GhostCount::new(),
+        }
+    }
+
+    /// A stream is given away, taken apart.
+    pub fn lend<S>(&mut self, parts: Parts<I, O, S>) -> Parts<I, O, S>
+        ensures lending { lending_of self.new
+            ≡ with_lent (lending_of self.old) (parts.source, parts.sink) }
+        ensures same { result ≡ parts }
+    {
+        let Parts { source, sink, shut } = parts;
+        let halves = (source, sink);
+        self.lent.add(Snapshot::of(&halves));
+        let (source, sink) = halves;
+        Parts { source, sink, shut }
+    }
+
+    /// A stream couldn't be taken apart.
+    pub fn refuse(&mut self)
+        ensures { lending_of self.new ≡ with_refused (lending_of self.old) }
+    {
+        self.refused.tick();
+    }
+
+    /// Both halves of a stream were let go of.
+    pub fn take_back(&mut self, source: Closed<I>, sink: Closed<O>)
+        ensures { lending_of self.new
+            ≡ with_returned (lending_of self.old) (source.last.value, sink.last.value) }
+    {
+        let halves = (source.into_last(), sink.into_last());
+        self.returned.add(Snapshot::of(&halves));
+    }
+}

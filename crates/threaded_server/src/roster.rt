@@ -1,0 +1,167 @@
+//! Who is served, and what became of the others.
+ghost use Rattle.std.specs.Prelude.{◌≡◌, [], ◌∷◌, ◌++◌, true, None, Some, List, length, map, set, slice_get, All, IfOk, MatchOption, IsPermutation};
+ghost use Rattle.std.specs.Option.{ForSome};
+ghost use Rattle.ghost_state.specs.GhostList.{items_of};
+ghost use Rattle.threaded_server.specs.Overs.{Adds, AllWent, Went, after_of, before_of, sink_of};
+ghost use Rattle.threaded_server.specs.Roster.{halves_of, IsOfPlan};
+ghost use Rattle.threaded_server.specs.Slots.{Balances, in_slots};
+ghost use Rattle.threaded_server.specs.Streams.{Sight, sight};
+
+use crate::entry::Connection;
+use crate::over::Over;
+use crate::overs::Overs;
+use crate::plan::Plan;
+use crate::reader_thread::Ended;
+use ghost_state::GhostList;
+use rawsocket::devices::{Sink, Source};
+use realm_inbox::Shut;
+use std::alloc::{AllocError, Global};
+use std::snapshot::Snapshot;
+use std::sync::Wait;
+use std::sync::atomic::Ordering;
+use std::thread::Threads;
+use wamp_ids::{Conn, SEATS};
+
+/// The streams that were lent: by seat those that are served, and what became of the others, which takes no bytes.
+#[derive(Drop)]
+pub struct Roster<
+    I: Source + Drop + Send + 'static,
+    O: Sink + Drop + Send + 'static,
+    S: Shut + Send + 'static,
+> {
+    entries: Vec<Option<Connection<I, O, S>>>,
+    lent: GhostList<(I, O)>,
+    over: Overs<I, O, S>,
+    ghost own: { All (λ slot. ForSome slot (λ entry. IsOfPlan over.plan.value entry)) entries.items },
+    ghost balance: { ∥ Balances (items_of lent) (map before_of (items_of over.streams)) (map halves_of (in_slots entries.items)) ∥₁ },
+}
+
+impl<
+    I: Source + Drop + Send + 'static,
+    O: Sink + Drop + Send + 'static,
+    S: Shut + Send + 'static,
+> Roster<I, O, S> {
+    /// Nobody is served, and nothing was lent.
+    pub fn new(alloc: Global, plan: &Plan) -> Result<Roster<I, O, S>, AllocError>
+        ensures plan { IfOk result (λ r. r.over.plan.value ≡ plan.now) }
+        ensures lent { IfOk result (λ r. items_of r.lent ≡ []) }
+        ensures over { IfOk result (λ r. items_of r.over.streams ≡ []) }
+    {
+        Ok(Roster {
+            entries: no_entries(alloc)?,
+            lent: GhostList::new(),
+            over: Overs::new(plan),
+        })
+    }
+
+    /// How many places there are.
+    pub fn places(&self) -> usize
+        ensures { result ≡ length self.now.entries.items }
+    {
+        self.entries.len()
+    }
+
+    /// Whether nobody is at this place.
+    pub fn is_free(&self, place: usize) -> bool
+        ensures { result ≡ true → slice_get self.now.entries.items place ≡ Some None }
+    {
+        match self.entries.get(place) {
+            Some(None) => true,
+            _ => false,
+        }
+    }
+
+    /// Whether the connection at this place is over, but for the end of its thread.
+    pub fn is_over(&self, place: usize) -> bool {
+        match self.entries.get(place) {
+            Some(Some(entry)) => entry.shared.is_over.load(Ordering::SeqCst),
+            _ => false,
+        }
+    }
+
+    /// Those that are served.
+    pub fn entries(&self) -> &[Option<Connection<I, O, S>>] {
+        &self.entries
+    }
+
+    /// A stream is served from now on, at a place that is free.
+    pub fn seat(&mut self, place: usize, halves: Snapshot<(I, O)>, entry: Connection<I, O, S>)
+        requires free { slice_get self.old.entries.items place ≡ Some None }
+        requires plan { IsOfPlan self.old.over.plan.value entry }
+        requires halves { halves.value ≡ halves_of entry }
+        ensures plan { self.new.over.plan ≡ self.old.over.plan }
+        ensures lent { items_of self.new.lent ≡ items_of self.old.lent ++ halves_of entry ∷ [] }
+        ensures over { items_of self.new.over.streams ≡ items_of self.old.over.streams }
+    {
+        self.lent.add(halves);
+        self.entries[place] = Some(entry);
+    }
+
+    /// A stream that was lent isn't served.
+    pub fn pass(&mut self, halves: Snapshot<(I, O)>, over: Snapshot<Over<I, O, S>>)
+        requires halves { halves.value ≡ before_of over.value }
+        requires went { Went (sight I.given I.is_ended I.calls I.failures O.taken O.calls O.failures)
+            self.old.over.plan.value.realms.items over.value }
+        ensures plan { self.new.over.plan ≡ self.old.over.plan }
+        ensures lent { items_of self.new.lent ≡ items_of self.old.lent ++ halves.value ∷ [] }
+        ensures over { items_of self.new.over.streams ≡ items_of self.old.over.streams ++ over.value ∷ [] }
+    {
+        self.lent.add(halves);
+        self.over.add(over);
+    }
+
+    /// Waits for the reader of the connection at this place, if there is one, and gives back what that gives.
+    pub fn join<R: Threads + Wait>(
+        &mut self,
+        rt: &R,
+        place: usize,
+    ) -> Option<(Conn, Ended<I, O, S>)>
+        ensures plan { self.new.over.plan ≡ self.old.over.plan }
+        ensures lent { items_of self.new.lent ≡ items_of self.old.lent }
+        ensures over { MatchOption result (items_of self.new.over.streams ≡ items_of self.old.over.streams)
+            (λ r. Adds (items_of self.old.over.streams) (items_of self.new.over.streams)
+            (r.1.source.last.value, (sink_of r.1.course).last.value)) }
+        ensures entries { self.new.entries.items ≡ set self.old.entries.items place None }
+    {
+        let slot = self.entries.get_mut(place)?;
+        let entry = match slot.take() {
+            Some(entry) => entry,
+            None => return None,
+        };
+        let Connection {
+            conn,
+            shared: _,
+            began,
+            reader,
+        } = entry;
+        let ended = reader.join(rt);
+        let over = Over::Seated(began, Snapshot::of(&ended));
+        self.over.add(Snapshot::of(&over));
+        Some((conn, ended))
+    }
+
+    /// Nobody is served any more: each stream that was lent is over.
+    pub fn shows_all_over(&self)
+        requires { All (λ slot. slot ≡ None) self.now.entries.items }
+        ensures { ∥ AllWent (sight I.given I.is_ended I.calls I.failures O.taken O.calls O.failures)
+            self.now.over.plan.value.realms.items (items_of self.now.lent) (items_of self.now.over.streams) ∥₁ }
+    {
+        self.over.shows();
+        let _ = &self.lent;
+    }
+}
+
+// A place for each seat, and nobody there.
+fn no_entries<
+    I: Source + Drop + Send + 'static,
+    O: Sink + Drop + Send + 'static,
+    S: Shut + Send + 'static,
+>(alloc: Global) -> Result<Vec<Option<Connection<I, O, S>>>, AllocError>
+    ensures { IfOk result (λ v. All (λ slot. slot ≡ None) v.items) }
+{
+    let mut entries = Vec::with_capacity(alloc, SEATS as usize)?;
+    for _ in 0..SEATS {
+        entries.push(None)?;
+    }
+    Ok(entries)
+}
