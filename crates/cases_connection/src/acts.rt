@@ -31,6 +31,8 @@ impl Shut for Nowhere {
 pub struct Log {
     acts: Vec<Act<Nowhere>>,
     room: usize,
+    // The most octets that one of them counted for.
+    heaviest: usize,
 }
 
 impl Log {
@@ -39,6 +41,7 @@ impl Log {
         Ok(Log {
             acts: Vec::with_capacity(alloc, ROOM)?,
             room: room.min(ROOM),
+            heaviest: 0,
         })
     }
 
@@ -51,6 +54,11 @@ impl Log {
             words.push('\n')?;
         }
         Ok(words)
+    }
+
+    /// The most octets that one of them counted for.
+    pub fn heaviest(&self) -> usize {
+        self.heaviest
     }
 
     /// How many they are.
@@ -91,13 +99,14 @@ impl Posting<Nowhere> for Log {
         &mut self,
         _rt: &R,
         act: Act<Nowhere>,
-        _octets: usize,
+        octets: usize,
     ) -> Result<(), Act<Nowhere>>
         requires { is_join act ≡ false }
         ensures { MatchResult result (λ _. outside self.new.acts.items
             ≡ with_acts (outside self.old.acts.items) (act ∷ [])) (λ back. (back ≡ act)
             × (outside self.new.acts.items ≡ outside self.old.acts.items)) }
     {
+        self.heaviest = self.heaviest.max(octets);
         self.add(act)
     }
 }

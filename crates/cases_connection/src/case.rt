@@ -62,6 +62,8 @@ impl Case {
                 let octets = octets_of(alloc, text)?;
                 self.stream.octets.extend_from_slice(octets.as_slice())?
             }
+            "publish" => self.add_long("[16,7,{},\"", text)?,
+            "subscribe" => self.add_long("[32,7,{},\"", text)?,
             "enter" => self.enter(text)?,
             "room" => self.stream.room = number_of(text) as usize,
             "fails" => self.devices.failing = number_of(text),
@@ -70,6 +72,12 @@ impl Case {
             _ => return line_of(alloc, "no case has this word"),
         }
         Ok(String::new(alloc))
+    }
+
+    // Adds a request whose topic or pattern has so many letters, behind what it begins with.
+    fn add_long(&mut self, before: &str, letters: &str) -> Result<(), AllocError> {
+        let letters = number_of(letters) as usize;
+        self.stream.add_long(before, letters, "\"]")
     }
 
     fn owe(&mut self, alloc: Global, line: &str) -> io::Result<()> {
@@ -116,6 +124,12 @@ impl Case {
                 return self
                     .stream
                     .read(rt, alloc, in_use, self.client, self.devices);
+            }
+            "weigh" => {
+                let in_use = self.sessions.in_use();
+                return self
+                    .stream
+                    .weigh(rt, alloc, in_use, self.client, self.devices);
             }
             "reads" => {
                 let in_use = self.sessions.in_use();

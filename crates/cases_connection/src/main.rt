@@ -7,11 +7,13 @@
 //!   LETTER`, an EVENT with one text of so many letters; `published REQUEST PUBLICATION`, `pong TEXT`, `goodbye`.
 //! - `write` writes all that, and tells what the device got and how it ended.
 //! - `early TEXT`: octets that the opening of the session read behind HELLO; `octets TEXT`: those that come after. `\7f` is an octet.
+//! - `publish N`, `subscribe N`: octets that come after, of a request whose topic or pattern has so many letters.
 //! - `room N`: how many acts are received before they come back.
 //! - `enter SERIALIZER`: a session of the realm is live that uses it; `leave`: the last that entered ends. `shared` tells what two of
 //!   them use, or more. `crossing`: what may go to other threads.
 //! - `forward` reads the octets, and what they publish is owed, as EVENTs of subscription 1 and publication 3.
 //! - `read` reads the octets, and tells what was posted and how it ended.
+//! - `weigh` reads the octets, and tells for how many octets the heaviest post counts while it waits.
 //! - `pongs COUNT OCTETS FIRST WRITTEN SECOND`: a thread posts so many PINGs of so many octets. Once so many of them are posted, so many PONGs are
 //!   written; and once so many PINGs are posted, their writer ends. What is told is how many were posted each time.
 //! - `slowly`: devices give and take one octet at a time. `held`: the device written to holds octets back until it is told to pass them

@@ -56,6 +56,23 @@ impl Stream {
         }
     }
 
+    /// Adds a message whose topic or pattern has so many letters, between what stands before and behind it.
+    pub fn add_long(
+        &mut self,
+        before: &str,
+        letters: usize,
+        behind: &str,
+    ) -> Result<(), AllocError> {
+        let others = before.len().saturating_add(behind.len());
+        let length = letters.saturating_add(others) as u32;
+        self.octets.extend_from_slice(&length.to_be_bytes())?;
+        self.octets.extend_from_slice(before.as_bytes())?;
+        for _ in 0..letters {
+            self.octets.push(b'a')?;
+        }
+        self.octets.extend_from_slice(behind.as_bytes())
+    }
+
     // Posts what the octets say.
     fn run<R: Wait>(
         &self,
@@ -95,6 +112,24 @@ impl Stream {
         let posted = log.told(alloc)?;
         let end = in_words(alloc, end)?;
         Ok(format!(in alloc; "{posted}{end}")?)
+    }
+
+    /// Posts what the octets say, and tells for how many octets the heaviest post counted.
+    pub fn weigh<R: Wait>(
+        &self,
+        rt: &R,
+        alloc: Global,
+        in_use: &InUse,
+        client: Client,
+        devices: Devices,
+    ) -> io::Result<String> {
+        match self.run(rt, alloc, in_use, client, devices)? {
+            (_, ReadEnd::NoMemory) => Err(AllocError)?,
+            (log, _) => {
+                let heaviest = log.heaviest();
+                Ok(format!(in alloc; "the heaviest weighs {heaviest}\n")?)
+            }
+        }
     }
 
     /// The arguments of what the octets publish, as they are posted.

@@ -15,6 +15,7 @@ mod in_use;
 mod pongs;
 mod reader;
 mod seats;
+mod weight;
 mod writer;
 
 pub use encoding_poster::EncodingPoster;

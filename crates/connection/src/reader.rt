@@ -9,6 +9,7 @@ ghost use Rattle.realm_inbox.specs.Posted.{with_acts};
 ghost use Rattle.connection.specs.Posts.{Says, SaysNothing, is_farewell};
 ghost use Rattle.connection.specs.Reader.{IsPosted, IsAdvance, PostsFront, IsReadUpTo, IsReadBy, ReadsSince, ReadsUntil, Departs, batch, read_told, start, taking};
 
+use crate::weight::weight_of;
 use message_tree::Octets;
 use rawsocket::devices::{NoOctets, PIECE, Source, Turns, read_piece};
 use rawsocket::{Deframer, Frame, Kind, Serializer, next_frame};
@@ -106,7 +107,8 @@ fn post_message<R: Wait, S: Shut, P: Posting<S>>(
         }
     };
     let last = is_last(&said);
-    if let Err(end) = post(rt, poster, Act::Said(said), payload.len()) {
+    let octets = weight_of(&said, payload.len());
+    if let Err(end) = post(rt, poster, Act::Said(said), octets) {
         return Err(end);
     }
     if last {
