@@ -11,7 +11,6 @@ REALM = "r.one"
 WELCOME, PUBLISHED, SUBSCRIBED, EVENT = 2, 17, 33, 36
 FILL = "@"
 KEPT, KEPT_LETTERS = 1000, 1000
-COMPONENTS = 500_000
 HELD_PATTERNS = 256
 
 
@@ -268,15 +267,15 @@ def exclude_many(these, times):
     publisher.ask([32, 2, {}, "all.was.read"], SUBSCRIBED)
 
 
-def publish_deep(these, times):
-    """Each pattern fits the topic up to the last component."""
+def publish_deep(these, components, times):
+    """Each pattern fits the topic, of so many components, up to the last one."""
     holder, publisher = these.join(2)
-    octets = frame(these.serializer, [32, 1, {"match": "wildcard"}, "." * (COMPONENTS - 1) + "NNN"])
+    octets = frame(these.serializer, [32, 1, {"match": "wildcard"}, "." * (components - 1) + "NNN"])
     for number in range(HELD_PATTERNS):
         holder.send(octets.replace(b"NNN", b"%03d" % number, 1))
     for _ in range(HELD_PATTERNS):
         holder.hear(SUBSCRIBED)
-    octets = frame(these.serializer, [16, 1, {}, "a." * (COMPONENTS - 1) + "b", []])
+    octets = frame(these.serializer, [16, 1, {}, "a." * (components - 1) + "b", []])
     for _ in range(times):
         publisher.send(octets)
     publisher.ask([32, 2, {}, "all.was.read"], SUBSCRIBED)
