@@ -8,7 +8,7 @@ ghost use Rattle.client.specs.Wishes.{subscribe_options};
 ghost use Rattle.client.specs.declared.heard.Heard.TheVariants.{Subscribed as SubscribedHeard};
 ghost use Rattle.client_commands.specs.Acts.{Follows, Prints, PrintsAfterAsking, Subscribes, asked, granted_with, is_event, line_for, note_for, standing, terms_of};
 ghost use Rattle.client_commands.specs.Notes.{IsNoted, noting};
-ghost use Rattle.client_commands.specs.Faults.{AreFailuresTold, IsOfHere, output_told, sink_told, source_told};
+ghost use Rattle.client_commands.specs.Faults.{AreFailuresTold, IsOfBroker, IsOfHere, output_told, sink_told, source_told};
 
 use crate::command::SubscribeCommand;
 use crate::event_lines::event_line;
@@ -113,6 +113,7 @@ fn take_grant<N: Sink>(
     ensures untold { OnErr result (noting (N.taken notes.new) (N.failures notes.new)
         ≡ noting (N.taken notes.old) (N.failures notes.old)) }
     ensures here { IfErr result IsOfHere }
+    ensures aside { IfErr result IsOfBroker }
 {
     let topic = match grant(topics, granted, request, subscription) {
         Ok(topic) => topic,

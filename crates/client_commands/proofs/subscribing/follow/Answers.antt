@@ -1,11 +1,26 @@
-use Rattle.std.proofs.Common.{◌∷◌, ◌++◌, ◌∙◌, ap, arith}
-use Rattle.rawsocket.proofs.Lemmas.{then_steps}
+use Rattle.std.proofs.Common.{[], ◌∷◌, ◌++◌, ◌∙◌, ap, append-nil, arith, refl, rules, sym}
+use Rattle.rawsocket.proofs.Lemmas.{all_turns, then_steps}
 use Rattle.client_commands.specs.Acts.{granted_with, line_for, standing, terms_of}
 use Rattle.client_commands.specs.Notes.{noting}
 use Rattle.client_commands.proofs.ListeningLemmas.{counted-event, counted-other, listens-more, printed-more}
-use Rattle.client_commands.proofs.NotingLemmas.{noted-more}
+use Rattle.client_commands.proofs.NotingLemmas.{noted-more, none-noted}
 use Rattle.client_commands.proofs.subscribing.follow.Goals as goal
 use Rattle.client_commands.proofs.subscribing.follow.Goals.{then-event, else-event}
+
+pub messages-init : goal.messages-init
+messages-init g c = record {
+  heards = [];
+  listens = refl;
+  lines = sym (append-nil (g.P.Sink.taken c.args.output.now));
+  notes_are = none-noted (noting (g.N.Sink.taken c.args.notes.now) (g.N.Sink.failures c.args.notes.now)) (noting (g.N.Sink.taken c.args.notes.now) (g.N.Sink.failures c.args.notes.now)) refl;
+  granted_are = search rules;
+  counted = refl;
+  few = omega arith;
+  terms = refl;
+  reads = refl;
+  writes = refl;
+  steps = all_turns c.new-turns.ensures;
+}
 
 pub messages-preserved : goal.messages-preserved
 messages-preserved g c = record {
