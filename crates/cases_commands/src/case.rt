@@ -4,7 +4,7 @@ use crate::told::Outcome;
 use crate::values::value;
 use case_text::{Table, is_refused, line_of, number_of, octets_of};
 use client_commands::{
-    Arguments, Contact, PublishCommand, PublishWishes, Serializer, SubscribeCommand,
+    Arguments, Contact, Fault, PublishCommand, PublishWishes, Serializer, SubscribeCommand,
     SubscribeWishes, publish, subscribe, value_of,
 };
 use message_tree::{Content, Text, Tree};
@@ -25,6 +25,7 @@ struct Failing {
     write: u64,
     input: u64,
     output: u64,
+    notes: u64,
 }
 
 /// No call fails.
@@ -33,6 +34,7 @@ const NONE: Failing = Failing {
     write: u64::MAX,
     input: u64::MAX,
     output: u64::MAX,
+    notes: u64::MAX,
 };
 
 impl Failing {
@@ -42,6 +44,7 @@ impl Failing {
             "read" => self.read = call,
             "write" => self.write = call,
             "input" => self.input = call,
+            "notes" => self.notes = call,
             _ => self.output = call,
         }
         self
@@ -250,34 +253,22 @@ impl Case {
         let input = MemorySource::new(self.input.as_slice().to_vec(alloc)?);
         let output = WriteSink::new(Vec::with_capacity(alloc, ROOM)?);
         let mut input = FailsAt::new(input, failing.input);
+        let notes = WriteSink::new(Vec::with_capacity(alloc, ROOM)?);
         let mut output = FailsAt::new(output, failing.output);
-        let end = self.run_on(alloc, command, source, sink, &mut input, &mut output)?;
-        let printed = output.device.writer().as_slice().to_vec(alloc)?;
+        let mut notes = FailsAt::new(notes, failing.notes);
+        let ran = match command {
+            "subscribe" => {
+                let command = self.subscribing(alloc)?;
+                subscribe(alloc, &command, source, sink, &mut output, &mut notes)
+            }
+            _ => publish(alloc, &self.publishing(alloc)?, source, sink, &mut input),
+        };
         Ok(Outcome {
             written: Vec::new(alloc),
-            printed,
-            end,
+            noted: notes.device.writer().as_slice().to_vec(alloc)?,
+            printed: output.device.writer().as_slice().to_vec(alloc)?,
+            end: end_of(alloc, ran)?,
         })
-    }
-
-    /// Runs a command on these devices, and gives what came last.
-    fn run_on<I: Source, O: Sink, J: Source, P: Sink>(
-        &self,
-        alloc: Global,
-        command: &str,
-        source: &mut I,
-        sink: &mut O,
-        input: &mut J,
-        output: &mut P,
-    ) -> io::Result<String> {
-        let result = match command {
-            "subscribe" => subscribe(alloc, &self.subscribing(alloc)?, source, sink, output),
-            _ => publish(alloc, &self.publishing(alloc)?, source, sink, input),
-        };
-        match result {
-            Ok(()) => Ok(String::from_str(alloc, "ended well")?),
-            Err(fault) => Ok(format!(in alloc; "{fault}")?),
-        }
     }
 
     fn contact(&self, alloc: Global) -> io::Result<Contact> {
@@ -340,6 +331,14 @@ impl Case {
             values.push(value_of(alloc, word.as_str())?)?;
         }
         Ok(Arguments::Words(Content::of(Tree::List(values))))
+    }
+}
+
+/// What came last.
+fn end_of(alloc: Global, ran: Result<(), Fault>) -> io::Result<String> {
+    match ran {
+        Ok(()) => Ok(String::from_str(alloc, "ended well")?),
+        Err(fault) => Ok(format!(in alloc; "{fault}")?),
     }
 }
 

@@ -9,11 +9,12 @@
 //! - What the broker sends: `octets TEXT`, where `\7f` is an octet; `message TEXT`, `ping TEXT`, `pong TEXT`: a frame of these octets;
 //!   `first N`: only so many of the octets.
 //! - How devices behave: `slowly`, one octet at a time; `read N fails`, `write N fails` for the broker's stream, `input N fails`,
-//!   `output N fails` for the standard streams. Reads, writes and flushes are counted from 0.
+//!   `output N fails`, `notes N fails` for the standard streams. Reads, writes and flushes are counted from 0.
 //! - `repeat N LETTER`: the input has so many of this octet more.
-//! - `subscribe`, `publish`: runs the command; tells what was written to the broker, what was printed, and what came last.
+//! - `subscribe`, `publish`: runs the command; tells what was written to the broker, what was noted on standard error, what was printed, and what
+//!   came last.
 //! - `sweep COMMAND DEVICE`, as in `sweep subscribe read`: runs it so for each call that fails, the first one first, until none does,
-//!   and says how many octets were written and printed, and what came last: a line for those that come to the same.
+//!   and says how many octets were written, noted and printed, and what came last: a line for those that come to the same.
 #![tactic(auto)]
 
 mod case;

@@ -1,4 +1,5 @@
 pub mod EntriesLemmas
 pub mod FaultLemmas
 pub mod ListeningLemmas
+pub mod NotingLemmas
 pub mod PublishingLemmas

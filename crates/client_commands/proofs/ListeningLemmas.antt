@@ -7,7 +7,8 @@ use Rattle.client.specs.declared.wishes.SubscribeWishes.{SubscribeWishes}
 use Rattle.client.specs.declared.heard.Heard.{Heard}
 use Rattle.client_session.specs.Hearing.{Ear, HearsNext, Terms, ear}
 use Rattle.client_session.specs.Sessions.{Welcomed}
-use Rattle.client_commands.specs.Acts.{Asks, Joins, Listens, asked, events, is_event, line_for, printed, granted, standing, terms_of, writing}
+use Rattle.client_commands.specs.Acts.{Asks, Joins, Listens, Prints, PrintsAfterAsking, asked, events, is_event, line_for, printed, granted, standing, terms_of, writing}
+use Rattle.client_commands.specs.Notes.{Noting}
 
 -- nothing is heard yet, and this is written
 pub listens-none : (t : Terms) (s : Welcomed) (given taken octets now : List ℕ) → now ≡ taken ++ octets → Listens t (writing (standing s given taken) octets) (standing s given now) []
@@ -43,4 +44,16 @@ asked-all s u realm authid wishes topics before session given taken now joins is
   joins = joins;
   terms_are = refl;
   asks = ap (λ x. ear session.line.waiting session.line.held given x) (wrote ∙ ap (λ v. taken ++ asked v wishes topics (length topics)) (is ∙ joins.serializer));
+}
+
+-- and what was printed and told behind that
+pub printed-after : (s u : Serializer) (realm : List ℕ) (authid : Option (List ℕ)) (wishes : SubscribeWishes) (topics : List (List ℕ)) (before : Exchange) (session : Welcomed) (given taken now lines_before lines : List ℕ) (notes_before notes : Noting)
+    → Joins s realm authid before (exchange given taken) session → u ≡ session.line.serializer → now ≡ taken ++ asked u wishes topics (length topics)
+    → Prints topics (terms_of session) (standing session given now) lines_before lines notes_before notes
+    → PrintsAfterAsking s realm authid wishes topics before lines_before lines notes_before notes
+printed-after s u realm authid wishes topics before session given taken now lines_before lines notes_before notes joins is wrote prints = record {
+  t = terms_of session;
+  asking = standing session given now;
+  asks = asked-all s u realm authid wishes topics before session given taken now joins is wrote;
+  prints = prints;
 }

@@ -18,6 +18,7 @@ use Rattle.client_session.specs.Hearing.{Ear, HearsNext, Terms, ear, heard_at, t
 use Rattle.client_session.specs.Saying.{saying}
 use Rattle.client_session.specs.Sessions.{Welcomed}
 use Rattle.client_commands.specs.EventLine.{event_line}
+use Rattle.client_commands.specs.Notes.{IsNoted, Noting, note_of}
 use Rattle.client_commands.specs.declared.grants.Granted.{Granted}
 
 -- the terms of a session
@@ -91,6 +92,15 @@ abbrev pub printed : List (List ℕ) → List Heard → List ℕ
 printed topics [] = []
 printed topics (heard ∷ heards) = printed topics heards ++ line_for topics (granted heards) heard
 
+-- what is noted of what is heard: the topic whose subscription is given, and nothing else
+abbrev pub note_for : List (List ℕ) → Heard → List ℕ
+note_for topics (Subscribed request n) = note_of (topic_at topics (Some request))
+note_for topics _ = []
+
+abbrev pub noted : List (List ℕ) → List Heard → List ℕ
+noted topics [] = []
+noted topics (heard ∷ heards) = noted topics heards ++ note_for topics heard
+
 abbrev pub is_event : Heard → Bool
 is_event (Event n publication details args) = true
 is_event _ = false
@@ -99,11 +109,12 @@ abbrev pub events : List Heard → ℕ
 events [] = 0
 events (heard ∷ heards) = if is_event heard then events heards + 1 else events heards
 
--- how `subscribe` hears and prints until its count is reached
-pub record Follows (topics : List (List ℕ)) (count : Option ℕ) (t : Terms) (before now : Ear) (lines_before lines : List ℕ) : Type 0 where
+-- how `subscribe` hears, prints and notes until its count is reached
+pub record Follows (topics : List (List ℕ)) (count : Option ℕ) (t : Terms) (before now : Ear) (lines_before lines : List ℕ) (notes_before notes : Noting) : Type 0 where
   pub heards : List Heard
   pub listens : Listens t before now heards
   pub lines_are : lines ≡ lines_before ++ printed topics heards
+  pub noted_are : IsNoted (noted topics heards) notes_before notes
   pub counted : count ≡ Some (events heards)
 
 -- of the line of what is heard next a beginning is printed
@@ -113,13 +124,14 @@ pub record PrintsPartly (topics : List (List ℕ)) (t : Terms) (heards : List He
   pub hears : HearsNext t now after (Ok next)
   pub begun : GrowsByBeginning lines_before lines (line_for topics (granted heards) next)
 
--- what is printed are the lines of what was heard, the last line perhaps in part
-pub record Prints (topics : List (List ℕ)) (t : Terms) (before : Ear) (lines_before lines : List ℕ) : Type 0 where
+-- what is printed are the lines of what was heard, the last line perhaps in part, and what is noted are the notes of it
+pub record Prints (topics : List (List ℕ)) (t : Terms) (before : Ear) (lines_before lines : List ℕ) (notes_before notes : Noting) : Type 0 where
   pub heards : List Heard
   pub now : Ear
   pub listens : Listens t before now heards
   pub lines_are :
       (lines ≡ lines_before ++ printed topics heards) ⊎ PrintsPartly topics t heards now (lines_before ++ printed topics heards) lines
+  pub noted_are : IsNoted (noted topics heards) notes_before notes
 
 -- a session was joined, and the topics asked for
 pub record Asks (s : Serializer) (realm : List ℕ) (authid : Option (List ℕ)) (wishes : SubscribeWishes) (topics : List (List ℕ)) (before : Exchange) (asking : Ear) (t : Terms) : Type 0 where
@@ -130,23 +142,23 @@ pub record Asks (s : Serializer) (realm : List ℕ) (authid : Option (List ℕ))
   pub asks : asking ≡ writing (standing session joined.given joined.taken) (asked s wishes topics (length topics))
 
 -- what `subscribe` did that ended by its count
-pub record Subscribes (s : Serializer) (realm : List ℕ) (authid : Option (List ℕ)) (wishes : SubscribeWishes) (topics : List (List ℕ)) (count : Option ℕ) (before now : Exchange) (lines_before lines : List ℕ) : Type 0 where
+pub record Subscribes (s : Serializer) (realm : List ℕ) (authid : Option (List ℕ)) (wishes : SubscribeWishes) (topics : List (List ℕ)) (count : Option ℕ) (before now : Exchange) (lines_before lines : List ℕ) (notes_before notes : Noting) : Type 0 where
   pub t : Terms
   pub asking : Ear
   pub asks : Asks s realm authid wishes topics before asking t
   pub heard : Ear
-  pub follows : Follows topics count t asking heard lines_before lines
+  pub follows : Follows topics count t asking heard lines_before lines notes_before notes
   pub left : Ear
   pub leaves : Leaves t heard left
   pub given : now.given ≡ left.given
   pub taken : now.taken ≡ left.taken
 
--- what `subscribe` printed that failed after it had asked
-pub record PrintsAfterAsking (s : Serializer) (realm : List ℕ) (authid : Option (List ℕ)) (wishes : SubscribeWishes) (topics : List (List ℕ)) (before : Exchange) (lines_before lines : List ℕ) : Type 0 where
+-- what `subscribe` printed and noted that failed after it had asked
+pub record PrintsAfterAsking (s : Serializer) (realm : List ℕ) (authid : Option (List ℕ)) (wishes : SubscribeWishes) (topics : List (List ℕ)) (before : Exchange) (lines_before lines : List ℕ) (notes_before notes : Noting) : Type 0 where
   pub t : Terms
   pub asking : Ear
   pub asks : Asks s realm authid wishes topics before asking t
-  pub prints : Prints topics t asking lines_before lines
+  pub prints : Prints topics t asking lines_before lines notes_before notes
 
 -- a publication was said, and where an acknowledgement was asked for, it was heard next
 abbrev pub Acknowledges : Bool → Terms → ℕ → Ear → Ear → Type 0

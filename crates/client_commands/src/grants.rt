@@ -1,6 +1,6 @@
 //! Which subscription is of which topic.
-ghost use Rattle.std.specs.Prelude.{◌≡◌, ◌≤◌, IfErr, IfSome, OnOk, length, true};
-ghost use Rattle.client_commands.specs.Acts.{granted_with, request_of, topic_told};
+ghost use Rattle.std.specs.Prelude.{◌≡◌, ◌≤◌, IfErr, IfOk, IfSome, OnOk, Some, length, true};
+ghost use Rattle.client_commands.specs.Acts.{granted_with, request_of, topic_at, topic_told};
 ghost use Rattle.client_commands.specs.Faults.{IsOfBroker, IsOfHere};
 ghost use Rattle.client.specs.declared.heard.Heard.TheVariants.{Subscribed as SubscribedHeard};
 
@@ -16,30 +16,37 @@ pub(crate) struct Granted {
     pub(crate) request: Id,
 }
 
-/// Whether a request may be answered: it was made, and isn't answered yet.
-fn is_open(topics: &Vec<Text>, granted: &Vec<Granted>, request: Id) -> bool {
+/// The topic of a request that may be answered: it was made, and isn't answered yet.
+fn open_topic<'a>(topics: &'a Vec<Text>, granted: &Vec<Granted>, request: Id) -> Option<&'a Text>
+    ensures { IfSome result (λ topic. topic.now ≡ topic_at topics.now.items (Some request)) }
+{
     let number = request.value();
-    number <= topics.len() as u64 && granted.iter().all(|one| one.request.value() != number)
+    if granted.iter().any(|one| one.request.value() == number) {
+        return None;
+    }
+    topics.get((number - 1) as usize)
 }
 
-/// Notes a subscription.
+/// Adds a subscription, and gives its topic.
 ///
 /// # Errors
 /// [`Fault::Unexpected`] where the request was never made or is answered, [`Fault::NoMemory`].
-pub(crate) fn grant(
-    topics: &Vec<Text>,
+pub(crate) fn grant<'a>(
+    topics: &'a Vec<Text>,
     granted: &mut Vec<Granted>,
     request: Id,
     subscription: Id,
-) -> Result<(), Fault>
+) -> Result<&'a Text, Fault>
     ensures noted { OnOk result (granted.new.items
         ≡ granted_with granted.old.items (SubscribedHeard request subscription)) }
+    ensures topic { IfOk result (λ topic.
+        topic.now ≡ topic_at topics.now.items (Some request)) }
     ensures here { IfErr result IsOfHere }
     ensures aside { IfErr result IsOfBroker }
 {
-    if !is_open(topics, granted, request) {
+    let Some(topic) = open_topic(topics, granted, request) else {
         return Err(Fault::Unexpected);
-    }
+    };
     if granted
         .push(Granted {
             subscription,
@@ -49,7 +56,7 @@ pub(crate) fn grant(
     {
         return Err(Fault::NoMemory);
     }
-    Ok(())
+    Ok(topic)
 }
 
 /// The request that first gave a subscription.

@@ -2,7 +2,8 @@
 //!
 //! It stands on `client_session` for the session with a broker, on `client` for wishes, and on `json_codec` for the values that are
 //! read and printed. Contracts say what is said to the broker and in which order, which line is printed for which event, and that
-//! each failure of a device is told, with nothing tried again after it. Command lines, sockets and threads are for the crates above.
+//! each failure of a device is told, with nothing tried again after it; the device that notes go to is the one whose failures are
+//! passed over. Command lines, sockets and threads are for the crates above.
 #![tactic(auto)]
 
 mod command;
@@ -14,12 +15,13 @@ mod joining;
 mod leaving;
 mod line_input;
 mod message_args;
+mod noting;
 mod publishing;
 mod subscribing;
 mod value;
 
 pub use client::{PublishWishes, SubscribeWishes};
-pub use client_session::Serializer;
+pub use client_session::{Fault as LinkFault, Serializer};
 pub use command::{Arguments, Contact, PublishCommand, SubscribeCommand};
 pub use event_lines::event_line;
 pub use fault::Fault;

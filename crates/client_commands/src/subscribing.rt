@@ -1,12 +1,14 @@
 //! `subscribe`.
-ghost use Rattle.std.specs.Prelude.{◌≡◌, ◌++◌, ◌⊎◌, IfOk, IfErr, OnOk, length, true};
+ghost use Rattle.std.specs.Prelude.{◌≡◌, ◌++◌, ◌⊎◌, IfOk, IfErr, OnErr, OnOk, length, true};
 ghost use Rattle.rawsocket.specs.Devices.{GrowsByBeginning};
 ghost use Rattle.rawsocket.specs.Steps.{Fine, Steps, WholeSteps, meter, told_by};
 ghost use Rattle.session.specs.Opened.{exchange};
 ghost use Rattle.client.specs.declared.client_message.ClientMessage.TheVariants.{Subscribe as SubscribeSaid};
 ghost use Rattle.client.specs.Wishes.{subscribe_options};
-ghost use Rattle.client_commands.specs.Acts.{Follows, Prints, PrintsAfterAsking, Subscribes, asked, granted_with, is_event, line_for, standing, terms_of};
-ghost use Rattle.client_commands.specs.Faults.{AreFailuresTold, IsOfHere, output_told, sink_told, source_told};
+ghost use Rattle.client.specs.declared.heard.Heard.TheVariants.{Subscribed as SubscribedHeard};
+ghost use Rattle.client_commands.specs.Acts.{Follows, Prints, PrintsAfterAsking, Subscribes, asked, granted_with, is_event, line_for, note_for, standing, terms_of};
+ghost use Rattle.client_commands.specs.Notes.{IsNoted, noting};
+ghost use Rattle.client_commands.specs.Faults.{AreFailuresTold, IsOfBroker, IsOfHere, output_told, sink_told, source_told};
 
 use crate::command::SubscribeCommand;
 use crate::event_lines::event_line;
@@ -15,6 +17,7 @@ use crate::grants::{Granted, grant, topic_told};
 use crate::hearing::{fault_of, hear, say};
 use crate::joining::join;
 use crate::leaving::{answer_goodbye, leave};
+use crate::noting::{note_of, tell};
 use client::SubscribeWishes;
 use client_session::{ClientMessage, ClientSession, Heard, Link};
 use message_tree::Text;
@@ -89,21 +92,61 @@ fn print<P: Sink>(output: &mut P, line: &[u8], turns: &mut Turns) -> Result<(), 
     }
 }
 
-/// Takes what was heard: a subscription is noted, and the line of an event printed. Tells whether it is an event.
+/// Takes a subscription that is given, and tells of it.
+///
+/// # Errors
+/// [`Fault::Unexpected`] where a request is answered that isn't open, [`Fault::NoMemory`].
+fn take_grant<N: Sink>(
+    alloc: Global,
+    topics: &Vec<Text>,
+    granted: &mut Vec<Granted>,
+    request: Id,
+    subscription: Id,
+    notes: &mut N,
+) -> Result<(), Fault>
+    ensures noted { OnOk result (granted.new.items
+        ≡ granted_with granted.old.items (SubscribedHeard request subscription)) }
+    ensures told { OnOk result (IsNoted
+        (note_for topics.now.items (SubscribedHeard request subscription))
+        (noting (N.taken notes.old) (N.failures notes.old))
+        (noting (N.taken notes.new) (N.failures notes.new))) }
+    ensures untold { OnErr result (noting (N.taken notes.new) (N.failures notes.new)
+        ≡ noting (N.taken notes.old) (N.failures notes.old)) }
+    ensures here { IfErr result IsOfHere }
+    ensures aside { IfErr result IsOfBroker }
+{
+    let topic = match grant(topics, granted, request, subscription) {
+        Ok(topic) => topic,
+        Err(fault) => return Err(fault),
+    };
+    let Ok(note) = note_of(alloc, topic) else {
+        return Err(Fault::NoMemory);
+    };
+    tell(notes, &note);
+    Ok(())
+}
+
+/// Takes what was heard: of a subscription it is told, and the line of an event is printed. Tells whether it is an event.
 ///
 /// # Errors
 /// [`Fault::WriteFault`] and [`Fault::TooManyTurns`] of the output, a beginning of the line is printed then; [`Fault::Unexpected`]
 /// where a request is answered that isn't open, or something else is said; [`Fault::Refused`] and [`Fault::Closed`] by an ABORT, an
 /// ERROR and a GOODBYE; [`Fault::ForeignEvent`], [`Fault::NoMemory`].
-fn take<P: Sink>(
+fn take<P: Sink, N: Sink>(
     alloc: Global,
     topics: &Vec<Text>,
     granted: &mut Vec<Granted>,
     heard: Heard,
     output: &mut P,
     turns: &mut Turns,
+    notes: &mut N,
 ) -> Result<bool, Fault>
     ensures noted { OnOk result (granted.new.items ≡ granted_with granted.old.items heard) }
+    ensures told { OnOk result (IsNoted (note_for topics.now.items heard)
+        (noting (N.taken notes.old) (N.failures notes.old))
+        (noting (N.taken notes.new) (N.failures notes.new))) }
+    ensures silent { OnErr result (noting (N.taken notes.new) (N.failures notes.new)
+        ≡ noting (N.taken notes.old) (N.failures notes.old)) }
     ensures printed { OnOk result (P.taken output.new ≡ P.taken output.old
         ++ line_for topics.now.items granted.old.items heard) }
     ensures event { IfOk result (λ told. told ≡ is_event heard) }
@@ -118,7 +161,7 @@ fn take<P: Sink>(
         Heard::Subscribed {
             request,
             subscription,
-        } => match grant(topics, granted, request, subscription) {
+        } => match take_grant(alloc, topics, granted, request, subscription, notes) {
             Ok(()) => Ok(false),
             Err(fault) => Err(fault),
         },
@@ -147,23 +190,28 @@ fn take<P: Sink>(
 ///
 /// # Errors
 /// As [`hear`] and [`take`] fail.
-fn follow<I: Source, O: Sink, P: Sink>(
+fn follow<I: Source, O: Sink, P: Sink, N: Sink>(
     alloc: Global,
     command: &SubscribeCommand,
     session: &mut ClientSession,
     source: &mut I,
     sink: &mut O,
     output: &mut P,
+    notes: &mut N,
 ) -> Result<(), Fault>
     ensures follows { OnOk result (Follows command.now.topics.items command.now.count
         (terms_of session.old)
         (standing session.old (I.given source.old) (O.taken sink.old))
         (standing session.new (I.given source.new) (O.taken sink.new))
-        (P.taken output.old) (P.taken output.new)) }
+        (P.taken output.old) (P.taken output.new)
+        (noting (N.taken notes.old) (N.failures notes.old))
+        (noting (N.taken notes.new) (N.failures notes.new))) }
     ensures terms { terms_of session.new ≡ terms_of session.old }
     ensures prints { Prints command.now.topics.items (terms_of session.old)
         (standing session.old (I.given source.old) (O.taken sink.old))
-        (P.taken output.old) (P.taken output.new) }
+        (P.taken output.old) (P.taken output.new)
+        (noting (N.taken notes.old) (N.failures notes.old))
+        (noting (N.taken notes.new) (N.failures notes.new)) }
     ensures reads { AreFailuresTold (I.failures source.old) (I.failures source.new)
         (told_by source_told result) }
     ensures writes { AreFailuresTold (O.failures sink.old) (O.failures sink.new)
@@ -189,6 +237,7 @@ fn follow<I: Source, O: Sink, P: Sink>(
             heard,
             output,
             &mut turns,
+            notes,
         ) {
             Ok(event) => event,
             Err(fault) => return Err(fault),
@@ -216,28 +265,37 @@ fn is_reached(count: Option<u64>, printed: u64) -> bool
 /// All SUBSCRIBEs are said before the first answer is heard, and events may come before the last one is answered. The topic of a line is the
 /// one that the event names, else the one that was subscribed to.
 ///
+/// To `notes` it tells each topic as the broker gives its subscription: `subscribed to TOPIC`. Where a note fails that is passed over.
+///
 /// # Errors
 /// [`Fault::Refused`] where the broker refuses the session or a subscription, [`Fault::Closed`] where it closes the session,
 /// [`Fault::Unexpected`], [`Fault::ForeignEvent`], [`Fault::Connection`]; [`Fault::WriteFault`] and [`Fault::TooManyTurns`] of the
 /// output; [`Fault::Usage`] where there are more than 2^53 topics; [`Fault::NoMemory`]. What was printed stays. The streams are to
 /// be closed.
-pub fn subscribe<I: Source, O: Sink, P: Sink>(
+pub fn subscribe<I: Source, O: Sink, P: Sink, N: Sink>(
     alloc: Global,
     command: &SubscribeCommand,
     source: &mut I,
     sink: &mut O,
     output: &mut P,
+    notes: &mut N,
 ) -> Result<(), Fault>
     ensures subscribes { OnOk result (Subscribes command.now.contact.serializer command.now.contact.realm
         command.now.contact.authid command.now.wishes command.now.topics.items command.now.count
         (exchange (I.given source.old) (O.taken sink.old))
         (exchange (I.given source.new) (O.taken sink.new))
-        (P.taken output.old) (P.taken output.new)) }
-    ensures prints { (P.taken output.new ≡ P.taken output.old)
+        (P.taken output.old) (P.taken output.new)
+        (noting (N.taken notes.old) (N.failures notes.old))
+        (noting (N.taken notes.new) (N.failures notes.new))) }
+    ensures prints { ((P.taken output.new ≡ P.taken output.old)
+        × (noting (N.taken notes.new) (N.failures notes.new)
+        ≡ noting (N.taken notes.old) (N.failures notes.old)))
         ⊎ PrintsAfterAsking command.now.contact.serializer command.now.contact.realm
         command.now.contact.authid command.now.wishes command.now.topics.items
         (exchange (I.given source.old) (O.taken sink.old))
-        (P.taken output.old) (P.taken output.new) }
+        (P.taken output.old) (P.taken output.new)
+        (noting (N.taken notes.old) (N.failures notes.old))
+        (noting (N.taken notes.new) (N.failures notes.new)) }
     ensures reads { AreFailuresTold (I.failures source.old) (I.failures source.new)
         (told_by source_told result) }
     ensures writes { AreFailuresTold (O.failures sink.old) (O.failures sink.new)
@@ -252,7 +310,7 @@ pub fn subscribe<I: Source, O: Sink, P: Sink>(
     if let Err(fault) = ask(alloc, command, session.link(), sink) {
         return Err(fault);
     }
-    match follow(alloc, command, &mut session, source, sink, output) {
+    match follow(alloc, command, &mut session, source, sink, output, notes) {
         Ok(()) => leave(alloc, &mut session, source, sink),
         Err(Fault::Closed(reason)) => Err(answer_goodbye(alloc, &session, sink, reason)),
         Err(fault) => Err(fault),

@@ -12,7 +12,7 @@ pub enum Fault {
     /// The broker refuses the handshake, for this reason (WAMP, "RawSocket Transport"): 1 it doesn't
     /// speak the serializer, 2 it doesn't take the length, 3 a reserved octet isn't 0, 4 it has as many
     /// connections as it takes.
-    #[error("the broker refuses the handshake: error {0}")]
+    #[error("the broker refuses the handshake: error {}, {}", .0, meaning(*.0))]
     Refused(u8),
     /// What answers the handshake is no RawSocket broker that speaks the serializer.
     #[error("no RawSocket broker answers")]
@@ -53,6 +53,17 @@ pub enum Fault {
     /// A call wrote the stream 2^32 times.
     #[error("E25 too many writes")]
     TooManyWrites,
+}
+
+/// What the code of a refusal means, in WAMP's own words.
+fn meaning(code: u8) -> &'static str {
+    match code {
+        1 => "serializer unsupported",
+        2 => "maximum message length unacceptable",
+        3 => "use of reserved bits",
+        4 => "maximum connection count reached",
+        _ => "of no known meaning",
+    }
 }
 
 impl From<AllocError> for Fault {

@@ -8,17 +8,18 @@ use rawsocket::devices::{ReadSource, Sink, Source, WriteSink};
 use std::alloc::Global;
 use std::net::{Net, TcpStream};
 
-/// Prints the events that are asked for.
-pub fn run_subscribe<R: Net<Stream = TcpStream>, S: Sink>(
+/// Prints the events that are asked for, and tells `notes` which topics are subscribed to.
+pub fn run_subscribe<R: Net<Stream = TcpStream>, S: Sink, N: Sink>(
     rt: &R,
     alloc: Global,
     output: &mut S,
+    notes: &mut N,
     command: &SubscribeCommand,
 ) -> Result<(), Failure> {
     let stream = connect(rt, alloc, &command.contact)?;
     let mut source = ReadSource::new(&stream);
     let mut sink = WriteSink::new(&stream);
-    match subscribe(alloc, command, &mut source, &mut sink, output) {
+    match subscribe(alloc, command, &mut source, &mut sink, output, notes) {
         Ok(()) => Ok(()),
         Err(fault) => Err(Failure::of_client(alloc, fault)),
     }

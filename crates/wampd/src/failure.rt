@@ -4,12 +4,18 @@ ghost use Rattle.broker_server.specs.declared.fault.Fault.TheVariants.{ConnectFa
 ghost use Rattle.broker_server.specs.Commands.{fault_of_client};
 
 use broker_server::{Fault, explain, help, shown_line};
+use client_commands::LinkFault;
 use std::alloc::{AllocError, Global};
 use std::io;
 
 /// What an argument of an event has to be.
 const ARGUMENTS: &str =
     "a number has to be whole, and lists and dictionaries nest no more than 98 levels";
+
+/// What a line of a replay has to be.
+const REPLAYED: &str =
+    "a line is a connection's number from 1 to 256, one space, and a message in JSON or the word gone, \
+    in at most 1048576 octets";
 
 /// A fault, and what is told behind its line.
 #[derive(Drop)]
@@ -40,6 +46,17 @@ impl Failure {
             _ => Vec::new(alloc),
         };
         Failure { fault, more }
+    }
+
+    /// A replay ended by this fault.
+    pub fn of_replay(alloc: Global, fault: Fault) -> Failure
+        ensures { result.fault ≡ fault }
+    {
+        let reason = match fault {
+            Fault::BadLine(_) => format!(in alloc; "{REPLAYED}").ok(),
+            _ => None,
+        };
+        Failure::with_reason(alloc, fault, reason)
     }
 
     /// The listener couldn't be made.
@@ -109,7 +126,10 @@ fn reason_of(alloc: Global, of: &client_commands::Fault) -> Option<String> {
         client_commands::Fault::Closed(uri) => {
             format!(in alloc; "the broker closed the session: {}", uri.as_str()).ok()
         }
-        client_commands::Fault::Connection(fault) => format!(in alloc; "{fault}").ok(),
+        client_commands::Fault::Connection(fault) => {
+            let advice = advice_on(fault);
+            format!(in alloc; "{fault}{advice}").ok()
+        }
         client_commands::Fault::Unexpected => {
             format!(in alloc; "the broker says what nothing asked for").ok()
         }
@@ -123,5 +143,14 @@ fn reason_of(alloc: Global, of: &client_commands::Fault) -> Option<String> {
         }
         client_commands::Fault::Usage => format!(in alloc; "{ARGUMENTS}").ok(),
         _ => None,
+    }
+}
+
+/// What to do where a connection failed so, if there is something.
+fn advice_on(fault: &LinkFault) -> &'static str {
+    match fault {
+        LinkFault::Refused(1) => "; try it with --msgpack, or without it",
+        LinkFault::Refused(4) => "; try again when another client has gone",
+        _ => "",
     }
 }

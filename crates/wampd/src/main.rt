@@ -4,7 +4,7 @@
 //! it has.
 #![tactic(auto)]
 
-ghost use Rattle.std.specs.Prelude.{◌≡◌, ◌≢◌, ◌<◌, ◌≤◌, ◌+◌, ◌++◌, Err, IfErr, OnOk};
+ghost use Rattle.std.specs.Prelude.{◌≡◌, ◌≢◌, ◌<◌, ◌≤◌, ◌+◌, ◌++◌, Err, IfErr, OnOk, length};
 ghost use Rattle.rawsocket.specs.Devices.{GrowsByBeginning};
 ghost use Rattle.rawsocket.specs.Steps.{WholeSteps, meter, told_by};
 ghost use Rattle.broker_server.specs.Commands.{IsServable, IsWritten, fault_line, status_of};
@@ -12,6 +12,7 @@ ghost use Rattle.broker_server.specs.Outcome.{write_told};
 
 mod clients;
 mod failure;
+mod places;
 
 use broker_server::{
     Command, Config, Fault, Log, LogEnd, TcpAcceptor, listening, read_command, replay,
@@ -19,6 +20,7 @@ use broker_server::{
 };
 use clients::{run_publish, run_subscribe};
 use failure::Failure;
+use places::fill_closed;
 use rawsocket::devices::{ReadSource, Sink, Turns, WriteSink, send};
 use std::alloc::{AllocError, Global};
 use std::env;
@@ -73,10 +75,7 @@ where
     let ran = match command {
         Command::Help(text) => print(&mut output, text.as_str().as_bytes()),
         Command::Version(text) => print(&mut output, text.as_str().as_bytes()),
-        Command::Replay(config) => {
-            let mut input = ReadSource::new(host.stdin());
-            replay(alloc, &mut input, &mut output, &config)
-        }
+        Command::Replay(config) => return run_replay(host, alloc, &mut output, &config),
         Command::Serve {
             host: name,
             port,
@@ -88,14 +87,20 @@ where
             } else {
                 None
             };
+            let _places = fill_closed(host);
             let place = Place {
                 host: name.as_str(),
                 port,
             };
             return serve(rt, alloc, &mut output, errors, place, &config);
         }
-        Command::Subscribe(command) => return run_subscribe(&rt, alloc, &mut output, &command),
+        Command::Subscribe(command) => {
+            let _places = fill_closed(host);
+            let mut notes = WriteSink::new(host.stderr());
+            return run_subscribe(&rt, alloc, &mut output, &mut notes, &command);
+        }
         Command::Publish(command) => {
+            let _places = fill_closed(host);
             let mut input = ReadSource::new(host.stdin());
             return run_publish(&rt, alloc, &mut input, &command);
         }
@@ -103,6 +108,22 @@ where
     match ran {
         Ok(()) => Ok(()),
         Err(fault) => Err(Failure::of(alloc, fault)),
+    }
+}
+
+/// Replays the lines of standard input.
+fn run_replay<S: Sink>(
+    host: &HostRuntime,
+    alloc: Global,
+    output: &mut S,
+    config: &Config,
+) -> Result<(), Failure>
+    requires { 0 < length config.now.realms.items }
+{
+    let mut input = ReadSource::new(host.stdin());
+    match replay(alloc, &mut input, output, config) {
+        Ok(()) => Ok(()),
+        Err(fault) => Err(Failure::of_replay(alloc, fault)),
     }
 }
 

@@ -4,7 +4,8 @@ use Rattle.rawsocket.proofs.Lemmas.{no_whole_steps, whole_fine}
 use Rattle.session.specs.Opened.{exchange}
 use Rattle.client_session.specs.Hearing.{Terms}
 use Rattle.client_commands.specs.Acts.{Leaves, standing, terms_of}
-use Rattle.client_commands.proofs.ListeningLemmas.{asked-all}
+use Rattle.client_commands.specs.Notes.{noting}
+use Rattle.client_commands.proofs.ListeningLemmas.{asked-all, printed-after}
 use Rattle.client_commands.proofs.subscribing.subscribe.Goals as goal
 
 pub returns-in-Err-clause-lines : goal.returns-in-Err-clause-lines
@@ -34,19 +35,32 @@ returns-in-Ok-follow-clause-subscribes g c =
     })
     c.leave.ensures.left
 
+pub returns-in-Err-Closed-clause-prints : goal.returns-in-Err-Closed-clause-prints
+returns-in-Err-Closed-clause-prints g c =
+    let command = c.args.command.now in
+    inr (printed-after command.contact.serializer c.link.result.now.serializer command.contact.realm command.contact.authid command.wishes command.topics.items (exchange (g.I.Source.given c.args.source.now) (g.O.Sink.taken c.args.sink.now)) c.in-Ok.session
+    (g.I.Source.given c.join.new.source) (g.O.Sink.taken c.join.new.sink) (g.O.Sink.taken c.ask.new.sink) (g.P.Sink.taken c.args.output.now) (g.P.Sink.taken c.follow.new.output)
+    (noting (g.N.Sink.taken c.args.notes.now) (g.N.Sink.failures c.args.notes.now)) (noting (g.N.Sink.taken c.follow.new.notes) (g.N.Sink.failures c.follow.new.notes))
+    c.in-Ok.ensures.joined (ap (λ l. l.serializer) c.link.ensures) c.in_default.ensures.asked c.follow.ensures.prints)
+
+pub returns-in-Ok-follow-clause-prints : goal.returns-in-Ok-follow-clause-prints
+returns-in-Ok-follow-clause-prints g c =
+    let command = c.args.command.now in
+    inr (printed-after command.contact.serializer c.link.result.now.serializer command.contact.realm command.contact.authid command.wishes command.topics.items (exchange (g.I.Source.given c.args.source.now) (g.O.Sink.taken c.args.sink.now)) c.in-Ok.session
+    (g.I.Source.given c.join.new.source) (g.O.Sink.taken c.join.new.sink) (g.O.Sink.taken c.ask.new.sink) (g.P.Sink.taken c.args.output.now) (g.P.Sink.taken c.follow.new.output)
+    (noting (g.N.Sink.taken c.args.notes.now) (g.N.Sink.failures c.args.notes.now)) (noting (g.N.Sink.taken c.follow.new.notes) (g.N.Sink.failures c.follow.new.notes))
+    c.in-Ok.ensures.joined (ap (λ l. l.serializer) c.link.ensures) c.in_default.ensures.asked c.follow.ensures.prints)
+
 pub returns : goal.returns
 returns g c =
     let command = c.args.command.now in
     record {
       subscribes = tt;
-      prints = inr (record {
-        t = terms_of c.in-Ok.session;
-        asking = standing c.in-Ok.session (g.I.Source.given c.join.new.source) (g.O.Sink.taken c.ask.new.sink);
-        asks =
-            asked-all command.contact.serializer c.link.result.now.serializer command.contact.realm command.contact.authid command.wishes command.topics.items (exchange (g.I.Source.given c.args.source.now) (g.O.Sink.taken c.args.sink.now)) c.in-Ok.session
-            (g.I.Source.given c.join.new.source) (g.O.Sink.taken c.join.new.sink) (g.O.Sink.taken c.ask.new.sink) c.in-Ok.ensures.joined (ap (λ l. l.serializer) c.link.ensures) c.in_default.ensures.asked;
-        prints = c.follow.ensures.prints;
-      });
+      prints =
+          inr (printed-after command.contact.serializer c.link.result.now.serializer command.contact.realm command.contact.authid command.wishes command.topics.items (exchange (g.I.Source.given c.args.source.now) (g.O.Sink.taken c.args.sink.now)) c.in-Ok.session
+          (g.I.Source.given c.join.new.source) (g.O.Sink.taken c.join.new.sink) (g.O.Sink.taken c.ask.new.sink) (g.P.Sink.taken c.args.output.now) (g.P.Sink.taken c.follow.new.output)
+          (noting (g.N.Sink.taken c.args.notes.now) (g.N.Sink.failures c.args.notes.now)) (noting (g.N.Sink.taken c.follow.new.notes) (g.N.Sink.failures c.follow.new.notes))
+          c.in-Ok.ensures.joined (ap (λ l. l.serializer) c.link.ensures) c.in_default.ensures.asked c.follow.ensures.prints);
       reads = omega (arith, c.in-Ok.ensures.reads, c.in-Err-follow.ensures.reads);
       writes = omega (arith, c.in-Ok.ensures.writes, c.in_default.ensures.writes, c.in-Err-follow.ensures.writes);
       lines = c.in-Err-follow.ensures.lines;
