@@ -5,10 +5,12 @@
 //! `connection` (what a reader posts, what a writer writes, the seats), `session` (the opening of a session) and the queues between them,
 //! `realm_inbox` and `outbox_queue`; what each of these calls does is proved there. [`TcpAcceptor`] accepts over TCP.
 //!
-//! Contracts say here by which of its acceptor's answers `serve_on` ends, and that each call is made only where its own contract allows it:
-//! a connection's posts are made at its own seat, with its own outbox, which is open and new; each actor runs on a new inbox. Which thread
-//! starts, ends or is waited for, and what crosses from one to another, is shown by runs alone. Nothing is promised of time: a peer that takes
-//! nothing holds up its own writer, and the end of `serve_on`, but no other session.
+//! Contracts say here by which of its acceptor's answers `serve_on` ends, and what became of each stream that the acceptor gave: it came
+//! back, and what was read of it, posted for it and written to it is what its reader's and its writer's contracts say. Each call is made
+//! only where its own contract allows it: a connection's posts are made at its own seat, with its own outbox, which is open and new; each
+//! actor runs on a new inbox. That what a writer took is tied to the history which its realm's actor ended with, and which thread starts,
+//! ends or is waited for, is shown by runs alone. Nothing is promised of time: a peer that takes nothing holds up its own writer, and the
+//! end of `serve_on`, but no other session.
 #![tactic(auto)]
 
 mod acceptor;

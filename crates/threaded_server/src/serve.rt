@@ -47,6 +47,8 @@ const MOST_FAILURES: u32 = 100;
 /// 100 times in a row, every live session gets its GOODBYE (WAMP, "Session Closing"), every other stream is ended, and all threads are
 /// waited for: as long as a peer takes nothing of what its session is still owed, this doesn't return.
 ///
+/// Each stream that the acceptor gave comes back to it ([`Acceptor::take_back`]), whatever became of it.
+///
 /// A connection takes the lowest free seat of 256. One for which none is free gets the octets 7F 40 00 00, and is closed. Where memory or a
 /// thread is refused for a connection, that connection is closed, and the broker goes on.
 ///
