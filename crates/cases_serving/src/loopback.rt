@@ -11,9 +11,7 @@ use std::io;
 use std::net::{Net, SocketAddr, TcpListener, TcpStream};
 use std::snapshot::Snapshot;
 use std::time::Clock;
-use threaded_server::{
-    Accepted, Acceptor, Account, Answer, Closed, Parts, TcpAcceptor, TcpHandle,
-};
+use threaded_server::{Accepted, Acceptor, Account, Answer, Closed, Parts, TcpAcceptor, TcpHandle};
 
 /// What is still to be accepted, and the clients of all streams, which connect to the acceptor inside.
 #[derive(Drop)]

@@ -94,7 +94,8 @@ impl<
     pub fn reap<R: Threads + Wait>(&mut self, rt: &R, place: usize) -> Option<Gone<I, O>>
         ensures plan { self.new.roster.over.plan ≡ self.old.roster.over.plan }
         ensures lent { items_of self.new.roster.lent ≡ items_of self.old.roster.lent }
-        ensures over { GoesOver (items_of self.old.roster.over.streams) (items_of self.new.roster.over.streams) result }
+        ensures over { GoesOver (items_of self.old.roster.over.streams)
+            (items_of self.new.roster.over.streams) result }
     {
         if self.roster.is_over(place) {
             self.release(rt, place)
@@ -107,7 +108,8 @@ impl<
     pub fn release<R: Threads + Wait>(&mut self, rt: &R, place: usize) -> Option<Gone<I, O>>
         ensures plan { self.new.roster.over.plan ≡ self.old.roster.over.plan }
         ensures lent { items_of self.new.roster.lent ≡ items_of self.old.roster.lent }
-        ensures over { GoesOver (items_of self.old.roster.over.streams) (items_of self.new.roster.over.streams) result }
+        ensures over { GoesOver (items_of self.old.roster.over.streams)
+            (items_of self.new.roster.over.streams) result }
         ensures entries { self.new.roster.entries.items
             ≡ set self.old.roster.entries.items place None }
     {
@@ -185,7 +187,8 @@ impl<
         ensures plan { self.new.roster.over.plan ≡ self.old.roster.over.plan }
         ensures lent { items_of self.new.roster.lent ≡ items_of self.old.roster.lent
             ++ (arrival.parts.source, arrival.parts.sink) ∷ [] }
-        ensures over { GoesOver (items_of self.old.roster.over.streams) (items_of self.new.roster.over.streams) result }
+        ensures over { GoesOver (items_of self.old.roster.over.streams)
+            (items_of self.new.roster.over.streams) result }
     {
         let Arrival { parts, fate, peer } = arrival;
         let Ok(conn) = self.seats.take() else {
@@ -209,7 +212,8 @@ impl<
         ensures plan { self.new.roster.over.plan ≡ self.old.roster.over.plan }
         ensures lent { items_of self.new.roster.lent ≡ items_of self.old.roster.lent
             ++ (parts.source, parts.sink) ∷ [] }
-        ensures over { GoesOver (items_of self.old.roster.over.streams) (items_of self.new.roster.over.streams)
+        ensures over { GoesOver (items_of self.old.roster.over.streams)
+            (items_of self.new.roster.over.streams)
             (option_map (λ r. r.0) result) }
     {
         let Ok(posters) = self.take_posters(conn) else {
@@ -240,11 +244,14 @@ impl<
     ) -> (Gone<I, O>, Reason)
         requires halves { halves.value ≡ (began.value.source, began.value.sink) }
         requires plan { arc_value began.value.plan ≡ self.old.roster.over.plan.value }
-        requires reads { Reads (sight I.given I.is_ended I.calls I.failures O.taken O.calls O.failures)
+        requires reads { Reads
+            (sight I.given I.is_ended I.calls I.failures O.taken O.calls O.failures)
             began.value ended }
         ensures plan { self.new.roster.over.plan ≡ self.old.roster.over.plan }
-        ensures lent { items_of self.new.roster.lent ≡ items_of self.old.roster.lent ++ halves.value ∷ [] }
-        ensures over { GoesOver (items_of self.old.roster.over.streams) (items_of self.new.roster.over.streams)
+        ensures lent { items_of self.new.roster.lent
+            ≡ items_of self.old.roster.lent ++ halves.value ∷ [] }
+        ensures over { GoesOver (items_of self.old.roster.over.streams)
+            (items_of self.new.roster.over.streams)
             (Some result.0) }
     {
         let over = Over::Seated(began, Snapshot::of(&ended));
@@ -263,8 +270,10 @@ impl<
     /// A stream is let go of, from which nothing was read, and to which nothing was written: memory was refused for it.
     pub fn let_go(&mut self, halves: (I, O)) -> Gone<I, O>
         ensures plan { self.new.roster.over.plan ≡ self.old.roster.over.plan }
-        ensures lent { items_of self.new.roster.lent ≡ items_of self.old.roster.lent ++ halves ∷ [] }
-        ensures over { GoesOver (items_of self.old.roster.over.streams) (items_of self.new.roster.over.streams) (Some result) }
+        ensures lent { items_of self.new.roster.lent
+            ≡ items_of self.old.roster.lent ++ halves ∷ [] }
+        ensures over { GoesOver (items_of self.old.roster.over.streams)
+            (items_of self.new.roster.over.streams) (Some result) }
     {
         let over = Over::Untouched(Snapshot::of(&halves));
         self.roster.pass(Snapshot::of(&halves), Snapshot::of(&over));
@@ -280,7 +289,8 @@ impl<
         ensures plan { self.new.roster.over.plan ≡ self.old.roster.over.plan }
         ensures lent { items_of self.new.roster.lent ≡ items_of self.old.roster.lent
             ++ (parts.source, parts.sink) ∷ [] }
-        ensures over { GoesOver (items_of self.old.roster.over.streams) (items_of self.new.roster.over.streams) (Some result) }
+        ensures over { GoesOver (items_of self.old.roster.over.streams)
+            (items_of self.new.roster.over.streams) (Some result) }
     {
         let Parts { source, sink, shut } = parts;
         let halves = (source, sink);
@@ -374,11 +384,7 @@ pub(crate) enum Started<
     /// Its thread runs.
     Runs(Snapshot<(I, O)>, Connection<I, O, S>),
     /// No thread could be made for it: it gave back what it had.
-    Ended(
-        Snapshot<(I, O)>,
-        Snapshot<Reader<I, O, S>>,
-        Ended<I, O, S>,
-    ),
+    Ended(Snapshot<(I, O)>, Snapshot<Reader<I, O, S>>, Ended<I, O, S>),
     /// Memory was refused for it, or its place isn't free.
     Refused((I, O), Posters<S>),
 }
@@ -390,12 +396,7 @@ fn run<
     I: Source + Drop + Send + 'static,
     O: Sink + Drop + Send + 'static,
     S: Shut + Send + 'static,
->(
-    rt: R,
-    lent: Snapshot<(I, O)>,
-    reader: Reader<I, O, S>,
-    ours: Shared<S>,
-) -> Started<I, O, S>
+>(rt: R, lent: Snapshot<(I, O)>, reader: Reader<I, O, S>, ours: Shared<S>) -> Started<I, O, S>
     requires { lent.value ≡ (reader.source, reader.sink) }
     ensures { Runs (sight I.given I.is_ended I.calls I.failures O.taken O.calls O.failures)
         reader result }

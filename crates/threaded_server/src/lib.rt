@@ -45,8 +45,8 @@ mod told;
 mod work;
 mod writer_thread;
 
-pub use account::Account;
 pub use acceptor::{Accepted, Acceptor, Parts};
+pub use account::Account;
 pub use answer::Answer;
 pub use closed::Closed;
 pub use config::{Config, Ids};

@@ -43,7 +43,8 @@ impl<I: Source, O: Sink, S: Shut> Overs<I, O, S> {
 
     /// Shows that each went as it should.
     pub fn shows(&self)
-        ensures { All (λ it. ∥ Went (sight I.given I.is_ended I.calls I.failures O.taken O.calls O.failures)
+        ensures { All (λ it. ∥ Went
+            (sight I.given I.is_ended I.calls I.failures O.taken O.calls O.failures)
             self.now.plan.value.realms.items it ∥₁) (items_of self.now.streams) }
     {
         let _ = &self.streams;

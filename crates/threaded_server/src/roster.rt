@@ -100,11 +100,13 @@ impl<
     /// A stream that was lent isn't served.
     pub fn pass(&mut self, halves: Snapshot<(I, O)>, over: Snapshot<Over<I, O, S>>)
         requires halves { halves.value ≡ before_of over.value }
-        requires went { Went (sight I.given I.is_ended I.calls I.failures O.taken O.calls O.failures)
+        requires went { Went
+            (sight I.given I.is_ended I.calls I.failures O.taken O.calls O.failures)
             self.old.over.plan.value.realms.items over.value }
         ensures plan { self.new.over.plan ≡ self.old.over.plan }
         ensures lent { items_of self.new.lent ≡ items_of self.old.lent ++ halves.value ∷ [] }
-        ensures over { items_of self.new.over.streams ≡ items_of self.old.over.streams ++ over.value ∷ [] }
+        ensures over { items_of self.new.over.streams
+            ≡ items_of self.old.over.streams ++ over.value ∷ [] }
     {
         self.lent.add(halves);
         self.over.add(over);
@@ -118,7 +120,8 @@ impl<
     ) -> Option<(Conn, Ended<I, O, S>)>
         ensures plan { self.new.over.plan ≡ self.old.over.plan }
         ensures lent { items_of self.new.lent ≡ items_of self.old.lent }
-        ensures over { MatchOption result (items_of self.new.over.streams ≡ items_of self.old.over.streams)
+        ensures over { MatchOption result (items_of self.new.over.streams
+            ≡ items_of self.old.over.streams)
             (λ r. Adds (items_of self.old.over.streams) (items_of self.new.over.streams)
             (r.1.source.last.value, (sink_of r.1.course).last.value)) }
         ensures entries { self.new.entries.items ≡ set self.old.entries.items place None }
@@ -144,7 +147,8 @@ impl<
     pub fn shows_all_over(&self)
         requires { All (λ slot. slot ≡ None) self.now.entries.items }
         ensures { ∥ AllWent (sight I.given I.is_ended I.calls I.failures O.taken O.calls O.failures)
-            self.now.over.plan.value.realms.items (items_of self.now.lent) (items_of self.now.over.streams) ∥₁ }
+            self.now.over.plan.value.realms.items (items_of self.now.lent)
+            (items_of self.now.over.streams) ∥₁ }
     {
         self.over.shows();
         let _ = &self.lent;

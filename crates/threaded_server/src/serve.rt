@@ -66,7 +66,8 @@ pub fn serve_on<R: Threads + Wait + RandomSource + Copy + Send + 'static, A: Acc
     requires most { config.now.outbox ≤ 65536 }
     ensures answers { Serves (A.answers acceptor.old) (A.answers acceptor.new) result }
     ensures streams { ∥ Served (Marked A.Shut)
-        (sight A.Source.given A.Source.is_ended A.Source.calls A.Source.failures A.Sink.taken A.Sink.calls A.Sink.failures)
+        (sight A.Source.given A.Source.is_ended A.Source.calls A.Source.failures A.Sink.taken
+        A.Sink.calls A.Sink.failures)
         config.now.realms.items (A.answers acceptor.old) (A.answers acceptor.new)
         (A.lending acceptor.old) (A.lending acceptor.new) ∥₁ }
 {
@@ -89,7 +90,8 @@ pub fn serve_logged<R: Threads + Wait + RandomSource + Copy + Send + 'static, A:
     requires most { config.now.outbox ≤ 65536 }
     ensures answers { Serves (A.answers acceptor.old) (A.answers acceptor.new) result }
     ensures streams { ∥ Served (Marked A.Shut)
-        (sight A.Source.given A.Source.is_ended A.Source.calls A.Source.failures A.Sink.taken A.Sink.calls A.Sink.failures)
+        (sight A.Source.given A.Source.is_ended A.Source.calls A.Source.failures A.Sink.taken
+        A.Sink.calls A.Sink.failures)
         config.now.realms.items (A.answers acceptor.old) (A.answers acceptor.new)
         (A.lending acceptor.old) (A.lending acceptor.new) ∥₁ }
 {
@@ -110,7 +112,8 @@ fn open_and_accept<R: Threads + Wait + RandomSource + Copy + Send + 'static, A: 
     config: &Config,
 ) -> Result<(), Fault>
     ensures lent { LentUntil (A.answers acceptor.old) (A.answers acceptor.new)
-        (A.lending acceptor.old) (A.lending acceptor.new) (books connection_table.old.roster.lent connection_table.old.roster.over.streams)
+        (A.lending acceptor.old) (A.lending acceptor.new)
+        (books connection_table.old.roster.lent connection_table.old.roster.over.streams)
         (books connection_table.new.roster.lent connection_table.new.roster.over.streams) result }
     ensures plan { connection_table.new.roster.over.plan ≡ connection_table.old.roster.over.plan }
 {
@@ -172,11 +175,7 @@ fn open<
     I: Source + Drop + Send + 'static,
     O: Sink + Drop + Send + 'static,
     S: Shut + Send + 'static,
->(
-    rt: R,
-    connection_table: &mut ConnectionTable<I, O, S>,
-    config: &Config,
-) -> Result<(), AllocError>
+>(rt: R, connection_table: &mut ConnectionTable<I, O, S>, config: &Config) -> Result<(), AllocError>
     ensures { connection_table.new.roster ≡ connection_table.old.roster }
 {
     for name in &config.realms {
@@ -232,7 +231,8 @@ fn accept_all<R: Threads + Wait + Copy + Send + 'static, A: Acceptor>(
     connection_table: &mut ConnectionTable<A::Source, A::Sink, Marked<A::Shut>>,
 ) -> Result<(), Fault>
     ensures lent { LentUntil (A.answers acceptor.old) (A.answers acceptor.new)
-        (A.lending acceptor.old) (A.lending acceptor.new) (books connection_table.old.roster.lent connection_table.old.roster.over.streams)
+        (A.lending acceptor.old) (A.lending acceptor.new)
+        (books connection_table.old.roster.lent connection_table.old.roster.over.streams)
         (books connection_table.new.roster.lent connection_table.new.roster.over.streams) result }
     ensures plan { connection_table.new.roster.over.plan ≡ connection_table.old.roster.over.plan }
 {
@@ -279,7 +279,8 @@ fn reap<R: Threads + Wait, A: Acceptor>(
 )
     ensures answers { A.answers acceptor.new ≡ A.answers acceptor.old }
     ensures moves { Moves 0 (A.lending acceptor.old) (A.lending acceptor.new)
-        (books connection_table.old.roster.lent connection_table.old.roster.over.streams) (books connection_table.new.roster.lent connection_table.new.roster.over.streams) }
+        (books connection_table.old.roster.lent connection_table.old.roster.over.streams)
+        (books connection_table.new.roster.lent connection_table.new.roster.over.streams) }
     ensures plan { connection_table.new.roster.over.plan ≡ connection_table.old.roster.over.plan }
 {
     for place in 0..connection_table.places() {
@@ -296,7 +297,8 @@ fn join_all<R: Threads + Wait, A: Acceptor>(
 )
     ensures answers { A.answers acceptor.new ≡ A.answers acceptor.old }
     ensures moves { Moves 0 (A.lending acceptor.old) (A.lending acceptor.new)
-        (books connection_table.old.roster.lent connection_table.old.roster.over.streams) (books connection_table.new.roster.lent connection_table.new.roster.over.streams) }
+        (books connection_table.old.roster.lent connection_table.old.roster.over.streams)
+        (books connection_table.new.roster.lent connection_table.new.roster.over.streams) }
     ensures plan { connection_table.new.roster.over.plan ≡ connection_table.old.roster.over.plan }
     ensures none { All (λ slot. slot ≡ None) connection_table.new.roster.entries.items }
 {
@@ -315,7 +317,8 @@ fn receive<R: Threads + Wait + Copy + Send + 'static, A: Acceptor>(
 )
     ensures answers { A.answers acceptor.new ≡ A.answers acceptor.old }
     ensures moves { Moves 1 (A.lending acceptor.old) (A.lending acceptor.new)
-        (books connection_table.old.roster.lent connection_table.old.roster.over.streams) (books connection_table.new.roster.lent connection_table.new.roster.over.streams) }
+        (books connection_table.old.roster.lent connection_table.old.roster.over.streams)
+        (books connection_table.new.roster.lent connection_table.new.roster.over.streams) }
     ensures plan { connection_table.new.roster.over.plan ≡ connection_table.old.roster.over.plan }
 {
     let peer = peer_of(acceptor, &connection_table.plan, &stream);
@@ -357,7 +360,8 @@ fn admit<
     peer: Option<String>,
 ) -> Option<Gone<I, O>>
     ensures plan { connection_table.new.roster.over.plan ≡ connection_table.old.roster.over.plan }
-    ensures lent { items_of connection_table.new.roster.lent ≡ items_of connection_table.old.roster.lent
+    ensures lent { items_of connection_table.new.roster.lent
+        ≡ items_of connection_table.old.roster.lent
         ++ (parts.source, parts.sink) ∷ [] }
     ensures over { GoesOver (items_of connection_table.old.roster.over.streams)
         (items_of connection_table.new.roster.over.streams) result }
@@ -380,7 +384,8 @@ fn close<R: Threads + Wait, A: Acceptor>(
 )
     ensures answers { A.answers acceptor.new ≡ A.answers acceptor.old }
     ensures moves { Moves 0 (A.lending acceptor.old) (A.lending acceptor.new)
-        (books connection_table.old.roster.lent connection_table.old.roster.over.streams) (books connection_table.new.roster.lent connection_table.new.roster.over.streams) }
+        (books connection_table.old.roster.lent connection_table.old.roster.over.streams)
+        (books connection_table.new.roster.lent connection_table.new.roster.over.streams) }
     ensures plan { connection_table.new.roster.over.plan ≡ connection_table.old.roster.over.plan }
     ensures none { All (λ slot. slot ≡ None) connection_table.new.roster.entries.items }
 {

@@ -7,9 +7,10 @@ pub accepting-init : goal.accepting-init
 accepting-init g c = (none_so_far _ _ _, refl)
 
 pub accepting-preserved-in-Stream : goal.accepting-preserved-in-Stream
-accepting-preserved-in-Stream g c =
-    (stream_came _ _ _ _ _ _ _ _ _ _ _ _ _ _ _ c.accepting.invariant.0 c.in-Stream.ensures.answers c.in-Stream.ensures.lending c.reap.ensures.answers c.reap.ensures.moves c.receive.ensures.answers c.receive.ensures.moves,
-    c.receive.ensures.plan ∙ c.reap.ensures.plan ∙ c.accepting.invariant.1)
+accepting-preserved-in-Stream g c = (
+  stream_came _ _ _ _ _ _ _ _ _ _ _ _ _ _ _ c.accepting.invariant.0 c.in-Stream.ensures.answers c.in-Stream.ensures.lending c.reap.ensures.answers c.reap.ensures.moves c.receive.ensures.answers c.receive.ensures.moves,
+  c.receive.ensures.plan ∙ c.reap.ensures.plan ∙ c.accepting.invariant.1,
+)
 
 pub returns-in-Stop-clause-lent : goal.returns-in-Stop-clause-lent
 returns-in-Stop-clause-lent g c = stopped _ _ _ _ _ _ _ _ _ c.accepting.invariant.0 c.in-Stop.ensures.answers c.in-Stop.ensures.lending
@@ -18,7 +19,8 @@ pub returns-then-failures-ge-MOST_FAILURES-clause-lent : goal.returns-then-failu
 returns-then-failures-ge-MOST_FAILURES-clause-lent g c = failed _ _ _ _ _ _ _ _ _ c.accepting.invariant.0 c.in-Failed.ensures.answers c.if-failures-ge-MOST_FAILURES.true c.in-Failed.ensures.lending
 
 pub accepting-preserved : goal.accepting-preserved
-accepting-preserved g c =
-    (accept_failed _ _ _ _ _ _ _ _ _ _ _ _ _ _ c.accepting.invariant.0 c.in-Failed.ensures.answers c.in-Failed.ensures.lending c.reap-in-Failed.ensures.answers c.reap-in-Failed.ensures.moves c.pause.ensures.answers c.pause.ensures.lending
-    c.if-failures-ge-MOST_FAILURES.false,
-    c.reap-in-Failed.ensures.plan ∙ c.accepting.invariant.1)
+accepting-preserved g c = (
+  accept_failed _ _ _ _ _ _ _ _ _ _ _ _ _ _ c.accepting.invariant.0 c.in-Failed.ensures.answers c.in-Failed.ensures.lending c.reap-in-Failed.ensures.answers c.reap-in-Failed.ensures.moves c.pause.ensures.answers c.pause.ensures.lending
+      c.if-failures-ge-MOST_FAILURES.false,
+  c.reap-in-Failed.ensures.plan ∙ c.accepting.invariant.1,
+)

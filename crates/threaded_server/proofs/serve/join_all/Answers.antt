@@ -11,13 +11,12 @@ pub loop-place-preserved : goal.loop-place-preserved
 loop-place-preserved g c =
     let held = c.loop-place.invariant in
     let entries = c.loop-place.connection_table.roster.entries.items in
-    let within : c.loop-place.place < length c.loop-place.connection_table.roster.entries.items = omega (arith, held.3) in
-    (
+    let within : c.loop-place.place < length c.loop-place.connection_table.roster.entries.items = omega (arith, held.3) in (
       c.take_back.ensures.answers ∙ held.0,
       moves_on 0 0 _ _ _ _ _ _ held.1 (taken_back _ _ _ _ _ c.release-gone.ensures.lent c.release-gone.ensures.over c.take_back.ensures.lending),
       c.release-gone.ensures.plan ∙ held.2,
       ap length c.release-gone.ensures.entries ∙ length-set entries c.loop-place.place None ∙ held.3,
-      subst (λ xs. AllWithin (λ slot. slot ≡ None) xs 0 (c.loop-place.place + 1)) (sym c.release-gone.ensures.entries) (AllWithin-more_set entries c.loop-place.place None within (λ slot. slot ≡ None) held.4 refl)
+      subst (λ xs. AllWithin (λ slot. slot ≡ None) xs 0 (c.loop-place.place + 1)) (sym c.release-gone.ensures.entries) (AllWithin-more_set entries c.loop-place.place None within (λ slot. slot ≡ None) held.4 refl),
     )
 
 pub returns-clause-none : goal.returns-clause-none

@@ -9,5 +9,5 @@ pub loop-place-preserved : goal.loop-place-preserved
 loop-place-preserved g c = (
   c.take_back.ensures.answers ∙ c.loop-place.invariant.0,
   moves_on 0 0 _ _ _ _ _ _ c.loop-place.invariant.1 (taken_back _ _ _ _ _ c.reap-gone.ensures.lent c.reap-gone.ensures.over c.take_back.ensures.lending),
-  c.reap-gone.ensures.plan ∙ c.loop-place.invariant.2
+  c.reap-gone.ensures.plan ∙ c.loop-place.invariant.2,
 )
