@@ -64,7 +64,9 @@ impl Stream {
         behind: &str,
     ) -> Result<(), AllocError> {
         let others = before.len().saturating_add(behind.len());
-        let length = letters.saturating_add(others) as u32;
+        let Ok(length) = u32::try_from(letters.saturating_add(others)) else {
+            return Err(AllocError);
+        };
         self.octets.extend_from_slice(&length.to_be_bytes())?;
         self.octets.extend_from_slice(before.as_bytes())?;
         for _ in 0..letters {

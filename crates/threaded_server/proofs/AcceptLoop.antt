@@ -1,9 +1,8 @@
 -- How serving goes from answer to answer.
-use Rattle.std.proofs.Common.{◌≡◌, ◌+◌, ◌<◌, ◌≤◌, ℕ, List, [], ◌∷◌, ◌++◌, Result, Ok, Err, refl, sym, ap, ◌∙◌, append_assoc, append-nil, subst, arith}
-use Rattle.threaded_server.specs.Answers.{in_a_row, GoesOn, EndsWith, EndsBy, Serves}
+use Rattle.std.proofs.Common.{◌≡◌, ◌+◌, ◌<◌, ◌≤◌, ℕ, List, [], ◌∷◌, ◌++◌, Ok, Err, refl, sym, ap, ◌∙◌, append_assoc, append-nil, subst, arith}
+use Rattle.threaded_server.specs.Answers.{in_a_row, GoesOn, Serves}
 use Rattle.threaded_server.specs.declared.answer.Answer.{Answer}
 use Rattle.threaded_server.specs.declared.answer.Answer.TheVariants.{Came, Stopped, Failed}
-use Rattle.threaded_server.specs.declared.fault.Fault.{Fault}
 use Rattle.threaded_server.specs.declared.fault.Fault.TheVariants.{NoMemory, ListenFault}
 
 pub row_came : (n : ℕ) (all : List Answer) → in_a_row n (all ++ Came ∷ []) ≡ 0

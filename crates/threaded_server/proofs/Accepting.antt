@@ -1,14 +1,12 @@
 -- How serving goes from answer to answer, with the streams that come.
-use Rattle.std.proofs.Common.{◌≡◌, ◌+◌, ◌<◌, ◌≤◌, ℕ, List, [], ◌∷◌, ◌++◌, Result, Ok, Err, refl, sym, ap, ◌∙◌, subst, arith}
+use Rattle.std.proofs.Common.{◌≡◌, ◌+◌, ◌<◌, ◌≤◌, ℕ, List, [], ◌∷◌, ◌++◌, Ok, Err, refl, sym, ap, subst, arith}
 use Rattle.threaded_server.proofs.AcceptLoop.{GoneOn, came_on, ends_failed, ends_stopped, failed_on, none_yet, nothing_answered}
 use Rattle.threaded_server.proofs.Moving.{moves_none, moves_on}
-use Rattle.threaded_server.specs.Answers.{Serves}
 use Rattle.threaded_server.specs.Lending.{Lending}
 use Rattle.threaded_server.specs.Overs.{Books, Moves}
 use Rattle.threaded_server.specs.Served.{LentUntil, came_in}
 use Rattle.threaded_server.specs.declared.answer.Answer.{Answer}
 use Rattle.threaded_server.specs.declared.answer.Answer.TheVariants.{Came, Stopped, Failed}
-use Rattle.threaded_server.specs.declared.fault.Fault.{Fault}
 use Rattle.threaded_server.specs.declared.fault.Fault.TheVariants.{NoMemory, ListenFault}
 
 -- how many came, with one answer more

@@ -1,10 +1,9 @@
 -- How streams come and go.
-use Rattle.std.proofs.Common.{◌≡◌, ◌+◌, ℕ, List, [], ◌∷◌, ◌++◌, Option, None, Some, MatchOption, length, map, refl, sym, ap, ◌∙◌, append_assoc, append-nil, arith, length-append}
+use Rattle.std.proofs.Common.{◌≡◌, ◌+◌, ℕ, List, [], ◌∷◌, ◌++◌, Option, None, Some, MatchOption, map, refl, sym, ap, ◌∙◌, append_assoc, append-nil, arith, length-append}
 use Rattle.std.proofs.lemmas.List.{map-append}
 use Rattle.threaded_server.specs.Lending.{Lending, with_lent, with_refused, with_returned}
-use Rattle.threaded_server.specs.Overs.{Adds, Books, GoesOver, Moves, after_of}
+use Rattle.threaded_server.specs.Overs.{Books, GoesOver, Moves, after_of}
 use Rattle.threaded_server.specs.declared.over.Gone.{Gone}
-use Rattle.threaded_server.specs.declared.over.Over.{Over}
 
 -- behind one another
 joined : {A : Type 0} (xs ys zs more last : List A) → ys ≡ xs ++ more → zs ≡ ys ++ last → zs ≡ xs ++ (more ++ last)

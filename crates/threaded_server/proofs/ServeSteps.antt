@@ -1,13 +1,12 @@
 -- What the accepting thread does, step by step.
-use Rattle.std.proofs.Common.{◌≡◌, ◌+◌, ◌<◌, ◌≤◌, ℕ, List, [], ◌∷◌, ◌++◌, Ok, Err, IsPermutation, Result, map, refl, sym, ap, ◌∙◌, subst, append-nil, arith}
+use Rattle.std.proofs.Common.{◌≡◌, ◌+◌, ◌<◌, ℕ, List, [], ◌∷◌, ◌++◌, Result, refl, sym, ap, ◌∙◌, subst, append-nil, arith}
 use Rattle.std.proofs.Math.Logic.{∥∥₁_map}
 use Rattle.std.proofs.lemmas.List.Elements.{All-nil}
 use Rattle.std.proofs.lemmas.List.Sorted.{IsPermutation-refl}
-use Rattle.threaded_server.proofs.Accepting.{Accepting, failed, none_so_far, one_came, one_failed, stopped}
+use Rattle.threaded_server.proofs.Accepting.{Accepting, one_came, one_failed}
 use Rattle.threaded_server.proofs.Moving.{moves_on}
-use Rattle.threaded_server.specs.Answers.{Serves}
 use Rattle.threaded_server.specs.Lending.{Lending}
-use Rattle.threaded_server.specs.Overs.{AllWent, Books, Moves, Went, after_of}
+use Rattle.threaded_server.specs.Overs.{AllWent, Books, Moves, Went}
 use Rattle.threaded_server.specs.Served.{LentUntil, Served, came_in}
 use Rattle.threaded_server.specs.Streams.{Sight}
 use Rattle.threaded_server.specs.declared.answer.Answer.{Answer}

@@ -1,6 +1,5 @@
 -- What a realm's actor's thread gives back, beside what it was given.
 use Rattle.std.specs.Prelude.{◌≡◌, ⊤, List, [], Option, Some, None}
-use Rattle.atomic_table.specs.Seated.{TableId}
 use Rattle.realm.specs.Grants.{pairs_of}
 use Rattle.realm.specs.History.{begun}
 use Rattle.realm_actor.specs.ActorView.{Acting}

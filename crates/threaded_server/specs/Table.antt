@@ -1,5 +1,4 @@
 -- What contracts see of the table of connections.
-use Rattle.std.specs.Prelude.{List}
 use Rattle.ghost_state.specs.GhostList.{items_of}
 use Rattle.ghost_state.specs.declared.ghost_list.GhostList.{GhostList}
 use Rattle.threaded_server.specs.Overs.{Books}

@@ -1,4 +1,4 @@
-use Rattle.std.proofs.Common.{◌≡◌, ◌<◌, ◌+◌, None, length, set, arith, refl, sym, ap, ◌∙◌, subst, length-set}
+use Rattle.std.proofs.Common.{◌≡◌, ◌<◌, ◌+◌, None, length, arith, refl, sym, ap, ◌∙◌, subst, length-set}
 use Rattle.std.specs.List.{AllWithin}
 use Rattle.std.proofs.lemmas.List.Elements.{AllWithin-more_set, AllWithin-none}
 use Rattle.threaded_server.proofs.Moving.{moves_none, moves_on, taken_back}

@@ -1,6 +1,5 @@
 use Rattle.std.proofs.Common.{ap, ◌∙◌}
 use Rattle.threaded_server.proofs.ServeSteps.{nothing_served, served}
-use Rattle.threaded_server.specs.Table.{books}
 use Rattle.threaded_server.proofs.serve.serve_logged.Goals as goal
 
 pub returns-clause-streams : goal.returns-clause-streams
