@@ -1,7 +1,7 @@
 //! The actor of a realm.
 ghost use Rattle.std.specs.Prelude.{◌≡◌, Some, None, [], IfOk, IfErr, is_some};
 ghost use Rattle.realm_inbox.specs.Seats.{IsHomed};
-ghost use Rattle.realm.specs.Grants.{pairs_of};
+ghost use Rattle.realm.specs.Grants.{Grants, pairs_of};
 ghost use Rattle.realm.specs.History.{begun};
 ghost use Rattle.realm.specs.Publications.{is_retained_full};
 ghost use Rattle.realm.specs.Sessions.{live};
@@ -14,7 +14,7 @@ ghost use Rattle.realm_actor.specs.Invariant.{Stands};
 use crate::outcome::Outcome;
 use crate::state::State;
 use outbox_queue::{Drain, Rest};
-use realm::{Fault, RealmConfig};
+use realm::{Fault, Realm, RealmConfig};
 use realm_inbox::{IdSource, Post, RealmChronicle, RealmHistory, Shut};
 use session::Item;
 use std::alloc::{AllocError, Global};
@@ -89,9 +89,32 @@ impl<S: Shut, W: IdSource> Actor<S, W> {
           handled = [];
         }) }
     {
-        Ok(Actor {
-            state: State::new(alloc, chronicle, config, words)?,
-        })
+        let realm = Realm::new(alloc, config)?;
+        Ok(Actor::of_realm(alloc, chronicle, realm, words))
+    }
+
+    /// The same, of a realm that nothing has entered yet. It takes no memory: so where there is none for the realm, its chronicle isn't
+    /// lost.
+    pub fn of_realm(
+        alloc: Global,
+        chronicle: RealmChronicle,
+        realm: Realm,
+        words: W,
+    ) -> Actor<S, W>
+        requires new { chronicle.history ≡ None }
+        requires empty { (grants : Grants) × (realm ≡ begun grants) }
+        ensures { result ≡ record {
+          chronicle = chronicle.chronicle;
+          history = realm;
+          rows = [];
+          words = W.given words;
+          last_cut = [];
+          handled = [];
+        } }
+    {
+        Actor {
+            state: State::of_realm(alloc, chronicle, realm, words),
+        }
     }
 
     /// Shows what holds of an actor between two posts: what was added to each held outbox begins what the history owes its

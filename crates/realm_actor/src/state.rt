@@ -1,7 +1,5 @@
 //! What an actor keeps.
-ghost use Rattle.std.specs.Prelude.{◌≡◌, [], ◌∷◌, ◌++◌, true, false, List, ℕ, None, IfOk};
-ghost use Rattle.realm.specs.Grants.{pairs_of};
-ghost use Rattle.realm.specs.History.{begun};
+ghost use Rattle.std.specs.Prelude.{◌≡◌, [], ◌∷◌, ◌++◌, true, false, List, ℕ, None};
 ghost use Rattle.realm.specs.Publications.{is_retained_full};
 ghost use Rattle.realm.specs.Sessions.{conn_of, live, may_come};
 ghost use Rattle.realm.specs.declared.entry.Entry.{Entry as AnEntry};
@@ -17,7 +15,7 @@ use crate::entering::tell;
 use crate::outcome::Outcome;
 use crate::seat_guesses::SeatGuesses;
 use crate::table::Table;
-use realm::{Entry, Fault, Realm, RealmConfig};
+use realm::{Entry, Realm};
 use realm_inbox::{GhostList, IdSource, Letter, RealmChronicle, Shut};
 use std::alloc::Global;
 use std::sync::Wait;
@@ -34,25 +32,24 @@ pub struct State<S: Shut, W: IdSource> {
 }
 
 impl<S: Shut, W: IdSource> State<S, W> {
-    /// An actor of a realm with an empty history, which it tells the chronicle.
-    pub fn new(
+    /// An actor of this realm, which it tells the chronicle.
+    pub fn of_realm(
         alloc: Global,
         mut chronicle: RealmChronicle,
-        config: RealmConfig,
+        realm: Realm,
         words: W,
-    ) -> Result<State<S, W>, Fault>
+    ) -> State<S, W>
         requires new { chronicle.history ≡ None }
-        ensures chronicle { IfOk result (λ a. a.table.chronicle.chronicle ≡ chronicle.chronicle) }
-        ensures history { IfOk result (λ a. a.table.realm ≡ begun (pairs_of config.grants.items)) }
-        ensures rows { IfOk result (λ a. a.table.rows.items ≡ []) }
-        ensures words { IfOk result (λ a. a.words ≡ words) }
-        ensures last_cut { IfOk result (λ a. a.last_cut.items ≡ []) }
-        ensures handled { IfOk result (λ a. items_of a.handled ≡ []) }
-        ensures knows { IfOk result (λ a. Knows a.table) }
+        ensures chronicle { result.table.chronicle.chronicle ≡ chronicle.chronicle }
+        ensures history { result.table.realm ≡ realm }
+        ensures rows { result.table.rows.items ≡ [] }
+        ensures words { result.words ≡ words }
+        ensures last_cut { result.last_cut.items ≡ [] }
+        ensures handled { items_of result.handled ≡ [] }
+        ensures knows { Knows result.table }
     {
-        let realm = Realm::new(alloc, config)?;
         tell(&mut chronicle, &realm);
-        Ok(State {
+        State {
             table: Table {
                 realm,
                 chronicle,
@@ -64,7 +61,7 @@ impl<S: Shut, W: IdSource> State<S, W> {
             words,
             last_cut: Vec::new(alloc),
             handled: GhostList::new(),
-        })
+        }
     }
 
     /// Whether the connection has a live session.
