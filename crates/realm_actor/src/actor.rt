@@ -95,12 +95,7 @@ impl<S: Shut, W: IdSource> Actor<S, W> {
 
     /// The same, of a realm that nothing has entered yet. It takes no memory: so where there is none for the realm, its chronicle isn't
     /// lost.
-    pub fn of_realm(
-        alloc: Global,
-        chronicle: RealmChronicle,
-        realm: Realm,
-        words: W,
-    ) -> Actor<S, W>
+    pub fn of_realm(alloc: Global, chronicle: RealmChronicle, realm: Realm, words: W) -> Actor<S, W>
         requires new { chronicle.history ≡ None }
         requires empty { (grants : Grants) × (realm ≡ begun grants) }
         ensures { result ≡ record {
