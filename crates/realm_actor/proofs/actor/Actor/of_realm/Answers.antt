@@ -10,4 +10,4 @@ invariant_of-result g c =
     let state = c.of_realm.result in
     let begins = s.history ∙ c.requires.empty.1 in
     let none = ap length s.rows in
-    (stands_new state.table.realm c.requires.empty.0 state.table.rows.items begins s.rows, omega (arith, none), s.knows, made_new state.table.realm _ c.requires.empty.0 begins (ap (λ l. map said l) s.handled))
+    (stands_new state.table.realm c.requires.empty.0 state.table.rows.items begins s.rows, omega (arith, none), s.knows, made_new state.table.realm c.requires.empty.0 _ begins (ap (λ l. map said l) s.handled))
