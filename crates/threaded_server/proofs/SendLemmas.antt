@@ -87,7 +87,7 @@ closed_send : (D : RattleType) → IsSend (Closed.the_row D)
 closed_send D = declared_send (Closed.the_type D) (search (crosses, sendable) depth 60, tt)
 
 pub written_send : (O : RattleType) → IsSend (Written.the_row O)
-written_send O = declared_send (Written.the_type O) (closed_send O, (option_send history history_send, (search (crosses, sendable) depth 60, (as_row_send WriteEnd.the_field write_end.the_field_send, (search (crosses, sendable) depth 60, tt)))))
+written_send O = declared_send (Written.the_type O) (search sendable, (closed_send O, (option_send history history_send, (search (crosses, sendable) depth 60, (as_row_send WriteEnd.the_field write_end.the_field_send, (search (crosses, sendable) depth 60, tt))))))
 
 course_send : (O : RattleType) → IsSend (Course.the_row O)
 course_send O = variants_send (Course.enum O)
@@ -123,11 +123,8 @@ module _ (S : RattleType) (shut : Ghosts S.Denot) where
       (search (heap.send, crosses, sendable) depth 60, (search (plan_send, plan_sync, crosses, sendable) depth 60 fits 20000, (search sendable, (search (maps, crosses, sendable) depth 60 fits 20000, (search (words_send, maps, crosses, sendable) depth 60 fits 20000, (as_row_send (Chronicle.the_field moment moment_recorded) chronicle_send, (inbox_send S shut s, (search (crosses, sendable) depth 60 fits 20000, (search (marks_send, marks_sync, crosses, sendable) depth 60 fits 20000, tt)))))))))
 
 module _ (S : RattleType) (shut : Ghosts S.Denot) where
-  acted_send : IsSend (Acted.the_row S shut)
-  acted_send = declared_send (Acted.the_type S shut) (as_row_send (Chronicle.the_field moment moment_recorded) chronicle_send, (search (crosses, sendable) depth 60, (search (crosses, sendable) depth 60, tt)))
-
-  pub actor_done_send : IsSend (Option.the_row (Acted.the_row S shut))
-  actor_done_send = option_send (Acted.the_row S shut) acted_send
+  pub actor_done_send : IsSend (Acted.the_row S shut)
+  actor_done_send = declared_send (Acted.the_type S shut) (as_row_send (Chronicle.the_field moment moment_recorded) chronicle_send, (search (crosses, sendable) depth 60, (search (crosses, sendable) depth 60, tt)))
 
 -- a handle that marks a fate
 pub marked_send : (S : RattleType) → IsSend S → IsSend (Marked.the_row S)

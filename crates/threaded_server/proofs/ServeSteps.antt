@@ -1,17 +1,20 @@
 -- What the accepting thread does, step by step.
-use Rattle.std.proofs.Common.{◌≡◌, ◌+◌, ◌<◌, ℕ, List, [], ◌∷◌, ◌++◌, Result, refl, sym, ap, ◌∙◌, subst, append-nil, arith}
+use Rattle.std.proofs.Common.{◌≡◌, ◌+◌, ◌<◌, ℕ, List, [], ◌∷◌, ◌++◌, All, Result, refl, sym, ap, ◌∙◌, subst, append-nil, arith}
 use Rattle.std.proofs.Math.Logic.{∥∥₁_map}
 use Rattle.std.proofs.lemmas.List.Elements.{All-nil}
 use Rattle.std.proofs.lemmas.List.Sorted.{IsPermutation-refl}
+use Rattle.realm.specs.Grants.{Grants}
 use Rattle.threaded_server.proofs.Accepting.{Accepting, one_came, one_failed}
 use Rattle.threaded_server.proofs.Moving.{moves_on}
 use Rattle.threaded_server.specs.Lending.{Lending}
 use Rattle.threaded_server.specs.Overs.{AllWent, Books, Moves, Went}
 use Rattle.threaded_server.specs.Served.{LentUntil, Served, came_in}
 use Rattle.threaded_server.specs.Streams.{Sight}
+use Rattle.threaded_server.specs.Ties.{IsRun, OverTied}
 use Rattle.threaded_server.specs.declared.answer.Answer.{Answer}
 use Rattle.threaded_server.specs.declared.answer.Answer.TheVariants.{Came, Failed}
 use Rattle.threaded_server.specs.declared.fault.Fault.{Fault}
+use Rattle.threaded_server.specs.declared.realm_run.RealmRun.{RealmRun}
 
 module _ {I O S : Type 0} where
   -- moved from what is the same
@@ -35,9 +38,10 @@ module _ {I O S : Type 0} where
       one_failed before now paused failures was lending taken had has left h (f ∙ e ∙ came) few (to_same 0 lending joined taken has left pause (from_same 0 lending accepted joined has left same reap))
 
   -- serving is over, and each stream is
-  pub served : (see : Sight I O) (shown names : List (List ℕ)) (before now closed : List Answer) (was lending returned : Lending I O) (had has left : Books I O S) (result : Result Unit Fault) → had.lent ≡ [] → had.over ≡ []
-      → LentUntil before now was lending had has result → closed ≡ now → Moves 0 lending returned has left → shown ≡ names → ∥ AllWent see shown left.lent left.over ∥₁ → ∥ Served S see names before closed was returned ∥₁
-  served see shown names before now closed was lending returned had has left result none nobody h e m same all =
+  pub served : (see : Sight I O) (shown names : List (List ℕ)) (had_grants grants : Grants) (runs : List (RealmRun S)) (before now closed : List Answer) (was lending returned : Lending I O) (had has left : Books I O S) (result : Result Unit Fault) → had.lent ≡ [] → had.over ≡ []
+      → LentUntil before now was lending had has result → closed ≡ now → Moves 0 lending returned has left → shown ≡ names → had_grants ≡ grants → ∥ AllWent see shown left.lent left.over ∥₁
+      → All (λ run. IsRun had_grants run) runs → ∥ All (λ over. OverTied runs over) left.over ∥₁ → ∥ Served S see names grants before closed was returned ∥₁
+  served see shown names had_grants grants runs before now closed was lending returned had has left result none nobody h e m same alike all each_ran tied =
       let whole = moves_on (came_in h.serves.given) 0 was lending returned had has left h.moves m in
       let lent : left.lent ≡ whole.more = whole.lent_here ∙ ap (λ l. l ++ whole.more) none in
       let over : left.over ≡ whole.over = whole.over_here ∙ ap (λ l. l ++ whole.over) nobody in
@@ -52,10 +56,13 @@ module _ {I O S : Type 0} where
         lent_are = whole.lent;
         returned_are = whole.returned;
         went = subst (λ (l : List (I × O)). AllWent see names l whole.over) lent (subst (λ o. AllWent see names left.lent o) over (subst (λ (n : List (List ℕ)). AllWent see n left.lent left.over) same each));
+        runs = runs;
+        each_ran = subst (λ (g : Grants). All (λ run. IsRun g run) runs) alike each_ran;
+        tied = subst (λ o. ∥ All (λ x. OverTied runs x) o ∥₁) over tied;
       })
 
-  nothing : (see : Sight I O) (names : List (List ℕ)) (before : List Answer) (was : Lending I O) → Served S see names before before was was
-  nothing see names before was = record {
+  nothing : (see : Sight I O) (names : List (List ℕ)) (grants : Grants) (before : List Answer) (was : Lending I O) → Served S see names grants before before was was
+  nothing see names grants before was = record {
     given = [];
     lent = [];
     streams = [];
@@ -66,8 +73,11 @@ module _ {I O S : Type 0} where
     lent_are = sym (append-nil was.lent);
     returned_are = sym (append-nil was.returned);
     went = record { each = IsPermutation-refl []; went = All-nil (λ over. ∥ Went see names over ∥₁) };
+    runs = [];
+    each_ran = All-nil (λ run. IsRun grants run);
+    tied = ∣ All-nil (λ over. OverTied [] over) ∣₁;
   }
 
   -- nothing was accepted
-  pub nothing_served : (see : Sight I O) (names : List (List ℕ)) (before : List Answer) (was : Lending I O) → ∥ Served S see names before before was was ∥₁
-  nothing_served see names before was = ∣ nothing see names before was ∣₁
+  pub nothing_served : (see : Sight I O) (names : List (List ℕ)) (grants : Grants) (before : List Answer) (was : Lending I O) → ∥ Served S see names grants before before was was ∥₁
+  nothing_served see names grants before was = ∣ nothing see names grants before was ∣₁

@@ -1,5 +1,6 @@
 -- What a realm's actor's thread gives back, beside what it was given.
-use Rattle.std.specs.Prelude.{◌≡◌, ⊤, List, [], Option, Some, None}
+use Rattle.std.specs.Prelude.{◌≡◌, List, [], Option, Some, None}
+use Rattle.std.specs.declared.snapshot.Snapshot.{Snapshot}
 use Rattle.realm.specs.Grants.{pairs_of}
 use Rattle.realm.specs.History.{begun}
 use Rattle.realm_actor.specs.ActorView.{Acting}
@@ -16,16 +17,19 @@ module _ {S : Type 0} where
   first_of w = record { chronicle = w.chronicle.chronicle; history = begun (pairs_of w.config.grants.items); rows = []; words = w.words.given; last_cut = []; handled = [] }
 
   -- the actor ran on what its own inbox gave, up to its end, and its chronicle has the history that this made
-  pub record Acts (w : ActorThread S) (done : Acted S) : Type 0 where
+  pub record RanOn (w : ActorThread S) (done : Acted S) (actor : Acting S) : Type 0 where
     pub came : List (Post S)
-    pub inbox : inbox_of done.inbox.value ≡ inbox_of w.inbox
     pub received : received done.inbox.value ≡ came
     pub in_order : InOrder [] came
-    pub ran : Ran (first_of w) came done.actor.value
-    pub chronicle : done.chronicle.chronicle ≡ w.chronicle.chronicle
-    pub history : done.chronicle.history ≡ Some done.actor.value.history
+    pub ran : Ran (first_of w) came actor
+    pub history : done.chronicle.history ≡ Some actor.history
 
-  -- or there was no memory for the realm
-  abbrev pub ActsIfBegun : ActorThread S → Option (Acted S) → Type 0
-  ActsIfBegun w None = ⊤
-  ActsIfBegun w (Some done) = Acts w done
+  -- or there was no memory for the realm: nothing was received, and its chronicle has no history
+  abbrev pub ActsBy : ActorThread S → Acted S → Option (Snapshot (Acting S)) → Type 0
+  ActsBy w done None = (done.inbox.value ≡ w.inbox) × (done.chronicle.history ≡ None)
+  ActsBy w done (Some actor) = RanOn w done actor.value
+
+  pub record Acts (w : ActorThread S) (done : Acted S) : Type 0 where
+    pub inbox : inbox_of done.inbox.value ≡ inbox_of w.inbox
+    pub chronicle : done.chronicle.chronicle ≡ w.chronicle.chronicle
+    pub course : ActsBy w done done.actor

@@ -4,6 +4,8 @@ pub mod Begun
 pub mod Closing
 pub mod Lending
 pub mod Overs
+pub mod Posters
+pub mod Realms
 pub mod Roster
 pub mod Served
 pub mod Slots
@@ -11,5 +13,6 @@ pub mod Starting
 pub mod Streams
 pub mod Table
 pub mod Talks
+pub mod Ties
 pub mod Words
 pub mod Writes

@@ -1,8 +1,13 @@
 -- The connections that are served.
-use Rattle.std.specs.Prelude.{◌≡◌}
+use Rattle.std.specs.Prelude.{◌≡◌, List, [], ◌∷◌, ◌++◌, Option, Some}
 use Rattle.std.specs.Arc.{arc_value}
-use Rattle.threaded_server.specs.declared.plan.Plan.{Plan}
+use Rattle.std.specs.declared.snapshot.Snapshot.{Snapshot}
+use Rattle.threaded_server.specs.Streams.{Reads, Sight}
 use Rattle.threaded_server.specs.declared.entry.Connection.{Connection}
+use Rattle.threaded_server.specs.declared.over.Over.{Over}
+use Rattle.threaded_server.specs.declared.over.Over.TheVariants.{Seated}
+use Rattle.threaded_server.specs.declared.plan.Plan.{Plan}
+use Rattle.threaded_server.specs.declared.reader_thread.Ended.{Ended}
 
 module _ {I O S : Type 0} where
   -- the halves of the stream of a connection, as it was lent
@@ -12,3 +17,12 @@ module _ {I O S : Type 0} where
   -- it is served by this plan
   abbrev pub IsOfPlan : Plan → Connection I O S → Type 0
   IsOfPlan plan entry = arc_value entry.began.value.plan ≡ plan
+
+  -- the connection at a place leaves it: its reader gave back what it should, and its stream is over by that
+  pub record Leaves (see : Sight I O) (place : Option (Option (Connection I O S))) (ended : Ended I O S) (before now : List (Over I O S)) : Type 0 where
+    pub entry : Connection I O S
+    pub held : place ≡ Some (Some entry)
+    pub reads : Reads see entry.began.value ended
+    pub left : Snapshot (Ended I O S)
+    pub left_is : left.value ≡ ended
+    pub over : now ≡ before ++ Seated entry.began left ∷ []

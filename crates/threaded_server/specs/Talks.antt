@@ -33,13 +33,14 @@ module _ {S : Type 0} where
       ⊎ ((now.given ≡ before.given) × (posted_by now.poster ≡ posted_by before.poster))
 
 module _ {O S : Type 0} where
-  -- a writer is made over the other end of the outbox that the Join brings, in the session's serialization and limit; the outbox is of the poster's connection, and of
-  -- the chronicle of its inbox, if one is picked
+  -- a writer is made over the other end of the outbox that the Join brings, in the session's realm, serialization and limit; the outbox is of the poster's connection, and
+  -- of the chronicle of its inbox, if one is picked
   pub record Begins (session : Session) (sink : O) (poster : Poster S) (joining : Joining S) (writer : Writer O S) : Type 0 where
     pub own : joining.outbox.conn ≡ poster_conn poster
     pub of : joining.outbox.chronicle ≡ home_of_poster poster
     pub asks : joining.authid ≡ session.authid
     pub new : IsNewDrain joining.outbox.queue (poster_conn poster) (home_of_poster poster) writer.drain
+    pub in_realm : writer.realm ≡ session.realm
     pub serializer : writer.serializer ≡ session.serializer
     pub limit : writer.limit ≡ min session.limit 16777215
     pub writes_to : writer.sink ≡ sink

@@ -28,6 +28,7 @@ module _ {O S : Type 0} (taken : O → List ℕ) (calls failures : O → ℕ) wh
   -- what the writer took from its drain it wrote to its sink, in its serialization and limit, up to its end. What the drain saw last comes back with it: that
   -- history is of the drain's chronicle, and owes the connection what was taken, or more
   pub record Writes (w : Writer O S) (done : Written O) : Type 0 where
+    pub realm : done.realm ≡ w.realm
     pub written : WritesSince w.drain.taken done.drain.value.taken (taken w.sink) (taken done.sink.last.value) (IsWrittenBy w.serializer w.limit done.end)
     pub later : IsLater BeginsKept w.drain done.drain.value
     pub stopped : done.end ≡ Stopped → w.drain.empty_finds < done.drain.value.empty_finds

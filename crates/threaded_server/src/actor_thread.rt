@@ -8,7 +8,7 @@ use crate::seat_table::SeatTable;
 use crate::told::tell_retained_full;
 use crate::work::{Task, Work};
 use crossbeam_channel::Sender;
-use realm::RealmConfig;
+use realm::{Realm, RealmConfig};
 use realm_actor::{Actor, Onlooker};
 use realm_inbox::{Act, Inbox, Post, RealmChronicle, Shut};
 use std::alloc::Global;
@@ -41,27 +41,27 @@ pub struct ActorThread<S: Shut> {
 pub struct Acted<S: Shut> {
     /// The chronicle of the realm's history.
     pub chronicle: RealmChronicle,
-    /// The actor, as it ended. It takes no bytes.
-    pub actor: Snapshot<Actor<S, IdWords>>,
+    /// The actor, as it ended; none where there was no memory for the realm.
+    pub actor: Option<Snapshot<Actor<S, IdWords>>>,
     /// The inbox, as the actor left it. It takes no bytes.
     pub inbox: Snapshot<Inbox<S>>,
 }
 
 impl<S: Shut + 'static> Task for ActorThread<S> {
-    ghost use Rattle.threaded_server.specs.Acts.{ActsIfBegun};
+    ghost use Rattle.threaded_server.specs.Acts.{Acts};
 
-    type Done = Option<Acted<S>>;
+    type Done = Acted<S>;
 
-    ghost does = { ActsIfBegun };
+    ghost does = { λ w acted. Acts w acted };
 }
 
 impl<R: Wait + Copy, S: Shut + 'static> Work<R> for ActorThread<S> {
-    ghost use Rattle.threaded_server.specs.Acts.{ActsIfBegun};
+    ghost use Rattle.threaded_server.specs.Acts.{Acts};
 
     /// Makes the actor, which runs until it is stopped, marks whose sessions it holds then, and tells that they are marked. What is
-    /// posted behind the stop is turned away until each sender is gone. Nothing comes back where there was no memory for the realm.
-    fn run(self, rt: R) -> Option<Acted<S>>
-        ensures { ActsIfBegun self result }
+    /// posted behind the stop is turned away until each sender is gone. Where there was no memory for the realm nothing is received.
+    fn run(self, rt: R) -> Acted<S>
+        ensures { Acts self result }
     {
         let ActorThread {
             alloc,
@@ -74,11 +74,16 @@ impl<R: Wait + Copy, S: Shut + 'static> Work<R> for ActorThread<S> {
             teller,
             marks,
         } = self;
-        let Ok(actor) = Actor::of_chronicle(alloc, chronicle, config, words) else {
+        let Ok(kept) = Realm::new(alloc, config) else {
             let _ = teller.send(&rt, false);
-            return None;
+            return Acted {
+                chronicle,
+                actor: None,
+                inbox: Snapshot::of(&inbox),
+            };
         };
         let _ = teller.send(&rt, true);
+        let actor = Actor::of_realm(alloc, chronicle, kept, words);
         let mut onlooker = StoreNotice {
             rt,
             plan: &plan,
@@ -88,13 +93,13 @@ impl<R: Wait + Copy, S: Shut + 'static> Work<R> for ActorThread<S> {
         let actor = actor.run_before(&rt, alloc, &mut inbox, &mut onlooker);
         mark_held(&actor, &marks);
         let acted = Acted {
-            actor: Snapshot::of(&actor),
+            actor: Some(Snapshot::of(&actor)),
             inbox: Snapshot::of(&inbox),
             chronicle: actor.into_chronicle(),
         };
         let _ = teller.send(&rt, true);
         turn_away_rest(&rt, inbox);
-        Some(acted)
+        acted
     }
 }
 

@@ -1,11 +1,16 @@
 //! The connections that are served, and their seats.
-ghost use Rattle.std.specs.Prelude.{◌≡◌, ◌-◌, [], ◌∷◌, ◌++◌, All, None, Some, MatchResult, IfOk, IfSome, length, option_map, set, slice_get};
+ghost use Rattle.std.specs.Prelude.{◌≡◌, ◌+◌, ◌-◌, [], ◌∷◌, ◌++◌, All, None, Some, MatchResult, IfOk, IfSome, length, option_map, set, slice_get};
 ghost use Rattle.ghost_state.specs.GhostList.{items_of};
+ghost use Rattle.realm.specs.Grants.{pairs_of};
 ghost use Rattle.wamp_ids.specs.Numbers.{seat_of};
 ghost use Rattle.std.specs.Arc.{arc_value};
+ghost use Rattle.realm_inbox.specs.EndViews.{AreNewSeats, inbox_of};
 ghost use Rattle.threaded_server.specs.Overs.{AllWent, GoesOver, TellsRefusal};
+ghost use Rattle.threaded_server.specs.Posters.{AreAt, AreOfSeat, Stand, lists_at, lists_of};
+ghost use Rattle.threaded_server.specs.Realms.{places_of, realms_of, shown};
 ghost use Rattle.threaded_server.specs.Starting.{Runs, Starts};
 ghost use Rattle.threaded_server.specs.Streams.{Reads, sight};
+ghost use Rattle.threaded_server.specs.Ties.{HasGrants, IsRun, OverKept, OverTied};
 
 use crate::acceptor::Parts;
 use crate::closed::Closed;
@@ -14,23 +19,27 @@ use crate::fate::Fate;
 use crate::handover::{Posters, Shared};
 use crate::over::{Gone, Over};
 use crate::plan::Plan;
+use crate::poster_table::{PosterTable, place_of};
 use crate::reader_thread::{Ended, Reader};
 use crate::realm_handle::RealmHandle;
+use crate::realm_run::RealmRun;
+use crate::realms::Realms;
 use crate::roster::Roster;
 use crate::seat_table::SeatTable;
 use crate::told::{tell_accepted, tell_closed, tell_refused};
 use crate::work::Doing;
 use connection::Seats;
+use ghost_state::GhostList;
 use notices::{Reason, Refusal};
 use rawsocket::devices::{Sink, Source, Turns, send};
 use rawsocket::no_seat_reply;
-use realm_inbox::Shut;
+use realm_inbox::{Seat, Shut};
 use std::alloc::{AllocError, Global};
 use std::snapshot::Snapshot;
 use std::sync::atomic::{AtomicBool, Ordering};
 use std::sync::{Arc, Wait};
 use std::thread::{self, PromisedHandle, Threads};
-use wamp_ids::{Conn, seat};
+use wamp_ids::Conn;
 
 /// A stream that came, taken apart.
 #[derive(Drop)]
@@ -52,11 +61,16 @@ pub struct ConnectionTable<
     pub alloc: Global,
     pub plan: Arc<Plan>,
     pub marks: Arc<SeatTable>,
-    pub realms: Vec<RealmHandle<S>>,
+    realms: Realms<S>,
+    posters: PosterTable<S>,
     seats: Seats,
     // By seat, from 0.
     roster: Roster<I, O, S>,
     ghost same: { arc_value plan ≡ roster.over.plan.value },
+    ghost free: { Stand (places_of (realms_of realms)) (lists_of posters) },
+    ghost served: { Stand (places_of (realms_of realms)) (lists_at roster.entries.items) },
+    ghost kept: { ∥ All (λ over. OverKept (realms_of realms) over) (items_of roster.over.streams) ∥₁ },
+    ghost grants: { All (λ realm. HasGrants roster.over.plan.value realm) (realms_of realms) },
 }
 
 impl<
@@ -70,12 +84,14 @@ impl<
         ensures lent { IfOk result (λ t. items_of t.roster.lent ≡ []) }
         ensures over { IfOk result (λ t. items_of t.roster.over.streams ≡ []) }
     {
-        let realms = Vec::with_capacity(alloc, plan.realms.len())?;
+        let realms = Realms::with_capacity(alloc, plan.realms.len())?;
         let plan = Arc::new(alloc, plan)?;
         let roster = Roster::new(alloc, &plan)?;
+        let posters = PosterTable::new(alloc)?;
         Ok(ConnectionTable {
             alloc,
             realms,
+            posters,
             plan,
             marks: Arc::new(alloc, SeatTable::new(alloc)?)?,
             seats: Seats::new(),
@@ -120,52 +136,85 @@ impl<
             course,
             reason: _,
         } = ended;
-        self.free(conn, posters);
-        let sink = course.into_sink();
-        Some(Gone { source, sink })
+        let parts = course.into_parts();
+        self.realms.take_in(rt, parts.1);
+        self.free(place, conn, posters);
+        Some(Gone {
+            source,
+            sink: parts.0,
+        })
     }
 
-    // Frees the seat of a connection, whose posters these are.
-    fn free(&mut self, conn: Conn, posters: Posters<S>)
+    // Frees the seat at this place, which was the connection's, whose posters these are.
+    fn free(&mut self, place: usize, conn: Conn, posters: Posters<S>)
+        requires at { AreAt (places_of (realms_of self.old.realms)) posters.items }
+        requires seat { AreOfSeat (place + 1) posters.items }
         ensures { self.new.roster ≡ self.old.roster }
     {
-        self.put_posters(posters);
+        self.posters.put(place, posters);
         self.marks.leaves(conn);
         self.seats.give_back(conn);
     }
 
-    fn put_posters(&mut self, posters: Posters<S>)
+    /// How many realms there are.
+    pub fn count_realms(&self) -> usize {
+        self.realms.len()
+    }
+
+    /// One realm more, whose seats these are, once its actor has begun.
+    ///
+    /// # Errors
+    /// Where memory was refused, also to its actor.
+    pub fn add_realm<R: Threads + Wait>(
+        &mut self,
+        rt: &R,
+        handle: RealmHandle<S>,
+        seats: Vec<Seat<S>>,
+    ) -> Result<(), AllocError>
+        requires grants { HasGrants self.old.roster.over.plan.value (shown handle) }
+        requires seats { AreNewSeats (inbox_of (shown handle).work.inbox) seats.items }
         ensures { self.new.roster ≡ self.old.roster }
     {
-        for (realm, poster) in self.realms.iter_mut().zip(posters) {
-            if let Some(poster) = poster {
-                realm.put_seat(poster.into_seat());
-            }
+        let place = self.realms.len();
+        self.realms.add(rt, handle)?;
+        self.posters.add_realm(&self.realms, place, seats)?;
+        if self.realms.last_has_begun(rt) {
+            Ok(())
+        } else {
+            Err(AllocError)
         }
     }
 
-    // A poster of the connection in each realm, up to the first in which its seat isn't free.
-    fn take_posters(&mut self, conn: Conn) -> Result<Posters<S>, AllocError>
+    /// Stops the realms' actors, and waits until each has marked whose sessions it holds.
+    pub fn stop_actors<R: Wait>(&mut self, rt: &R)
         ensures { self.new.roster ≡ self.old.roster }
     {
-        let mut posters = Vec::with_capacity(self.alloc, self.realms.len())?;
-        for realm in self.realms.iter_mut() {
-            match realm.take_poster(conn) {
-                Some(poster) => posters.push(Some(poster))?,
-                None => break,
-            }
-        }
-        Ok(posters)
+        self.realms.stop(rt);
     }
 
-    /// Shows that each stream that was lent is over, where nobody is served any more.
-    pub fn shows_all_over(&self)
-        requires { All (λ slot. slot ≡ None) self.now.roster.entries.items }
-        ensures { ∥ AllWent (sight I.given I.is_ended I.calls I.failures O.taken O.calls O.failures)
-            self.now.roster.over.plan.value.realms.items (items_of self.now.roster.lent)
-            (items_of self.now.roster.over.streams) ∥₁ }
+    /// Nobody is served any more: gives up the realms' doors and seats, and waits for their actors' threads. How each realm ran, and
+    /// that each stream that was lent is over, as it should be.
+    pub fn finish<R: Threads + Wait>(self, rt: &R) -> GhostList<RealmRun<S>>
+        requires { All (λ slot. slot ≡ None) self.roster.entries.items }
+        ensures runs { All
+            (λ run. IsRun (pairs_of self.roster.over.plan.value.config.value.grants.items) run)
+            (items_of result) }
+        ensures tied { ∥ All (λ over. OverTied (items_of result) over)
+            (items_of self.roster.over.streams) ∥₁ }
+        ensures went { ∥ AllWent
+            (sight I.given I.is_ended I.calls I.failures O.taken O.calls O.failures)
+            self.roster.over.plan.value.realms.items (items_of self.roster.lent)
+            (items_of self.roster.over.streams) ∥₁ }
     {
-        self.roster.shows_all_over();
+        let ConnectionTable {
+            realms,
+            posters,
+            roster,
+            ..
+        } = self;
+        roster.shows_all_over();
+        drop(posters);
+        realms.join(rt)
     }
 
     /// Ends the streams of those whose sessions no actor held at its end.
@@ -216,7 +265,7 @@ impl<
             (items_of self.new.roster.over.streams)
             (option_map (λ r. r.0) result) }
     {
-        let Ok(posters) = self.take_posters(conn) else {
+        let Some(posters) = self.posters.take(conn) else {
             self.seats.give_back(conn);
             return Some((self.let_go((parts.source, parts.sink)), Reason::NoMemory));
         };
@@ -226,17 +275,20 @@ impl<
                 self.roster.seat(place_of(conn), halves, entry);
                 None
             }
-            Started::Ended(halves, began, ended) => Some(self.end(conn, halves, began, ended)),
+            Started::Ended(halves, began, ended) => {
+                Some(self.end(&rt, conn, halves, began, ended))
+            }
             Started::Refused(halves, posters) => {
-                self.free(conn, posters);
+                self.free(place_of(conn), conn, posters);
                 Some((self.let_go(halves), Reason::NoMemory))
             }
         }
     }
 
     // No thread could be made for the reader of a stream, which has given back what it had.
-    fn end(
+    fn end<R: Wait>(
         &mut self,
+        rt: &R,
         conn: Conn,
         halves: Snapshot<(I, O)>,
         began: Snapshot<Reader<I, O, S>>,
@@ -244,6 +296,8 @@ impl<
     ) -> (Gone<I, O>, Reason)
         requires halves { halves.value ≡ (began.value.source, began.value.sink) }
         requires plan { arc_value began.value.plan ≡ self.old.roster.over.plan.value }
+        requires at { AreAt (places_of (realms_of self.old.realms)) began.value.posters.items }
+        requires seat { AreOfSeat (seat_of conn - 1 + 1) began.value.posters.items }
         requires reads { Reads
             (sight I.given I.is_ended I.calls I.failures O.taken O.calls O.failures)
             began.value ended }
@@ -262,9 +316,14 @@ impl<
             course,
             reason,
         } = ended;
-        self.free(conn, posters);
-        let sink = course.into_sink();
-        (Gone { source, sink }, reason)
+        let parts = course.into_parts();
+        self.realms.take_in(rt, parts.1);
+        self.free(place_of(conn), conn, posters);
+        let gone = Gone {
+            source,
+            sink: parts.0,
+        };
+        (gone, reason)
     }
 
     /// A stream is let go of, from which nothing was read, and to which nothing was written: memory was refused for it.
@@ -316,7 +375,7 @@ impl<
         posters: Posters<S>,
     ) -> Started<I, O, S>
         ensures { Starts (sight I.given I.is_ended I.calls I.failures O.taken O.calls O.failures)
-            (arc_value self.now.plan) (parts.source, parts.sink)
+            (arc_value self.now.plan) (parts.source, parts.sink) posters.items
             (slice_get self.now.roster.entries.items (seat_of conn - 1)) result }
     {
         let Parts { source, sink, shut } = parts;
@@ -356,13 +415,6 @@ impl<
             ours,
         })
     }
-}
-
-// The place of a connection, from 0.
-fn place_of(conn: Conn) -> usize
-    ensures { result ≡ seat_of conn - 1 }
-{
-    (seat(conn) - 1) as usize
 }
 
 // What a reader has of a stream beside its halves, and what is kept here.

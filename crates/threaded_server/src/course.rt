@@ -1,9 +1,9 @@
 //! What became of a stream.
 ghost use Rattle.std.specs.Prelude.{◌≡◌};
-ghost use Rattle.threaded_server.specs.Overs.{sink_of};
+ghost use Rattle.threaded_server.specs.Overs.{seen_of, sink_of};
 
 use crate::closed::Closed;
-use crate::writer_thread::Written;
+use crate::writer_thread::{Seen, Written};
 use connection::ReadEnd;
 use session::Fault;
 
@@ -21,15 +21,16 @@ pub enum Course<O> {
 }
 
 impl<O: Drop> Course<O> {
-    /// The half that was written to.
-    pub fn into_sink(self) -> Closed<O>
-        ensures { result ≡ sink_of self }
+    /// The half that was written to, and what the writer saw last of its realm's history, if it took anything.
+    pub fn into_parts(self) -> (Closed<O>, Option<Seen>)
+        ensures sink { result.0 ≡ sink_of self }
+        ensures seen { result.1 ≡ seen_of self }
     {
         match self {
-            Course::Untouched(sink) => sink,
-            Course::NotOpened(sink, _) => sink,
-            Course::OpenedAlone(sink) => sink,
-            Course::Served(_, written) => written.sink,
+            Course::Untouched(sink) => (sink, None),
+            Course::NotOpened(sink, _) => (sink, None),
+            Course::OpenedAlone(sink) => (sink, None),
+            Course::Served(_, written) => written.into_parts(),
         }
     }
 }

@@ -1,114 +1,143 @@
 //! What the accepting thread has of a realm.
+ghost use Rattle.std.specs.Prelude.{◌≡◌, ◌++◌, ◌∷◌, [], Some, All, IfOk};
+ghost use Rattle.realm.specs.History.{Begins};
+ghost use Rattle.chronicle.specs.Recorded.{Reaches};
+
 use crate::actor_thread::{Acted, ActorThread};
+use crate::realm_run::RealmRun;
 use crate::work::{Doing, start};
 use crossbeam_channel::Receiver;
-use realm_inbox::{Door, Poster, Seat, Shut};
+use outbox_queue::check_seen;
+use realm_inbox::{Door, RealmChronicle, RealmHistory, Shut};
 use std::alloc::{AllocError, Global};
+use std::snapshot::Snapshot;
 use std::sync::Wait;
 use std::thread::{PromisedHandle, Threads};
-use wamp_ids::{Conn, seat};
 
-/// What the accepting thread has of a realm: the door and the free seats of its inbox, its actor's thread, and what that tells.
+/// What the accepting thread has of a realm: the door of its inbox, its actor's thread, and what that tells.
 #[derive(Drop)]
 pub struct RealmHandle<S: Shut + 'static> {
     door: Door<S>,
-    // By number, from 1: a seat that isn't here is at a connection.
-    seats: Vec<Option<Seat<S>>>,
-    actor: Option<PromisedHandle<Option<Acted<S>>, Doing<ActorThread<S>>>>,
+    // What the actor's thread was given. It takes no bytes.
+    began: Snapshot<ActorThread<S>>,
+    actor: PromisedHandle<Acted<S>, Doing<ActorThread<S>>>,
     told: Receiver<bool>,
+    // What the writers of its sessions saw last of its history, where they are over. They take no bytes.
+    seen: Vec<RealmHistory>,
+    ghost same: { actor.promise.0.value ≡ began.value },
+    ghost of: { All (λ kept. kept.chronicle ≡ began.value.chronicle.chronicle) seen.items },
 }
 
 impl<S: Shut + Send + 'static> RealmHandle<S> {
-    /// Starts the realm's actor, and waits until it has begun.
+    ghost use Rattle.threaded_server.specs.Realms.{shown};
+
+    /// Starts a realm's actor, which receives what is posted at this door and at the seats of its inbox, and tells what it tells to the
+    /// other end of `told`.
     ///
     /// # Errors
-    /// Where it had no memory for the realm, or no thread could be made.
+    /// Where a thread was refused.
     pub fn start<R: Threads + Wait + Copy + Send + 'static>(
-        &mut self,
         rt: R,
+        alloc: Global,
+        door: Door<S>,
+        told: Receiver<bool>,
         work: ActorThread<S>,
-    ) -> Result<(), AllocError> {
+    ) -> Result<RealmHandle<S>, AllocError>
+        ensures { IfOk result (λ handle. shown handle ≡ record {
+          work = work;
+          seen = [];
+        }) }
+    {
+        let began = Snapshot::of(&work);
         let actor = start(rt, work)?;
-        self.actor = Some(actor);
-        match self.told.recv(&rt) {
-            Ok(true) => Ok(()),
-            _ => Err(AllocError),
-        }
+        Ok(RealmHandle {
+            door,
+            began,
+            actor,
+            told,
+            seen: Vec::new(alloc),
+        })
     }
 }
 
 impl<S: Shut + 'static> RealmHandle<S> {
-    /// A realm whose actor isn't started, with all seats of its inbox, and what its actor will tell by.
-    pub fn new(
-        alloc: Global,
-        door: Door<S>,
-        seats: Vec<Seat<S>>,
-        told: Receiver<bool>,
-    ) -> Result<RealmHandle<S>, AllocError> {
-        let mut by_number = Vec::with_capacity(alloc, seats.len())?;
-        for seat in seats {
-            by_number.push(Some(seat))?;
-        }
-        Ok(RealmHandle {
-            door,
-            seats: by_number,
-            actor: None,
-            told,
-        })
+    ghost use Rattle.threaded_server.specs.Realms.{RunsTo, shown};
+
+    /// Waits until the actor has begun. False where there was no memory for its realm.
+    pub fn has_begun<R: Wait>(&self, rt: &R) -> bool {
+        self.told.recv(rt) == Ok(true)
     }
 
-    /// The poster of a connection at its seat, which is free no longer. None where it isn't free.
-    pub fn take_poster(&mut self, conn: Conn) -> Option<Poster<S>> {
-        let at = self.take_seat(seat(conn))?;
-        match at.into_poster(conn) {
-            Ok(poster) => Some(poster),
-            Err(at) => {
-                self.put_seat(at);
-                None
-            }
-        }
+    /// Keeps what a writer saw last of the realm's history. It takes no memory, so none is refused: where `push` says that it is, it is
+    /// tried again.
+    pub fn keep<R: Wait>(&mut self, rt: &R, seen: RealmHistory)
+        requires { seen.chronicle ≡ self.old.began.value.chronicle.chronicle }
+        ensures { shown self.new ≡ record (shown self.old) {
+          seen = self.old.seen.items ++ seen ∷ [];
+        } }
+    {
+        push_seen(rt, &mut self.seen, seen);
     }
 
-    fn take_seat(&mut self, number: u64) -> Option<Seat<S>> {
-        let place = number.checked_sub(1)?;
-        self.seats.get_mut(place as usize)?.take()
-    }
-
-    /// Frees a seat.
-    pub fn put_seat(&mut self, at: Seat<S>) {
-        let number = at.number() as usize;
-        if let Some(place) = number.checked_sub(1) {
-            if let Some(free) = self.seats.get_mut(place) {
-                *free = Some(at);
-            }
-        }
-    }
-
-    /// Tells the actor to stop. Where there is none nothing happens.
-    pub fn stop<R: Wait>(&mut self, rt: &R) {
+    /// Tells the actor to stop. Where it has ended nothing happens.
+    pub fn stop<R: Wait>(&mut self, rt: &R)
+        ensures { shown self.new ≡ shown self.old }
+    {
         let _ = self.door.stop(rt);
     }
 
-    /// Waits until the actor, which was told to stop, has marked whose sessions it holds. Where there is none it returns at once, and
+    /// Waits until the actor, which was told to stop, has marked whose sessions it holds. Where it never began it returns at once, and
     /// nobody's session is held.
     pub fn await_marks<R: Wait>(&self, rt: &R) {
         let _ = self.told.recv(rt);
     }
 
-    /// Gives up the door and the seats, and waits for the actor's thread, which ends once no sender is left: so not before each
-    /// seat that is at a connection has come back. It gives back what the thread does.
-    pub fn join<R: Threads>(self, rt: &R) -> Option<Acted<S>> {
+    /// Gives up the door, and waits for the actor's thread, which ends once no sender is left: so not before each seat was given up.
+    /// What the writers saw begins the history that it gives back.
+    pub fn join<R: Threads + Wait>(self, rt: &R) -> RealmRun<S>
+        ensures { RunsTo (shown self) result }
+    {
         let RealmHandle {
             door,
-            seats,
+            began,
             actor,
             told: _,
+            seen,
         } = self;
         drop(door);
-        drop(seats);
-        match actor {
-            Some(actor) => actor.join(rt),
-            None => None,
+        let mut acted = actor.join(rt);
+        check_all(rt, &mut acted.chronicle, seen);
+        RealmRun {
+            began,
+            ended: Snapshot::of(&acted),
         }
     }
+}
+
+// One more that was seen.
+fn push_seen<R: Wait>(rt: &R, all: &mut Vec<RealmHistory>, mut seen: RealmHistory)
+    ensures { all.new.items ≡ all.old.items ++ seen ∷ [] }
+{
+    for _ in rt.forever() {
+        match all.push(seen) {
+            Ok(()) => return,
+            Err(refused) => seen = refused.value,
+        }
+    }
+    unreachable!()
+}
+
+// Takes in what was seen of the chronicle's history, and shows that all of it begins what the chronicle has.
+fn check_all<R: Wait>(rt: &R, chronicle: &mut RealmChronicle, mut seen: Vec<RealmHistory>)
+    requires { All (λ kept. kept.chronicle ≡ chronicle.old.chronicle) seen.items }
+    ensures same { chronicle.new ≡ chronicle.old }
+    ensures begins { All (λ kept. Reaches Begins (Some kept.history) chronicle.old.history) seen.items }
+{
+    for _ in rt.forever() {
+        match seen.pop() {
+            Some(last) => check_seen(chronicle, Some(last)),
+            None => return,
+        }
+    }
+    unreachable!()
 }

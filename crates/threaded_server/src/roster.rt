@@ -2,8 +2,8 @@
 ghost use Rattle.std.specs.Prelude.{◌≡◌, [], ◌∷◌, ◌++◌, true, None, Some, List, length, map, set, slice_get, All, IfOk, MatchOption, IsPermutation};
 ghost use Rattle.std.specs.Option.{ForSome};
 ghost use Rattle.ghost_state.specs.GhostList.{items_of};
-ghost use Rattle.threaded_server.specs.Overs.{Adds, AllWent, Went, after_of, before_of, sink_of};
-ghost use Rattle.threaded_server.specs.Roster.{halves_of, IsOfPlan};
+ghost use Rattle.threaded_server.specs.Overs.{AllWent, Went, after_of, before_of};
+ghost use Rattle.threaded_server.specs.Roster.{IsOfPlan, Leaves, halves_of};
 ghost use Rattle.threaded_server.specs.Slots.{Balances, in_slots};
 ghost use Rattle.threaded_server.specs.Streams.{Sight, sight};
 
@@ -46,6 +46,7 @@ impl<
         ensures plan { IfOk result (λ r. r.over.plan.value ≡ plan.now) }
         ensures lent { IfOk result (λ r. items_of r.lent ≡ []) }
         ensures over { IfOk result (λ r. items_of r.over.streams ≡ []) }
+        ensures none { IfOk result (λ r. All (λ slot. slot ≡ None) r.entries.items) }
     {
         Ok(Roster {
             entries: no_entries(alloc)?,
@@ -92,6 +93,8 @@ impl<
         ensures plan { self.new.over.plan ≡ self.old.over.plan }
         ensures lent { items_of self.new.lent ≡ items_of self.old.lent ++ halves_of entry ∷ [] }
         ensures over { items_of self.new.over.streams ≡ items_of self.old.over.streams }
+        ensures entries { self.new.entries.items
+            ≡ set self.old.entries.items place (Some entry) }
     {
         self.lent.add(halves);
         self.entries[place] = Some(entry);
@@ -107,6 +110,7 @@ impl<
         ensures lent { items_of self.new.lent ≡ items_of self.old.lent ++ halves.value ∷ [] }
         ensures over { items_of self.new.over.streams
             ≡ items_of self.old.over.streams ++ over.value ∷ [] }
+        ensures entries { self.new.entries ≡ self.old.entries }
     {
         self.lent.add(halves);
         self.over.add(over);
@@ -122,8 +126,9 @@ impl<
         ensures lent { items_of self.new.lent ≡ items_of self.old.lent }
         ensures over { MatchOption result (items_of self.new.over.streams
             ≡ items_of self.old.over.streams)
-            (λ r. Adds (items_of self.old.over.streams) (items_of self.new.over.streams)
-            (r.1.source.last.value, (sink_of r.1.course).last.value)) }
+            (λ r. Leaves (sight I.given I.is_ended I.calls I.failures O.taken O.calls O.failures)
+            (slice_get self.old.entries.items place) r.1 (items_of self.old.over.streams)
+            (items_of self.new.over.streams)) }
         ensures entries { self.new.entries.items ≡ set self.old.entries.items place None }
     {
         let slot = self.entries.get_mut(place)?;

@@ -32,6 +32,7 @@ use realm_inbox::opening::inbox_of_chronicle;
 use realm_inbox::{RealmChronicle, Shut};
 use std::alloc::{AllocError, Global};
 use std::random::RandomSource;
+use std::snapshot::Snapshot;
 use std::sync::atomic::{AtomicBool, Ordering};
 use std::sync::{Arc, Wait};
 use std::thread::Threads;
@@ -68,8 +69,8 @@ pub fn serve_on<R: Threads + Wait + RandomSource + Copy + Send + 'static, A: Acc
     ensures streams { ∥ Served (Marked A.Shut)
         (sight A.Source.given A.Source.is_ended A.Source.calls A.Source.failures A.Sink.taken
         A.Sink.calls A.Sink.failures)
-        config.now.realms.items (A.answers acceptor.old) (A.answers acceptor.new)
-        (A.lending acceptor.old) (A.lending acceptor.new) ∥₁ }
+        config.now.realms.items (pairs_of config.now.grants.items) (A.answers acceptor.old)
+        (A.answers acceptor.new) (A.lending acceptor.old) (A.lending acceptor.new) ∥₁ }
 {
     serve_logged(rt, alloc, acceptor, config, None)
 }
@@ -92,15 +93,15 @@ pub fn serve_logged<R: Threads + Wait + RandomSource + Copy + Send + 'static, A:
     ensures streams { ∥ Served (Marked A.Shut)
         (sight A.Source.given A.Source.is_ended A.Source.calls A.Source.failures A.Sink.taken
         A.Sink.calls A.Sink.failures)
-        config.now.realms.items (A.answers acceptor.old) (A.answers acceptor.new)
-        (A.lending acceptor.old) (A.lending acceptor.new) ∥₁ }
+        config.now.realms.items (pairs_of config.now.grants.items) (A.answers acceptor.old)
+        (A.answers acceptor.new) (A.lending acceptor.old) (A.lending acceptor.new) ∥₁ }
 {
     let plan = plan_of(alloc, config, log)?;
     let mut connection_table = ConnectionTable::new(alloc, plan)?;
     let served = open_and_accept(rt, acceptor, &mut connection_table, config);
     tell_stopping(&rt, &connection_table.plan.log, &served);
     close(&rt, acceptor, &mut connection_table);
-    connection_table.shows_all_over();
+    connection_table.finish(&rt);
     served
 }
 
@@ -111,6 +112,7 @@ fn open_and_accept<R: Threads + Wait + RandomSource + Copy + Send + 'static, A: 
     connection_table: &mut ConnectionTable<A::Source, A::Sink, Marked<A::Shut>>,
     config: &Config,
 ) -> Result<(), Fault>
+    requires { connection_table.old.roster.over.plan.value.config.value ≡ config.now }
     ensures lent { LentUntil (A.answers acceptor.old) (A.answers acceptor.new)
         (A.lending acceptor.old) (A.lending acceptor.new)
         (books connection_table.old.roster.lent connection_table.old.roster.over.streams)
@@ -145,11 +147,13 @@ fn counts_of(alloc: Global, realms: usize) -> Result<Vec<InUse>, AllocError> {
 fn plan_of(alloc: Global, config: &Config, log: Option<Log>) -> Result<Plan, AllocError>
     requires least { 0 < config.now.outbox }
     requires most { config.now.outbox ≤ 65536 }
-    ensures { IfOk result (λ plan. plan.realms.items ≡ config.now.realms.items) }
+    ensures realms { IfOk result (λ plan. plan.realms.items ≡ config.now.realms.items) }
+    ensures config { IfOk result (λ plan. plan.config.value ≡ config.now) }
 {
     let realms = copies_of(alloc, &config.realms)?;
     let in_use = counts_of(alloc, realms.len())?;
     Ok(Plan {
+        config: Snapshot::of(config),
         realms,
         in_use,
         outbox: config.outbox,
@@ -176,6 +180,7 @@ fn open<
     O: Sink + Drop + Send + 'static,
     S: Shut + Send + 'static,
 >(rt: R, connection_table: &mut ConnectionTable<I, O, S>, config: &Config) -> Result<(), AllocError>
+    requires { connection_table.old.roster.over.plan.value.config.value ≡ config.now }
     ensures { connection_table.new.roster ≡ connection_table.old.roster }
 {
     for name in &config.realms {
@@ -195,6 +200,7 @@ fn open_realm<
     config: &Config,
     name: &Topic,
 ) -> Result<(), AllocError>
+    requires { connection_table.old.roster.over.plan.value.config.value ≡ config.now }
     ensures { connection_table.new.roster ≡ connection_table.old.roster }
 {
     let alloc = connection_table.alloc;
@@ -207,7 +213,7 @@ fn open_realm<
     let work = ActorThread {
         alloc,
         plan: Arc::try_clone(&connection_table.plan)?,
-        realm: connection_table.realms.len(),
+        realm: connection_table.count_realms(),
         config: realm_config(alloc, name, config)?,
         words,
         chronicle,
@@ -215,13 +221,8 @@ fn open_realm<
         teller,
         marks: Arc::try_clone(&connection_table.marks)?,
     };
-    connection_table
-        .realms
-        .push(RealmHandle::new(alloc, door, seats, told)?)?;
-    match connection_table.realms.last_mut() {
-        Some(ends) => ends.start(rt, work),
-        None => Err(AllocError),
-    }
+    let handle = RealmHandle::start(rt, alloc, door, told, work)?;
+    connection_table.add_realm(&rt, handle, seats)
 }
 
 // Accepts streams until there is an end to it.
@@ -375,8 +376,8 @@ fn admit<
     connection_table.admit(rt, Arrival { parts, fate, peer })
 }
 
-// Stops the actors, ends the streams that no session's writer will end, and waits for all threads. Each actor turns away what is posted behind
-// its stop until the realm's door and seats are given up, which is last of all: so no thread waits for what nobody would do.
+// Stops the actors, ends the streams that no session's writer will end, and waits for all threads of connections. Each actor turns away what
+// is posted behind its stop until the realm's door and seats are given up, which is last of all: so no thread waits for what nobody would do.
 fn close<R: Threads + Wait, A: Acceptor>(
     rt: &R,
     acceptor: &mut A,
@@ -391,7 +392,6 @@ fn close<R: Threads + Wait, A: Acceptor>(
 {
     stop(rt, connection_table);
     join_all(rt, acceptor, connection_table);
-    join_actors(rt, connection_table);
 }
 
 // Stops the actors, and ends the streams that no session's writer will end.
@@ -407,31 +407,6 @@ fn stop<
         .plan
         .is_stopping
         .store(true, Ordering::SeqCst);
-    for realm in connection_table.realms.iter_mut() {
-        realm.stop(rt);
-    }
-    for realm in connection_table.realms.iter() {
-        realm.await_marks(rt);
-    }
+    connection_table.stop_actors(rt);
     connection_table.shut_unheld(rt);
-}
-
-// Gives up the doors and the seats, and waits for the actors' threads.
-fn join_actors<
-    R: Threads + Wait,
-    I: Source + Drop + Send + 'static,
-    O: Sink + Drop + Send + 'static,
-    S: Shut + Send + 'static,
->(rt: &R, connection_table: &mut ConnectionTable<I, O, S>)
-    ensures { connection_table.new.roster ≡ connection_table.old.roster }
-{
-    for _ in rt.forever() {
-        match connection_table.realms.pop() {
-            Some(realm) => {
-                realm.join(rt);
-            }
-            None => return,
-        }
-    }
-    unreachable!()
 }

@@ -329,6 +329,7 @@ fn prepare<S: Shut>(
     ensures asks { IfSome result (λ r. r.0.joining.authid ≡ (session_of opened).authid) }
     ensures start { IfSome result (λ r. start_of (session_of r.0.opened)
         ≡ start_of (session_of opened)) }
+    ensures realm { IfSome result (λ r. r.0.opened.realm ≡ opened.realm) }
     ensures limit { IfSome result (λ r. r.0.opened.limit ≡ opened.limit) }
     ensures drain { IfSome result (λ r. IsNewDrain r.0.joining.outbox.queue
         (poster_conn poster.now) (home_of_poster poster.now) r.1.drain) }

@@ -1,5 +1,5 @@
 //! The thread that writes to a client.
-ghost use Rattle.std.specs.Prelude.{◌≤◌};
+ghost use Rattle.std.specs.Prelude.{◌≡◌, ◌≤◌};
 
 use crate::closed::Closed;
 use crate::fate::Fate;
@@ -37,6 +37,8 @@ pub struct Writer<O, S> {
 /// How a writer ended.
 #[derive(Drop)]
 pub struct Written<O> {
+    /// The place of the session's realm.
+    pub realm: usize,
     /// What it wrote to.
     pub sink: Closed<O>,
     /// The history that the last item named, if it took one.
@@ -47,6 +49,38 @@ pub struct Written<O> {
     pub end: WriteEnd,
     /// How many octets the payload of the item has that it couldn't write, where that is known.
     pub octets: Option<usize>,
+}
+
+impl<O: Drop> Written<O> {
+    ghost use Rattle.threaded_server.specs.Overs.{seen_by};
+
+    /// The half that was written to, and what the last item named of its realm's history, if one was taken.
+    pub fn into_parts(self) -> (Closed<O>, Option<Seen>)
+        ensures sink { result.0 ≡ self.sink }
+        ensures seen { result.1 ≡ seen_by self }
+    {
+        let Written {
+            realm,
+            sink,
+            seen,
+            drain: _,
+            end: _,
+            octets: _,
+        } = self;
+        match seen {
+            Some(history) => (sink, Some(Seen { realm, history })),
+            None => (sink, None),
+        }
+    }
+}
+
+/// What a writer saw last of the history of a realm.
+#[derive(Drop)]
+pub struct Seen {
+    /// The realm's place.
+    pub realm: usize,
+    /// What it saw. It takes no bytes.
+    pub history: RealmHistory,
 }
 
 impl<O: Sink + Drop + Send + 'static, S: Shut> Task for Writer<O, S> {
@@ -96,6 +130,7 @@ impl<R: Wait + Copy, O: Sink + Drop + Send + 'static, S: Shut> Work<R> for Write
         let seen = drain.into_seen();
         drop(pongs);
         Written {
+            realm,
             sink: Closed::of(sink),
             seen,
             drain: left,

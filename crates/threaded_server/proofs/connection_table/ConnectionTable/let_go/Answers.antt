@@ -1,8 +1,20 @@
+use Rattle.std.proofs.Common.{sym, ap, ◌∙◌, subst}
 use Rattle.ghost_state.specs.GhostList.{items_of}
+use Rattle.threaded_server.proofs.TableStanding.{Standing, over_standing}
 use Rattle.threaded_server.proofs.TableSteps.{untouched_adds}
+use Rattle.threaded_server.specs.Posters.{lists_of}
+use Rattle.threaded_server.specs.Realms.{realms_of}
+use Rattle.threaded_server.specs.Ties.{OverKept}
 use Rattle.threaded_server.proofs.connection_table.ConnectionTable.let_go.Goals as goal
 
 pub returns-clause-over : goal.returns-clause-over
 returns-clause-over g c =
     untouched_adds (items_of c.args.self.now.roster.over.streams) (items_of c.pass.new.self.over.streams) c.args.halves c.of.result c.of-3.result.value c.of-4.result.last.value c.of-5.result.last.value
     c.pass.ensures.over c.of-3.ensures c.of.ensures c.of-4.ensures c.of-5.ensures
+
+pub invariant_of-self : goal.invariant_of-self
+invariant_of-self g c =
+    let old = c.args.self.now in
+    let s = over_standing old.roster.over.plan c.pass.new.self.over.plan (realms_of old.realms) (lists_of old.posters) old.roster.entries.items c.pass.new.self.entries.items (items_of old.roster.over.streams) (items_of c.pass.new.self.over.streams) c.of-3.result.value
+    c.pass.ensures.plan (ap (λ v. v.items) c.pass.ensures.entries) c.pass.ensures.over (subst (λ o. OverKept (realms_of old.realms) o) (sym c.of-3.ensures) tt) (record { free = old.free; served = old.served; kept = old.kept; grants = old.grants }) in
+    record { same = old.same ∙ ap (λ p. p.value) (sym c.pass.ensures.plan); free = s.free; served = s.served; kept = s.kept; grants = s.grants }

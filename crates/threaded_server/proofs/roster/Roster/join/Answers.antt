@@ -1,7 +1,8 @@
-use Rattle.std.proofs.Common.{rules, ◌<◌, ◌≡◌, length, refl, sym, ap, ◌∙◌, None, Some, slice_get}
+use Rattle.std.proofs.Common.{rules, ◌<◌, ◌≡◌, [], ◌∷◌, ◌++◌, length, refl, sym, ap, ◌∙◌, subst, None, Some, slice_get}
 use Rattle.std.proofs.lemmas.Option.{slice_get_read}
 use Rattle.ghost_state.specs.GhostList.{items_of}
-use Rattle.threaded_server.proofs.RosterSteps.{leave_balances, left_of_plan, seated_after, seated_before, still_balances}
+use Rattle.threaded_server.proofs.RosterSteps.{leave_balances, left_of_plan, seated_before, still_balances}
+use Rattle.threaded_server.specs.Streams.{Reads, sight}
 use Rattle.threaded_server.proofs.roster.Roster.join.Goals as goal
 
 pub invariant_of-self-in-None : goal.invariant_of-self-in-None
@@ -31,8 +32,15 @@ invariant_of-self-2 g c =
     }
 
 pub returns-clause-over : goal.returns-clause-over
-returns-clause-over g c = record {
-  over = c.of-2.result.value;
-  added = c.add.ensures.streams;
-  after = seated_after c.in-Some.entry.began c.of.result c.join-ended.result c.of-2.result.value c.of-2.ensures c.of.ensures;
-}
+returns-clause-over g c =
+    let slots = c.args.self.now.entries.items in
+    let within : c.args.place < length c.args.self.now.entries.items = search rules in
+    let at = slice_get_read slots (length slots) c.args.place c.in_ok-slot.slot.now refl within c.in_ok-slot.ensures.value in
+    record {
+      entry = c.in-Some.entry;
+      held = at ∙ ap Some (sym c.in-Some.ensures.value);
+      reads = subst (λ reader. Reads (sight g.I.Source.given g.I.Source.is_ended g.I.Source.calls g.I.Source.failures g.O.Sink.taken g.O.Sink.calls g.O.Sink.failures) reader c.join-ended.result) c.in-Some.entry.same c.join-ended.ensures;
+      left = c.of.result;
+      left_is = c.of.ensures;
+      over = c.add.ensures.streams ∙ ap (λ o. items_of c.args.self.now.over.streams ++ o ∷ []) c.of-2.ensures;
+    }

@@ -1,0 +1,173 @@
+-- How the realms ran, and what their histories owe.
+use Rattle.std.proofs.Common.{◌≡◌, ◌<◌, ℕ, zero, suc, List, [], ◌∷◌, ◌++◌, Option, None, Some, All, Contains, IfSome, length, map, remove, slice_get, slice_index_or, refl, sym, ap, ◌∙◌, append_assoc, append-nil, arith, subst}
+use mathlib.Core.List.{IsPrefix}
+use Rattle.std.proofs.lemmas.List.Elements.{All-contains, All-cons, All-head, All-nil, All-pop, All-tail, All-weaker}
+use Rattle.std.proofs.lemmas.Option.{none-some, same_Some}
+use Rattle.chronicle.specs.Recorded.{Reaches, Recorded}
+use Rattle.outbox_queue.specs.Ends.{Owes}
+use Rattle.outbox_queue.specs.Tied.{Kept}
+use Rattle.realm.specs.Grants.{Grants, pairs_of}
+use Rattle.realm.specs.History.{History, Begins}
+use Rattle.realm.specs.Yield.{owed}
+use Rattle.realm_inbox.specs.HistoryBeginnings.{owed_more}
+use Rattle.realm_inbox.specs.EndViews.{inbox_of, inbox_of_poster}
+use Rattle.realm_inbox.specs.declared.ends.Poster.{Poster}
+use Rattle.session.specs.declared.messages.item.Item.{Item}
+use Rattle.std.specs.declared.snapshot.Snapshot.{Snapshot}
+use Rattle.threaded_server.specs.Acts.{Acts}
+use Rattle.threaded_server.specs.Posters.{mark_of}
+use Rattle.threaded_server.specs.Realms.{EachRuns, RunsTo, Shown, shown}
+use Rattle.threaded_server.specs.Ties.{CourseKept, CourseTied, HasGrants, IsKept, IsKeptIn, IsRun, IsTied, OverKept, OverTied}
+use Rattle.threaded_server.specs.Writes.{owed_kept}
+use Rattle.threaded_server.specs.declared.actor_thread.Acted.{Acted}
+use Rattle.threaded_server.specs.declared.actor_thread.ActorThread.{ActorThread}
+use Rattle.threaded_server.specs.declared.realm_handle.RealmHandle.{RealmHandle}
+use Rattle.threaded_server.specs.declared.course.Course.{Course}
+use Rattle.threaded_server.specs.declared.course.Course.TheVariants.{Untouched, NotOpened, OpenedAlone, Served}
+use Rattle.threaded_server.specs.declared.over.Over.{Over}
+use Rattle.threaded_server.specs.declared.over.Over.TheVariants as over
+use Rattle.threaded_server.specs.declared.plan.Plan.{Plan}
+use Rattle.threaded_server.specs.declared.realm_run.RealmRun.{RealmRun}
+use Rattle.threaded_server.specs.declared.writer_thread.Written.{Written}
+
+module _ {S : Type 0} where
+  -- one realm more ran
+  pub one_ran : (realms : List (Shown S)) (runs : List (RealmRun S)) (realm : Shown S) (run : RealmRun S) → EachRuns realms runs → RunsTo realm run → EachRuns (realms ++ realm ∷ []) (runs ++ run ∷ [])
+  one_ran [] [] realm run each h = (h, tt)
+  one_ran [] (run ∷ runs) realm last each h = absurd each
+  one_ran (realm ∷ realms) [] last run each h = absurd each
+  one_ran (first ∷ realms) (run ∷ runs) realm last each h = (each.0, one_ran realms runs realm last each.1 h)
+
+  -- the first of them ran
+  pub record RunSoFar (all rest : List (Shown S)) (runs : List (RealmRun S)) : Type 0 where
+    pub done : List (Shown S)
+    pub all_are : all ≡ done ++ rest
+    pub each : EachRuns done runs
+
+  pub so_far_none : (all : List (Shown S)) (runs : List (RealmRun S)) → runs ≡ [] → RunSoFar all all runs
+  so_far_none all runs e = record { done = []; all_are = refl; each = subst (λ (l : List (RealmRun S)). EachRuns [] l) (sym e) tt }
+
+  pub so_far_on : (all rest left : List (Shown S)) (realm : Shown S) (runs now : List (RealmRun S)) (run : RealmRun S) → RunSoFar all rest runs → rest ≡ realm ∷ left → now ≡ runs ++ run ∷ [] → RunsTo realm run → RunSoFar all left now
+  so_far_on all rest left realm runs now run h e f ran = record {
+    done = h.done ++ realm ∷ [];
+    all_are = h.all_are ∙ ap (λ l. h.done ++ l) e ∙ sym (append_assoc h.done (realm ∷ []) left);
+    each = subst (λ (l : List (RealmRun S)). EachRuns (h.done ++ realm ∷ []) l) (sym f) (one_ran h.done runs realm run h.each ran);
+  }
+
+  pub so_far_all : (all rest : List (Shown S)) (runs : List (RealmRun S)) → RunSoFar all rest runs → rest ≡ [] → EachRuns all runs
+  so_far_all all rest runs h e = subst (λ (l : List (Shown S)). EachRuns l runs) (sym (h.all_are ∙ ap (λ l. h.done ++ l) e ∙ append-nil h.done)) h.each
+
+  ran_at : (realms : List (Shown S)) (runs : List (RealmRun S)) (i : ℕ) (realm : Shown S) → EachRuns realms runs → slice_get realms i ≡ Some realm → (run : RealmRun S) × (slice_get runs i ≡ Some run) × RunsTo realm run
+  ran_at [] runs i realm each at = absurd (none-some realm at)
+  ran_at (first ∷ realms) [] i realm each at = absurd each
+  ran_at (first ∷ realms) (run ∷ runs) zero realm each at = (run, refl, subst (λ (r : Shown S). RunsTo r run) (same_Some first realm at) each.0)
+  ran_at (first ∷ realms) (run ∷ runs) (suc i) realm each at = ran_at realms runs i realm each.1 at
+
+  pub all_ran : (grants : Grants) (realms : List (Shown S)) (runs : List (RealmRun S)) → EachRuns realms runs → All (λ r. pairs_of r.work.config.grants.items ≡ grants) realms → All (λ run. IsRun grants run) runs
+  all_ran grants [] [] each h = All-nil (λ run. IsRun grants run)
+  all_ran grants [] (run ∷ runs) each h = absurd each
+  all_ran grants (realm ∷ realms) [] each h = absurd each
+  all_ran grants (realm ∷ realms) (run ∷ runs) each h =
+      let P = λ (r : Shown S). pairs_of r.work.config.grants.items ≡ grants in
+      All-cons (λ x. IsRun grants x) run runs (record { grants_are = ap (λ w. pairs_of w.config.grants.items) each.0.began ∙ All-head P realm realms h; acts = each.0.acts }) (all_ran grants realms runs each.1 (All-tail P realm realms h))
+
+-- of what was seen, what isn't left begins the history
+pub record SeenSoFar (own : Option History) (all rest : List (Kept History)) : Type 0 where
+  pub gone : List (Kept History)
+  pub all_are : all ≡ rest ++ gone
+  pub begins : All (λ kept. Reaches Begins (Some kept.history) own) gone
+
+pub seen_none : (own : Option History) (all : List (Kept History)) → SeenSoFar own all all
+seen_none own all = record { gone = []; all_are = sym (append-nil all); begins = All-nil (λ kept. Reaches Begins (Some kept.history) own) }
+
+pub seen_on : (own : Option History) (all rest left : List (Kept History)) (last : Kept History) → rest ≡ left ++ last ∷ [] → Reaches Begins (Some last.history) own → SeenSoFar own all rest → SeenSoFar own all left
+seen_on own all rest left last e r h = record {
+  gone = last ∷ h.gone;
+  all_are = h.all_are ∙ ap (λ l. l ++ h.gone) e ∙ append_assoc left (last ∷ []) h.gone;
+  begins = All-cons (λ kept. Reaches Begins (Some kept.history) own) last h.gone r h.begins;
+}
+
+pub seen_all : (own : Option History) (all rest : List (Kept History)) → rest ≡ [] → SeenSoFar own all rest → All (λ kept. Reaches Begins (Some kept.history) own) all
+seen_all own all rest e h = subst (λ l. All (λ kept. Reaches Begins (Some kept.history) own) l) (sym (h.all_are ∙ ap (λ l. l ++ h.gone) e)) h.begins
+
+-- all that is left was seen of this chronicle
+pub record Checking (own : Recorded History) (all rest : List (Kept History)) : Type 0 where
+  pub here : All (λ kept. kept.chronicle ≡ own.chronicle) rest
+  pub so_far : SeenSoFar own.history all rest
+
+pub checking_none : (own : Recorded History) (all : List (Kept History)) → All (λ kept. kept.chronicle ≡ own.chronicle) all → Checking own all all
+checking_none own all h = record { here = h; so_far = seen_none own.history all }
+
+pub checking_on : (own new : Recorded History) (all rest left : List (Kept History)) (last : Kept History) → new ≡ own → rest ≡ left ++ last ∷ [] → Reaches Begins (Some last.history) own.history → Checking own all rest → Checking new all left
+checking_on own new all rest left last same e r h = subst (λ (c : Recorded History). Checking c all left) (sym same) (record {
+  here = (All-pop (λ (kept : Kept History). kept.chronicle ≡ own.chronicle) rest left (Some last) e h.here).0;
+  so_far = seen_on own.history all rest left last e r h.so_far;
+})
+
+pub checking_all : (own was : Recorded History) (all rest : List (Kept History)) → own ≡ was → length rest ≡ 0 → Checking own all rest → All (λ kept. Reaches Begins (Some kept.history) was.history) all
+checking_all own was all rest same none h = subst (λ (c : Recorded History). All (λ kept. Reaches Begins (Some kept.history) c.history) all) same (seen_all own.history all rest (nothing rest none) h.so_far)
+  where
+    nothing : (xs : List (Kept History)) → length xs ≡ 0 → xs ≡ []
+    nothing [] e = refl
+    nothing (x ∷ xs) e = absurd (omega (arith, e))
+
+-- the first of a list, and the others
+pub first_of : {A : Type 0} (xs : List A) (x : A) → 0 < length xs → x ≡ slice_index_or xs 0 x → xs ≡ x ∷ remove xs 0
+first_of [] x h e = absurd (omega (arith, h))
+first_of (y ∷ ys) x h e = ap (λ z. z ∷ ys) (sym e)
+
+module _ {S : Type 0} where
+  -- a realm's actor's thread ended, and what was seen of its history was checked
+  pub ran_to : (handle : RealmHandle S) (promised : ActorThread S) (acted : Acted S) (chronicle : Recorded History) (left : Snapshot (Acted S)) → promised ≡ handle.began.value → Acts promised acted → chronicle ≡ acted.chronicle
+      → left.value ≡ record acted { chronicle = chronicle } → All (λ kept. Reaches Begins (Some kept.history) acted.chronicle.history) handle.seen.items → RunsTo (shown handle) (record { began = handle.began; ended = left })
+  ran_to handle promised acted chronicle left same acts kept e begins =
+      let is : left.value ≡ acted = e ∙ ap (λ (c : Recorded History). record acted { chronicle = c }) kept in
+      record {
+        began = refl;
+        acts = subst (λ (w : ActorThread S). Acts w left.value) same (subst (λ (a : Acted S). Acts promised a) (sym is) acts);
+        begins = subst (λ (a : Acted S). All (λ kept. Reaches Begins (Some kept.history) a.chronicle.history) handle.seen.items) (sym is) begins;
+      }
+
+-- what begins what a history owes begins what a longer one owes
+owed_on : (xs : List Item) (h k : History) (conn : ℕ) → Begins h k → IsPrefix xs (owed h conn) → IsPrefix xs (owed k conn)
+owed_on xs h k conn b p = let q = owed_more h k conn b in (p.0 ++ q.0, sym (append_assoc xs p.0 q.0) ∙ ap (λ l. l ++ q.0) p.1 ∙ q.1)
+
+owed_by : (o : Option (Kept History)) (own : Option History) (conn : ℕ) (xs : List Item) → IfSome o (λ kept. Reaches Begins (Some kept.history) own) → Owes owed_kept o conn xs → Owes owed own conn xs
+owed_by None None conn xs r e = e
+owed_by None (Some h) conn xs r e = (owed h conn, ap (λ l. l ++ owed h conn) e)
+owed_by (Some kept) None conn xs r p = absurd r
+owed_by (Some kept) (Some h) conn xs r p = owed_on xs kept.history h conn r p
+
+reached : (own : Option History) (all : List (Kept History)) (o : Option (Kept History)) → All (λ kept. Reaches Begins (Some kept.history) own) all → IsKeptIn all o → IfSome o (λ kept. Reaches Begins (Some kept.history) own)
+reached own all None h k = tt
+reached own all (Some kept) h k = All-contains (λ x. Reaches Begins (Some x.history) own) all kept h k
+
+module _ {O S : Type 0} where
+  tied : (realms : List (Shown S)) (runs : List (RealmRun S)) (posters : List (Option (Poster S))) (written : Written O) → EachRuns realms runs → IsKept realms posters written → IsTied runs posters written
+  tied realms runs posters written each k =
+      let r = ran_at realms runs written.realm k.realm each k.at in
+      let own = r.0.ended.value.chronicle.history in
+      record {
+        run = r.0;
+        at = r.1;
+        poster = k.poster;
+        posts = k.posts;
+        inbox = k.inbox ∙ ap (λ w. mark_of (inbox_of w.inbox)) (sym r.2.began);
+        conn = k.conn;
+        owes = owed_by written.seen own written.drain.value.conn written.drain.value.taken (reached own k.realm.seen written.seen r.2.begins k.kept) k.owes;
+      }
+
+  course_tied : (realms : List (Shown S)) (runs : List (RealmRun S)) (posters : List (Option (Poster S))) (course : Course O) → EachRuns realms runs → CourseKept realms posters course → CourseTied runs posters course
+  course_tied realms runs posters (Untouched sink) each k = tt
+  course_tied realms runs posters (NotOpened sink fault) each k = tt
+  course_tied realms runs posters (OpenedAlone sink) each k = tt
+  course_tied realms runs posters (Served end written) each k = tied realms runs posters written each k
+
+module _ {I O S : Type 0} where
+  over_tied : (realms : List (Shown S)) (runs : List (RealmRun S)) (o : Over I O S) → EachRuns realms runs → OverKept realms o → OverTied runs o
+  over_tied realms runs (over.Seated reader ended) each k = course_tied realms runs reader.value.posters.items ended.value.course each k
+  over_tied realms runs (over.TurnedAway halves source sink) each k = tt
+  over_tied realms runs (over.Untouched halves) each k = tt
+
+  pub all_tied : (realms : List (Shown S)) (runs : List (RealmRun S)) (overs : List (Over I O S)) → EachRuns realms runs → All (λ o. OverKept realms o) overs → All (λ o. OverTied runs o) overs
+  all_tied realms runs overs each all = All-weaker (λ o. OverKept realms o) (λ o. OverTied runs o) (λ o. over_tied realms runs o each) overs all

@@ -1,0 +1,67 @@
+-- What the accepting thread has of the realms.
+use Rattle.std.specs.Prelude.{◌≡◌, ℕ, List, [], ◌∷◌, ◌++◌, Option, None, Some, All, map, set, slice_get}
+use Rattle.chronicle.specs.Recorded.{Reaches}
+use Rattle.outbox_queue.specs.Ends.{IsOf}
+use Rattle.outbox_queue.specs.Tied.{Kept}
+use Rattle.realm.specs.History.{History, Begins}
+use Rattle.realm_inbox.specs.EndViews.{inbox_of}
+use Rattle.threaded_server.specs.Acts.{Acts}
+use Rattle.threaded_server.specs.Posters.{Mark, mark_of}
+use Rattle.threaded_server.specs.declared.actor_thread.ActorThread.{ActorThread}
+use Rattle.threaded_server.specs.declared.realm_handle.RealmHandle.{RealmHandle}
+use Rattle.threaded_server.specs.declared.realm_run.RealmRun.{RealmRun}
+use Rattle.threaded_server.specs.declared.realms.Realms.{Realms}
+use Rattle.threaded_server.specs.declared.writer_thread.Seen.{Seen}
+
+-- of a realm: what its actor's thread was given, and what the writers of its sessions saw last of its history, where they are over
+pub record Shown (S : Type 0) : Type 0 where
+  pub work : ActorThread S
+  pub seen : List (Kept History)
+
+module _ {S : Type 0} where
+  abbrev pub shown : RealmHandle S → Shown S
+  shown handle = record { work = handle.began.value; seen = handle.seen.items }
+
+  abbrev pub realms_of : Realms S → List (Shown S)
+  realms_of realms = map shown realms.handles.items
+
+  -- the inbox that its actor runs on
+  abbrev pub mark_in : Shown S → Mark
+  mark_in realm = mark_of (inbox_of realm.work.inbox)
+
+  abbrev pub places_of : List (Shown S) → List Mark
+  places_of realms = map mark_in realms
+
+  -- with one that was seen last
+  abbrev pub with_seen : Shown S → Kept History → Shown S
+  with_seen r kept = record r { seen = r.seen ++ kept ∷ [] }
+
+  -- what was seen is of its realm's chronicle, if one is picked for its inbox
+  pub record IsAtHome (realms : List (Shown S)) (seen : Seen) : Type 0 where
+    pub realm : Shown S
+    pub at : slice_get realms seen.realm ≡ Some realm
+    pub of : IsOf (λ (h : Kept History) chronicle. h.chronicle ≡ chronicle) (Some seen.history) (mark_in realm).1
+
+  -- its realm keeps it
+  pub record Keeps (realms : List (Shown S)) (seen : Seen) (now : List (Shown S)) : Type 0 where
+    pub realm : Shown S
+    pub at : slice_get realms seen.realm ≡ Some realm
+    pub kept : now ≡ set realms seen.realm (with_seen realm seen.history)
+
+  -- if there is any
+  abbrev pub TakesIn : List (Shown S) → Option Seen → List (Shown S) → Type 0
+  TakesIn realms None now = now ≡ realms
+  TakesIn realms (Some seen) now = Keeps realms seen now
+
+  -- a realm ran: its actor's thread gave back what it should, and what was seen last of its history begins what its chronicle has
+  pub record RunsTo (realm : Shown S) (run : RealmRun S) : Type 0 where
+    pub began : run.began.value ≡ realm.work
+    pub acts : Acts run.began.value run.ended.value
+    pub begins : All (λ kept. Reaches Begins (Some kept.history) run.ended.value.chronicle.history) realm.seen
+
+  -- each of them did, in their order
+  abbrev pub EachRuns : List (Shown S) → List (RealmRun S) → Type 0
+  EachRuns [] [] = Unit {0}
+  EachRuns [] (run ∷ runs) = ⊥
+  EachRuns (realm ∷ realms) [] = ⊥
+  EachRuns (realm ∷ realms) (run ∷ runs) = RunsTo realm run × EachRuns realms runs

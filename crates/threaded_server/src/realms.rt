@@ -1,0 +1,125 @@
+//! The realms of a broker, as the accepting thread has them.
+ghost use Rattle.std.specs.Prelude.{◌≡◌, ◌++◌, ◌∷◌, [], length, IfOk, IfSome, MatchResult};
+ghost use Rattle.ghost_state.specs.GhostList.{items_of};
+ghost use Rattle.threaded_server.specs.Realms.{EachRuns, IsAtHome, Keeps, TakesIn, realms_of, shown};
+
+use crate::realm_handle::RealmHandle;
+use crate::realm_run::RealmRun;
+use crate::writer_thread::Seen;
+use ghost_state::GhostList;
+use realm_inbox::Shut;
+use std::alloc::{AllocError, Global};
+use std::snapshot::Snapshot;
+use std::sync::Wait;
+use std::thread::Threads;
+
+/// The realms of a broker, in order.
+#[derive(Drop)]
+pub struct Realms<S: Shut + 'static> {
+    handles: Vec<RealmHandle<S>>,
+}
+
+impl<S: Shut + 'static> Realms<S> {
+    /// None yet, with room for so many.
+    ///
+    /// # Errors
+    /// Where memory was refused.
+    pub fn with_capacity(alloc: Global, count: usize) -> Result<Realms<S>, AllocError>
+        ensures { IfOk result (λ realms. realms_of realms ≡ []) }
+    {
+        Ok(Realms {
+            handles: Vec::with_capacity(alloc, count)?,
+        })
+    }
+
+    /// How many there are.
+    pub fn len(&self) -> usize
+        ensures { result ≡ length (realms_of self.now) }
+    {
+        self.handles.len()
+    }
+
+    /// One more.
+    ///
+    /// # Errors
+    /// Where memory was refused. Its actor's thread has ended then.
+    pub fn add<R: Threads + Wait>(
+        &mut self,
+        rt: &R,
+        handle: RealmHandle<S>,
+    ) -> Result<(), AllocError>
+        ensures { MatchResult result
+            (λ _. realms_of self.new ≡ realms_of self.old ++ shown handle ∷ [])
+            (λ _. realms_of self.new ≡ realms_of self.old) }
+    {
+        match self.handles.push(handle) {
+            Ok(()) => Ok(()),
+            Err(refused) => {
+                refused.value.join(rt);
+                Err(AllocError)
+            }
+        }
+    }
+
+    /// Waits until the actor of the last one has begun. False where there was no memory for its realm.
+    pub fn last_has_begun<R: Wait>(&self, rt: &R) -> bool {
+        match self.handles.last() {
+            Some(last) => last.has_begun(rt),
+            None => false,
+        }
+    }
+
+    /// Keeps what a writer saw last, if it took anything.
+    pub fn take_in<R: Wait>(&mut self, rt: &R, seen: Option<Seen>)
+        requires { IfSome seen (λ s. IsAtHome (realms_of self.old) s) }
+        ensures { TakesIn (realms_of self.old) seen (realms_of self.new) }
+    {
+        if let Some(seen) = seen {
+            self.keep(rt, seen);
+        }
+    }
+
+    fn keep<R: Wait>(&mut self, rt: &R, seen: Seen)
+        requires { IsAtHome (realms_of self.old) seen }
+        ensures { Keeps (realms_of self.old) seen (realms_of self.new) }
+    {
+        let handle = &mut self.handles[seen.realm];
+        handle.keep(rt, seen.history);
+    }
+
+    /// Stops the actors, and waits until each has marked whose sessions it holds.
+    pub fn stop<R: Wait>(&mut self, rt: &R)
+        ensures { realms_of self.new ≡ realms_of self.old }
+    {
+        for place in 0..self.handles.len() {
+            self.stop_at(rt, place);
+        }
+        for handle in self.handles.iter() {
+            handle.await_marks(rt);
+        }
+    }
+
+    fn stop_at<R: Wait>(&mut self, rt: &R, place: usize)
+        ensures { realms_of self.new ≡ realms_of self.old }
+    {
+        if let Some(handle) = self.handles.get_mut(place) {
+            handle.stop(rt);
+        }
+    }
+
+    /// Gives up the doors and the seats, and waits for the actors' threads.
+    pub fn join<R: Threads + Wait>(self, rt: &R) -> GhostList<RealmRun<S>>
+        ensures { EachRuns (realms_of self) (items_of result) }
+    {
+        let mut handles = self.handles;
+        let mut runs = GhostList::new();
+        for _ in rt.forever() {
+            if handles.is_empty() {
+                return runs;
+            }
+            let run = handles.remove(0).join(rt);
+            runs.add(Snapshot::of(&run));
+        }
+        unreachable!()
+    }
+}
