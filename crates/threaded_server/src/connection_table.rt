@@ -176,7 +176,11 @@ impl<
         ensures { self.new.roster ≡ self.old.roster }
     {
         let place = self.realms.len();
-        self.realms.add(rt, handle)?;
+        if let Err(handle) = self.realms.add(handle) {
+            drop(seats);
+            handle.join(rt);
+            return Err(AllocError);
+        }
         self.posters.add_realm(&self.realms, place, seats)?;
         if self.realms.last_has_begun(rt) {
             Ok(())

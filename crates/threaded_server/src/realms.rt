@@ -39,25 +39,15 @@ impl<S: Shut + 'static> Realms<S> {
         self.handles.len()
     }
 
-    /// One more.
-    ///
-    /// # Errors
-    /// Where memory was refused. Its actor's thread has ended then.
-    pub fn add<R: Threads + Wait>(
-        &mut self,
-        rt: &R,
-        handle: RealmHandle<S>,
-    ) -> Result<(), AllocError>
+    /// One more. It comes back where memory was refused.
+    pub fn add(&mut self, handle: RealmHandle<S>) -> Result<(), RealmHandle<S>>
         ensures { MatchResult result
             (λ _. realms_of self.new ≡ realms_of self.old ++ shown handle ∷ [])
             (λ _. realms_of self.new ≡ realms_of self.old) }
     {
         match self.handles.push(handle) {
             Ok(()) => Ok(()),
-            Err(refused) => {
-                refused.value.join(rt);
-                Err(AllocError)
-            }
+            Err(refused) => Err(refused.value),
         }
     }
 
