@@ -111,7 +111,7 @@ impl<S: Shut + 'static> PosterTable<S> {
     }
 }
 
-// One poster more, of the realm at this place.
+// One poster more, of the realm at this place. Contracts alone ask which realms there are.
 fn add_poster<S: Shut + 'static>(
     posters: &mut Posters<S>,
     realms: &Realms<S>,
