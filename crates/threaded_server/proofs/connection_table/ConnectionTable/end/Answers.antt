@@ -23,11 +23,11 @@ free-requires-clause-seat g c κs within =
 
 pub invariant_of-self : goal.invariant_of-self
 invariant_of-self g c =
-    let old = c.args.self.now in
-    let s = ended_standing (sight g.I.Source.given g.I.Source.is_ended g.I.Source.calls g.I.Source.failures g.O.Sink.taken g.O.Sink.calls g.O.Sink.failures) old.roster.over.plan c.pass.new.self.over.plan (realms_of old.realms) (realms_of c.take_in.new.self) (lists_of old.posters) old.roster.entries.items c.pass.new.self.entries.items (items_of old.roster.over.streams)
+    let table = c.args.self.now in
+    let s = ended_standing (sight g.I.Source.given g.I.Source.is_ended g.I.Source.calls g.I.Source.failures g.O.Sink.taken g.O.Sink.calls g.O.Sink.failures) table.roster.over.plan c.pass.new.self.over.plan (realms_of table.realms) (realms_of c.take_in.new.self) (lists_of table.posters) table.roster.entries.items c.pass.new.self.entries.items (items_of table.roster.over.streams)
     (items_of c.pass.new.self.over.streams) c.args.began c.of.result c.args.ended c.of-2.result.value c.into_parts-parts.result.1 c.pass.ensures.plan (ap (λ v. v.items) c.pass.ensures.entries) c.pass.ensures.over c.of-2.ensures c.of.ensures c.requires.reads c.requires.at
-    c.into_parts-parts.ensures.seen c.take_in.ensures (record { free = old.free; served = old.served; kept = old.kept; grants = old.grants }) in
-    record { same = old.same ∙ ap (λ p. p.value) (sym c.pass.ensures.plan); free = s.free; served = s.served; kept = s.kept; grants = s.grants }
+    c.into_parts-parts.ensures.seen c.take_in.ensures (record { free = table.free; served = table.served; kept = table.kept; grants = table.grants }) in
+    record { same = table.same ∙ ap (λ p. p.value) (sym c.pass.ensures.plan); free = s.free; served = s.served; kept = s.kept; grants = s.grants }
 
 pub returns-clause-over : goal.returns-clause-over
 returns-clause-over g c =

@@ -6,7 +6,7 @@ use Rattle.threaded_server.proofs.connection_table.ConnectionTable.free.Goals as
 
 pub invariant_of-self : goal.invariant_of-self
 invariant_of-self g c =
-    let old = c.args.self.now in
-    let s = put_standing old.roster.over.plan.value (realms_of old.realms) (lists_of old.posters) (lists_of c.put.new.self) old.roster.entries.items (items_of old.roster.over.streams) c.args.place c.args.posters.items c.put.ensures c.requires.at c.requires.seat
-    (record { free = old.free; served = old.served; kept = old.kept; grants = old.grants }) in
-    record { same = old.same; free = s.free; served = s.served; kept = s.kept; grants = s.grants }
+    let table = c.args.self.now in
+    let s = put_standing table.roster.over.plan.value (realms_of table.realms) (lists_of table.posters) (lists_of c.put.new.self) table.roster.entries.items (items_of table.roster.over.streams) c.args.place c.args.posters.items c.put.ensures c.requires.at c.requires.seat
+    (record { free = table.free; served = table.served; kept = table.kept; grants = table.grants }) in
+    record { same = table.same; free = s.free; served = s.served; kept = s.kept; grants = s.grants }

@@ -13,28 +13,28 @@ take-requires-after_bounds g c κs within = seat_asks (places_of (realms_of c.ar
 
 pub invariant_of-self-in_default : goal.invariant_of-self-in_default
 invariant_of-self-in_default g c =
-    let old = c.args.self.now in
-    let s = still_free old.roster.over.plan.value (realms_of old.realms) (lists_of old.posters) (lists_of c.take.new.self) old.roster.entries.items (items_of old.roster.over.streams) c.in_default.ensures (record { free = old.free; served = old.served; kept = old.kept; grants = old.grants }) in
-    record { same = old.same; free = s.free; served = old.served; kept = old.kept; grants = old.grants }
+    let table = c.args.self.now in
+    let s = still_free table.roster.over.plan.value (realms_of table.realms) (lists_of table.posters) (lists_of c.take.new.self) table.roster.entries.items (items_of table.roster.over.streams) c.in_default.ensures (record { free = table.free; served = table.served; kept = table.kept; grants = table.grants }) in
+    record { same = table.same; free = s.free; served = table.served; kept = table.kept; grants = table.grants }
 
 pub invariant_of-self : goal.invariant_of-self
 invariant_of-self g c =
-    let old = c.args.self.now in
-    let s = taken_standing old.roster.over.plan.value (realms_of old.realms) (lists_of old.posters) (lists_of c.take.new.self) old.roster.entries.items (items_of old.roster.over.streams) (seat_of c.args.conn - 1) c.in-Some.ensures.left (record { free = old.free; served = old.served; kept = old.kept; grants = old.grants }) in
-    record { same = old.same; free = s.free; served = s.served; kept = s.kept; grants = s.grants }
+    let table = c.args.self.now in
+    let s = taken_standing table.roster.over.plan.value (realms_of table.realms) (lists_of table.posters) (lists_of c.take.new.self) table.roster.entries.items (items_of table.roster.over.streams) (seat_of c.args.conn - 1) c.in-Some.ensures.left (record { free = table.free; served = table.served; kept = table.kept; grants = table.grants }) in
+    record { same = table.same; free = s.free; served = s.served; kept = s.kept; grants = s.grants }
 
 pub invariant_of-self-in-Runs : goal.invariant_of-self-in-Runs
 invariant_of-self-in-Runs g c =
-    let old = c.args.self.now in
+    let table = c.args.self.now in
     let places = places_of (realms_of c.args.self.now.realms) in
-    let at = taken_at places c.args.conn (lists_of old.posters) (lists_of c.take.new.self) c.in-Some.posters.items c.in-Some.ensures old.free in
+    let at = taken_at places c.args.conn (lists_of table.posters) (lists_of c.take.new.self) c.in-Some.posters.items c.in-Some.ensures table.free in
     let number : seat_of c.args.conn ≡ seat_of c.args.conn - 1 + 1 = omega arith in
     let here = subst (λ l. AreAt places l) (sym c.in-Runs.ensures.4) at.0 in
     let own = subst (λ l. AreOfSeat (seat_of c.args.conn - 1 + 1) l) (sym c.in-Runs.ensures.4) (subst (λ n. AreOfSeat n c.in-Some.posters.items) number at.1) in
-    let entries = c.seat.ensures.entries ∙ ap (λ k. set old.roster.entries.items k (Some c.in-Runs.entry)) c.place_of.ensures in
-    let s = seat_standing old.roster.over.plan c.seat.new.self.over.plan (realms_of old.realms) (lists_of old.posters) (lists_of c.take.new.self) old.roster.entries.items c.seat.new.self.entries.items (items_of old.roster.over.streams)
-    (items_of c.seat.new.self.over.streams) (seat_of c.args.conn - 1) c.in-Runs.entry c.seat.ensures.plan c.in-Some.ensures.left entries c.seat.ensures.over here own (record { free = old.free; served = old.served; kept = old.kept; grants = old.grants }) in
-    record { same = old.same ∙ ap (λ p. p.value) (sym c.seat.ensures.plan); free = s.free; served = s.served; kept = s.kept; grants = s.grants }
+    let entries = c.seat.ensures.entries ∙ ap (λ k. set table.roster.entries.items k (Some c.in-Runs.entry)) c.place_of.ensures in
+    let s = seat_standing table.roster.over.plan c.seat.new.self.over.plan (realms_of table.realms) (lists_of table.posters) (lists_of c.take.new.self) table.roster.entries.items c.seat.new.self.entries.items (items_of table.roster.over.streams)
+    (items_of c.seat.new.self.over.streams) (seat_of c.args.conn - 1) c.in-Runs.entry c.seat.ensures.plan c.in-Some.ensures.left entries c.seat.ensures.over here own (record { free = table.free; served = table.served; kept = table.kept; grants = table.grants }) in
+    record { same = table.same ∙ ap (λ p. p.value) (sym c.seat.ensures.plan); free = s.free; served = s.served; kept = s.kept; grants = s.grants }
 
 pub end-requires-clause-at : goal.end-requires-clause-at
 end-requires-clause-at g c κs within =

@@ -14,7 +14,7 @@ returns-clause-over g c =
 
 pub invariant_of-self : goal.invariant_of-self
 invariant_of-self g c =
-    let old = c.args.self.now in
-    let s = over_standing old.roster.over.plan c.pass.new.self.over.plan (realms_of old.realms) (lists_of old.posters) old.roster.entries.items c.pass.new.self.entries.items (items_of old.roster.over.streams) (items_of c.pass.new.self.over.streams) c.of-3.result.value
-    c.pass.ensures.plan (ap (λ v. v.items) c.pass.ensures.entries) c.pass.ensures.over (subst (λ o. OverKept (realms_of old.realms) o) (sym c.of-3.ensures) tt) (record { free = old.free; served = old.served; kept = old.kept; grants = old.grants }) in
-    record { same = old.same ∙ ap (λ p. p.value) (sym c.pass.ensures.plan); free = s.free; served = s.served; kept = s.kept; grants = s.grants }
+    let table = c.args.self.now in
+    let s = over_standing table.roster.over.plan c.pass.new.self.over.plan (realms_of table.realms) (lists_of table.posters) table.roster.entries.items c.pass.new.self.entries.items (items_of table.roster.over.streams) (items_of c.pass.new.self.over.streams) c.of-3.result.value
+    c.pass.ensures.plan (ap (λ v. v.items) c.pass.ensures.entries) c.pass.ensures.over (subst (λ o. OverKept (realms_of table.realms) o) (sym c.of-3.ensures) tt) (record { free = table.free; served = table.served; kept = table.kept; grants = table.grants }) in
+    record { same = table.same ∙ ap (λ p. p.value) (sym c.pass.ensures.plan); free = s.free; served = s.served; kept = s.kept; grants = s.grants }

@@ -7,28 +7,28 @@ use Rattle.threaded_server.proofs.roster.Roster.join.Goals as goal
 
 pub invariant_of-self-in-None : goal.invariant_of-self-in-None
 invariant_of-self-in-None g c =
-    let old = c.args.self.now in
-    let slots = old.entries.items in
+    let roster = c.args.self.now in
+    let slots = roster.entries.items in
     let within : c.args.place < length c.args.self.now.entries.items = search rules in
     let at = slice_get_read slots (length slots) c.args.place c.in_ok-slot.slot.now refl within c.in_ok-slot.ensures.value in
     let held : slice_get c.args.self.now.entries.items c.args.place ≡ Some None = at ∙ ap Some (sym c.in-None.ensures.value) in
     record {
-      own = left_of_plan old.over.plan old.over.plan slots c.args.place c.take.new.self refl c.take.ensures.after old.own;
-      balance = still_balances (items_of old.lent) (items_of old.over.streams) slots c.args.place c.take.new.self held c.take.ensures.after old.balance;
+      own = left_of_plan roster.over.plan roster.over.plan slots c.args.place c.take.new.self refl c.take.ensures.after roster.own;
+      balance = still_balances (items_of roster.lent) (items_of roster.over.streams) slots c.args.place c.take.new.self held c.take.ensures.after roster.balance;
     }
 
 pub invariant_of-self-2 : goal.invariant_of-self-2
 invariant_of-self-2 g c =
-    let old = c.args.self.now in
-    let slots = old.entries.items in
+    let roster = c.args.self.now in
+    let slots = roster.entries.items in
     let entry = c.in-Some.entry in
     let within : c.args.place < length c.args.self.now.entries.items = search rules in
     let at = slice_get_read slots (length slots) c.args.place c.in_ok-slot.slot.now refl within c.in_ok-slot.ensures.value in
     let held : slice_get c.args.self.now.entries.items c.args.place ≡ Some (Some c.in-Some.entry) = at ∙ ap Some (sym c.in-Some.ensures.value) in
     record {
-      own = left_of_plan old.over.plan c.add.new.self.plan slots c.args.place c.take.new.self c.add.ensures.plan c.take.ensures.after old.own;
-      balance = leave_balances (items_of old.lent) (items_of old.over.streams) (items_of c.add.new.self.streams) slots c.args.place entry c.take.new.self c.of-2.result.value held c.take.ensures.after c.add.ensures.streams
-          (seated_before entry.began c.of.result c.of-2.result.value c.of-2.ensures) old.balance;
+      own = left_of_plan roster.over.plan c.add.new.self.plan slots c.args.place c.take.new.self c.add.ensures.plan c.take.ensures.after roster.own;
+      balance = leave_balances (items_of roster.lent) (items_of roster.over.streams) (items_of c.add.new.self.streams) slots c.args.place entry c.take.new.self c.of-2.result.value held c.take.ensures.after c.add.ensures.streams
+          (seated_before entry.began c.of.result c.of-2.result.value c.of-2.ensures) roster.balance;
     }
 
 pub returns-clause-over : goal.returns-clause-over

@@ -7,9 +7,9 @@ use Rattle.threaded_server.proofs.roster.Roster.pass.Goals as goal
 
 pub invariant_of-self : goal.invariant_of-self
 invariant_of-self g c =
-    let old = c.args.self.now in
+    let roster = c.args.self.now in
     record {
-      own = still_of_plan old.over.plan c.add-2.new.self.plan old.entries.items c.add-2.ensures.plan old.own;
-      balance = pass_balances (items_of old.lent) (items_of c.add.new.self) (items_of old.over.streams) (items_of c.add-2.new.self.streams) (map halves_of (in_slots old.entries.items)) c.args.halves.value c.args.over.value
-          c.add.ensures c.add-2.ensures.streams c.requires.halves old.balance;
+      own = still_of_plan roster.over.plan c.add-2.new.self.plan roster.entries.items c.add-2.ensures.plan roster.own;
+      balance = pass_balances (items_of roster.lent) (items_of c.add.new.self) (items_of roster.over.streams) (items_of c.add-2.new.self.streams) (map halves_of (in_slots roster.entries.items)) c.args.halves.value c.args.over.value
+          c.add.ensures c.add-2.ensures.streams c.requires.halves roster.balance;
     }

@@ -9,8 +9,8 @@ index_mut-requires g c = let within : c.args.place < length c.args.self.now.entr
 
 pub invariant_of-self : goal.invariant_of-self
 invariant_of-self g c =
-    let old = c.args.self.now in
+    let roster = c.args.self.now in
     record {
-      own = seated_of_plan old.over.plan old.entries.items c.args.place c.args.entry c.requires.plan old.own;
-      balance = seat_balances (items_of old.lent) (items_of c.add.new.self) (items_of old.over.streams) old.entries.items c.args.place c.args.entry c.args.halves.value c.add.ensures c.requires.halves c.requires.free old.balance;
+      own = seated_of_plan roster.over.plan roster.entries.items c.args.place c.args.entry c.requires.plan roster.own;
+      balance = seat_balances (items_of roster.lent) (items_of c.add.new.self) (items_of roster.over.streams) roster.entries.items c.args.place c.args.entry c.args.halves.value c.add.ensures c.requires.halves c.requires.free roster.balance;
     }
