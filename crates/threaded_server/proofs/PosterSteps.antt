@@ -6,7 +6,6 @@ use Rattle.std.proofs.lemmas.List.{map-set}
 use Rattle.std.proofs.lemmas.Option.{get_or_from_slice_get, none-some, same_Some, slice_get_within}
 use Rattle.std.specs.Option.{ForSome}
 use Rattle.realm_inbox.specs.EndViews.{inbox_of_poster, posted, poster_conn}
-use Rattle.realm_inbox.specs.declared.act.Act.{Act}
 use Rattle.realm_inbox.specs.declared.ends.Poster.{Poster}
 use Rattle.threaded_server.proofs.Places.{below, get_of_map, get_push_cases, get_set_cases, map_get}
 use Rattle.threaded_server.proofs.PosterPlaces.{put_back}

@@ -1,17 +1,15 @@
 -- What is kept of the realms, while streams come and go.
-use Rattle.std.proofs.Common.{◌≡◌, ◌≢◌, ℕ, List, [], ◌∷◌, ◌++◌, Option, None, Some, All, Contains, IfSome, map, option_map, set, slice_get, refl, sym, ap, ◌∙◌, subst}
+use Rattle.std.proofs.Common.{◌≡◌, ◌≢◌, ℕ, List, [], ◌∷◌, ◌++◌, Option, None, Some, All, Contains, IfSome, option_map, set, slice_get, refl, sym, ap, ◌∙◌, subst}
 use mathlib.Core.Logic.{◌⊎◌, inl, inr}
 use Rattle.std.proofs.lemmas.List.Elements.{All-push, All-weaker, Contains-append_left, Contains-push}
 use Rattle.std.proofs.lemmas.Option.{same_Some}
 use Rattle.std.specs.Arc.{arc_value}
 use Rattle.std.specs.declared.snapshot.Snapshot.{Snapshot}
-use Rattle.connection.specs.Reader.{ReadsSince, IsReadBy}
 use Rattle.connection.specs.declared.reader.ReadEnd.{ReadEnd}
 use Rattle.outbox_queue.specs.Ends.{IsOf, Owes}
 use Rattle.outbox_queue.specs.Tied.{Kept}
 use Rattle.realm.specs.History.{History}
-use Rattle.realm_inbox.specs.EndViews.{home_of_poster, inbox_of_poster, posted_by, poster_conn}
-use Rattle.realm_inbox.specs.Posted.{Posted}
+use Rattle.realm_inbox.specs.EndViews.{inbox_of_poster, poster_conn}
 use Rattle.realm_inbox.specs.declared.ends.Poster.{Poster}
 use Rattle.realm_inbox.specs.declared.joining.Joining.{Joining}
 use Rattle.threaded_server.proofs.Places.{get_before_set, get_more, get_of_map, get_set, get_set_cases, map_get}

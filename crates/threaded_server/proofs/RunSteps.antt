@@ -1,5 +1,5 @@
 -- How the realms ran, and what their histories owe.
-use Rattle.std.proofs.Common.{◌≡◌, ◌<◌, ℕ, zero, suc, List, [], ◌∷◌, ◌++◌, Option, None, Some, All, Contains, IfSome, length, map, remove, slice_get, slice_index_or, refl, sym, ap, ◌∙◌, append_assoc, append-nil, arith, subst}
+use Rattle.std.proofs.Common.{◌≡◌, ◌<◌, ℕ, zero, suc, List, [], ◌∷◌, ◌++◌, Option, None, Some, All, IfSome, length, remove, slice_get, slice_index_or, refl, sym, ap, ◌∙◌, append_assoc, append-nil, arith, subst}
 use mathlib.Core.List.{IsPrefix}
 use Rattle.std.proofs.lemmas.List.Elements.{All-contains, All-cons, All-head, All-nil, All-pop, All-tail, All-weaker}
 use Rattle.std.proofs.lemmas.Option.{none-some, same_Some}
@@ -10,14 +10,14 @@ use Rattle.realm.specs.Grants.{Grants, pairs_of}
 use Rattle.realm.specs.History.{History, Begins}
 use Rattle.realm.specs.Yield.{owed}
 use Rattle.realm_inbox.specs.HistoryBeginnings.{owed_more}
-use Rattle.realm_inbox.specs.EndViews.{inbox_of, inbox_of_poster}
+use Rattle.realm_inbox.specs.EndViews.{inbox_of}
 use Rattle.realm_inbox.specs.declared.ends.Poster.{Poster}
 use Rattle.session.specs.declared.messages.item.Item.{Item}
 use Rattle.std.specs.declared.snapshot.Snapshot.{Snapshot}
 use Rattle.threaded_server.specs.Acts.{Acts}
 use Rattle.threaded_server.specs.Posters.{mark_of}
 use Rattle.threaded_server.specs.Realms.{EachRuns, RunsTo, Shown, shown}
-use Rattle.threaded_server.specs.Ties.{CourseKept, CourseTied, HasGrants, IsKept, IsKeptIn, IsRun, IsTied, OverKept, OverTied}
+use Rattle.threaded_server.specs.Ties.{CourseKept, CourseTied, IsKept, IsKeptIn, IsRun, IsTied, OverKept, OverTied}
 use Rattle.threaded_server.specs.Writes.{owed_kept}
 use Rattle.threaded_server.specs.declared.actor_thread.Acted.{Acted}
 use Rattle.threaded_server.specs.declared.actor_thread.ActorThread.{ActorThread}
@@ -26,7 +26,6 @@ use Rattle.threaded_server.specs.declared.course.Course.{Course}
 use Rattle.threaded_server.specs.declared.course.Course.TheVariants.{Untouched, NotOpened, OpenedAlone, Served}
 use Rattle.threaded_server.specs.declared.over.Over.{Over}
 use Rattle.threaded_server.specs.declared.over.Over.TheVariants as over
-use Rattle.threaded_server.specs.declared.plan.Plan.{Plan}
 use Rattle.threaded_server.specs.declared.realm_run.RealmRun.{RealmRun}
 use Rattle.threaded_server.specs.declared.writer_thread.Written.{Written}
 

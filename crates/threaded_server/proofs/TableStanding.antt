@@ -1,20 +1,18 @@
 -- What stands of the table of connections, while these come and go.
-use Rattle.std.proofs.Common.{◌≡◌, ◌+◌, ◌-◌, ℕ, List, [], ◌∷◌, ◌++◌, Option, None, Some, All, IfSome, length, map, option_map, set, slice_get, slice_index_or, refl, sym, ap, ◌∙◌, subst, arith}
+use Rattle.std.proofs.Common.{◌≡◌, ◌+◌, ◌-◌, ℕ, List, [], ◌∷◌, ◌++◌, Option, None, Some, All, IfSome, length, option_map, set, slice_get, slice_index_or, sym, ap, ◌∙◌, subst, arith}
 use Rattle.std.proofs.Math.Logic.{∥∥₁_map}
-use Rattle.std.proofs.lemmas.List.{map-set, map-append}
+use Rattle.std.proofs.lemmas.List.{map-set}
 use Rattle.std.proofs.lemmas.List.Elements.{All-nil, All-push, All-set}
-use Rattle.std.proofs.lemmas.Option.{get_or_from_slice_get, slice_get-map, slice_get_within}
+use Rattle.std.proofs.lemmas.Option.{get_or_from_slice_get, slice_get_within}
 use Rattle.std.specs.Arc.{arc_value}
 use Rattle.std.specs.Option.{ForSome}
 use Rattle.std.specs.declared.snapshot.Snapshot.{Snapshot}
-use Rattle.outbox_queue.specs.Tied.{Kept}
-use Rattle.realm.specs.History.{History}
 use Rattle.realm_inbox.specs.EndViews.{AreNewSeats, inbox_of, inbox_of_seat}
 use Rattle.realm_inbox.specs.declared.ends.Poster.{Poster}
 use Rattle.realm_inbox.specs.declared.ends.Seat.{Seat}
 use Rattle.threaded_server.proofs.Places.{get_last, map_get}
 use Rattle.threaded_server.proofs.PosterSteps.{none_stand, relabelled_at, relabelled_own, stand_on, stand_put, stand_taken}
-use Rattle.threaded_server.proofs.RealmSteps.{Longer, at_longer, back_at, back_of_seat, more_longer, one_kept, overs_longer, seat_kept, seen_at_home, takes_longer}
+use Rattle.threaded_server.proofs.RealmSteps.{at_longer, back_at, back_of_seat, more_longer, one_kept, overs_longer, seat_kept, seen_at_home, takes_longer}
 use Rattle.threaded_server.specs.Overs.{seen_of}
 use Rattle.threaded_server.specs.Posters.{AreAt, AreOfSeat, IsTaken, Mark, Stand, lists_at, mark_of}
 use Rattle.threaded_server.specs.Realms.{IsAtHome, Shown, TakesIn, mark_in, places_of}

@@ -1,5 +1,5 @@
 -- What the accepting thread has of the realms.
-use Rattle.std.specs.Prelude.{◌≡◌, ℕ, List, [], ◌∷◌, ◌++◌, Option, None, Some, All, map, set, slice_get}
+use Rattle.std.specs.Prelude.{◌≡◌, List, [], ◌∷◌, ◌++◌, Option, None, Some, All, map, set, slice_get}
 use Rattle.chronicle.specs.Recorded.{Reaches}
 use Rattle.outbox_queue.specs.Ends.{IsOf}
 use Rattle.outbox_queue.specs.Tied.{Kept}

@@ -1,4 +1,4 @@
-use Rattle.std.proofs.Common.{◌≡◌, refl, ◌∙◌, arith}
+use Rattle.std.proofs.Common.{refl, ◌∙◌, arith}
 use Rattle.threaded_server.proofs.RunSteps.{checking_all, checking_none, checking_on}
 use Rattle.threaded_server.proofs.realm_handle.check_all.Goals as goal
 

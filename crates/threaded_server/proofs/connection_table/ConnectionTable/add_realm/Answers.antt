@@ -1,5 +1,5 @@
 use Rattle.ghost_state.specs.GhostList.{items_of}
-use Rattle.threaded_server.proofs.TableStanding.{Standing, more_stand, new_seats, one_realm, still_standing}
+use Rattle.threaded_server.proofs.TableStanding.{more_stand, new_seats, one_realm, still_standing}
 use Rattle.threaded_server.specs.Posters.{lists_of}
 use Rattle.threaded_server.specs.Realms.{realms_of, shown}
 use Rattle.threaded_server.proofs.connection_table.ConnectionTable.add_realm.Goals as goal

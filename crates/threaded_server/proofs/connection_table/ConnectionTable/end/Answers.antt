@@ -1,11 +1,10 @@
-use Rattle.std.proofs.Common.{◌≡◌, ◌+◌, sym, ap, ◌∙◌, subst}
+use Rattle.std.proofs.Common.{◌+◌, sym, ap, ◌∙◌, subst}
 use Rattle.ghost_state.specs.GhostList.{items_of}
-use Rattle.threaded_server.proofs.TableStanding.{Standing, ended_standing, posters_back, reader_left}
+use Rattle.threaded_server.proofs.TableStanding.{ended_standing, posters_back, reader_left}
 use Rattle.threaded_server.proofs.TableSteps.{seated_adds}
 use Rattle.threaded_server.specs.Posters.{AreOfSeat, lists_of}
 use Rattle.threaded_server.specs.Realms.{realms_of}
 use Rattle.threaded_server.specs.Streams.{sight}
-use Rattle.wamp_ids.specs.Numbers.{seat_of}
 use Rattle.threaded_server.proofs.connection_table.ConnectionTable.end.Goals as goal
 
 pub take_in-requires-after_bounds : goal.take_in-requires-after_bounds

@@ -1,5 +1,5 @@
 use Rattle.ghost_state.specs.GhostList.{items_of}
-use Rattle.threaded_server.proofs.TableStanding.{Standing, put_standing}
+use Rattle.threaded_server.proofs.TableStanding.{put_standing}
 use Rattle.threaded_server.specs.Posters.{lists_of}
 use Rattle.threaded_server.specs.Realms.{realms_of}
 use Rattle.threaded_server.proofs.connection_table.ConnectionTable.free.Goals as goal

@@ -1,6 +1,6 @@
-use Rattle.std.proofs.Common.{◌≡◌, ◌+◌, refl, sym, ap, ◌∙◌, subst}
+use Rattle.std.proofs.Common.{◌+◌, refl, sym, ap, ◌∙◌}
 use Rattle.ghost_state.specs.GhostList.{items_of}
-use Rattle.threaded_server.proofs.TableStanding.{Standing, entry_stood, left_standing, nobody_left, posters_back, reader_left}
+use Rattle.threaded_server.proofs.TableStanding.{entry_stood, left_standing, nobody_left, posters_back, reader_left}
 use Rattle.threaded_server.proofs.TableSteps.{seated_adds}
 use Rattle.threaded_server.specs.Posters.{lists_of}
 use Rattle.threaded_server.specs.Realms.{places_of, realms_of}

@@ -1,6 +1,6 @@
 use Rattle.std.proofs.Common.{◌≡◌, ◌+◌, ◌-◌, Some, set, refl, sym, ap, ◌∙◌, subst, arith}
 use Rattle.ghost_state.specs.GhostList.{items_of}
-use Rattle.threaded_server.proofs.TableStanding.{Standing, seat_asks, seat_standing, still_free, taken_at, taken_standing}
+use Rattle.threaded_server.proofs.TableStanding.{seat_asks, seat_standing, still_free, taken_at, taken_standing}
 use Rattle.threaded_server.proofs.TableSteps.{lent_on}
 use Rattle.threaded_server.specs.Posters.{AreAt, AreOfSeat, lists_of}
 use Rattle.threaded_server.specs.Realms.{places_of, realms_of}

@@ -1,6 +1,6 @@
 use Rattle.std.proofs.Common.{sym, ap, ◌∙◌, subst}
 use Rattle.ghost_state.specs.GhostList.{items_of}
-use Rattle.threaded_server.proofs.TableStanding.{Standing, over_standing}
+use Rattle.threaded_server.proofs.TableStanding.{over_standing}
 use Rattle.threaded_server.proofs.TableSteps.{turned_adds}
 use Rattle.threaded_server.specs.Posters.{lists_of}
 use Rattle.threaded_server.specs.Realms.{realms_of}

@@ -1,4 +1,4 @@
-use Rattle.std.proofs.Common.{map, set, refl, ap, ◌∙◌}
+use Rattle.std.proofs.Common.{map, set, ap, ◌∙◌}
 use Rattle.std.proofs.lemmas.List.{map-set}
 use Rattle.std.proofs.lemmas.Option.{get_or_from_slice_get}
 use Rattle.threaded_server.proofs.Places.{get_of_map}
