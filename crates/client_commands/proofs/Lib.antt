@@ -1,3 +1,5 @@
+pub mod CauseLemmas
+pub mod ContinuingLemmas
 pub mod EntriesLemmas
 pub mod FaultLemmas
 pub mod ListeningLemmas

@@ -4,7 +4,7 @@ use Rattle.std.specs.Prelude.{◌≡◌, ◌==◌, ◌+◌, ◌-◌, ℕ, zero, 
 use Rattle.std.specs.declared.option.Option.{Option}
 use Rattle.rawsocket.specs.Devices.{GrowsByBeginning}
 use Rattle.rawsocket.specs.declared.handshake.Serializer.{Serializer}
-use Rattle.session.specs.Opened.{Exchange}
+use Rattle.session.specs.Opened.{Exchange, exchange}
 use Rattle.session.specs.Arguments.{Arguments}
 use Rattle.client.specs.declared.client_message.ClientMessage.{ClientMessage}
 use Rattle.client.specs.declared.client_message.ClientMessage.TheVariants.{Hello, Goodbye as GoodbyeSaid, Subscribe, Publish}
@@ -12,13 +12,16 @@ use Rattle.client.specs.Wishes.{subscribe_options, publish_options}
 use Rattle.client.specs.declared.wishes.SubscribeWishes.{SubscribeWishes}
 use Rattle.client.specs.declared.wishes.PublishWishes.{PublishWishes}
 use Rattle.client.specs.declared.heard.Heard.{Heard}
-use Rattle.client.specs.declared.heard.Heard.TheVariants.{Welcome, Goodbye, Published, Subscribed, Event}
+use Rattle.client.specs.declared.heard.Heard.TheVariants.{Welcome, Abort, Goodbye, Published, Subscribed, Event}
 use Rattle.client_session.specs.Handshake.{Replies}
 use Rattle.client_session.specs.Hearing.{Ear, HearsNext, Terms, ear, heard_at, terms}
 use Rattle.client_session.specs.Saying.{saying}
-use Rattle.client_session.specs.Sessions.{Welcomed}
+use Rattle.client_session.specs.Sessions.{HearsLast, Welcomed, is_answer}
 use Rattle.client_commands.specs.EventLine.{event_line}
+use Rattle.client_commands.specs.Faults.{is_of_message, of_message}
 use Rattle.client_commands.specs.Notes.{IsNoted, Noting, note_of}
+use Rattle.client_commands.specs.declared.fault.Fault.{Fault}
+use Rattle.client_commands.specs.declared.fault.Fault.TheVariants.{Refused, Unexpected}
 use Rattle.client_commands.specs.declared.grants.Granted.{Granted}
 
 -- the terms of a session
@@ -32,6 +35,17 @@ standing session given taken = heard_at session.line given taken
 -- the same, with more octets written
 abbrev pub writing : Ear → List ℕ → Ear
 writing e octets = ear e.waiting e.held e.given (e.taken ++ octets)
+
+-- what was read and written till then
+abbrev pub exchange_of : Ear → Exchange
+exchange_of e = exchange e.given e.taken
+
+-- what was read and written before stays, and more may have been since
+pub record Continues (before now : Exchange) : Type 0 where
+  pub more_given : List ℕ
+  pub given : now.given ≡ before.given ++ more_given
+  pub more_taken : List ℕ
+  pub taken : now.taken ≡ before.taken ++ more_taken
 
 -- the broker accepted the handshake, HELLO was said, and WELCOME was heard
 pub record Joins (s : Serializer) (realm : List ℕ) (authid : Option (List ℕ)) (before now : Exchange) (session : Welcomed) : Type 0 where
@@ -47,6 +61,41 @@ pub record Joins (s : Serializer) (realm : List ℕ) (authid : Option (List ℕ)
 abbrev pub Listens : Terms → Ear → Ear → List Heard → Type 0
 Listens t before now [] = now ≡ before
 Listens t before now (heard ∷ heards) = (mid : Ear) × Listens t before mid heards × HearsNext t mid now (Ok heard)
+
+-- what answers HELLO opens no session, for this fault
+abbrev pub TurnsAway : Heard → Fault → Type 0
+TurnsAway heard (Refused reason) = heard ≡ Abort reason
+TurnsAway heard Unexpected = is_answer heard ≡ false
+TurnsAway heard _ = ⊥
+
+-- the broker accepted the handshake, HELLO was said, and something other than WELCOME was heard
+pub record IsTurnedAway (s : Serializer) (realm : List ℕ) (authid : Option (List ℕ)) (before now : Exchange) (fault : Fault) : Type 0 where
+  pub linked : Exchange
+  pub limit : ℕ
+  pub replies : Replies s before linked (Ok limit)
+  pub heard : Heard
+  pub hears : HearsLast (terms s limit) (ear [] [] linked.given (linked.taken ++ saying s (Hello realm authid))) now.given now.taken (Ok heard)
+  pub why : TurnsAway heard fault
+
+-- a message is heard, perhaps behind others, and a command ends by it
+pub record EndsByMessage (t : Terms) (before : Ear) (last : Exchange) (fault : Fault) : Type 0 where
+  pub heards : List Heard
+  pub heard : Heard
+  pub now : Ear
+  pub listens : Listens t before now (heard ∷ heards)
+  pub since : Continues (exchange_of now) last
+  pub why : fault ≡ of_message heard
+
+-- where a message gave the fault, it was heard
+abbrev pub IsCaused : Terms → Ear → Exchange → Fault → Type 0
+IsCaused t before last fault = is_of_message fault ≡ true → EndsByMessage t before last fault
+
+-- it is heard after GOODBYE was said
+pub record EndsLeaving (t : Terms) (before : Ear) (last : Exchange) (fault : Fault) : Type 0 where
+  pub heards : List Heard
+  pub mid : Ear
+  pub listens : Listens t before mid heards
+  pub ends : EndsByMessage t (writing mid (saying t.serializer GoodbyeSaid)) last fault
 
 -- GOODBYE is said, and the broker's is heard; what comes before it is passed over
 pub record Leaves (t : Terms) (before now : Ear) : Type 0 where
@@ -118,19 +167,22 @@ pub record Follows (topics : List (List ℕ)) (count : Option ℕ) (t : Terms) (
   pub counted : count ≡ Some (events heards)
 
 -- of the line of what is heard next a beginning is printed
-pub record PrintsPartly (topics : List (List ℕ)) (t : Terms) (heards : List Heard) (now : Ear) (lines_before lines : List ℕ) : Type 0 where
+pub record PrintsPartly (topics : List (List ℕ)) (t : Terms) (heards : List Heard) (now : Ear) (last : Exchange) (lines_before lines : List ℕ) : Type 0 where
   pub next : Heard
   pub after : Ear
   pub hears : HearsNext t now after (Ok next)
+  pub since : Continues (exchange_of after) last
   pub begun : GrowsByBeginning lines_before lines (line_for topics (granted heards) next)
 
--- what is printed are the lines of what was heard, the last line perhaps in part, and what is noted are the notes of it
-pub record Prints (topics : List (List ℕ)) (t : Terms) (before : Ear) (lines_before lines : List ℕ) (notes_before notes : Noting) : Type 0 where
+-- what is printed are the lines of what was heard, the last line perhaps in part, and what is noted are the notes of it; it is heard
+-- of the first octets that the last exchange has behind those read before
+pub record Prints (topics : List (List ℕ)) (t : Terms) (before : Ear) (last : Exchange) (lines_before lines : List ℕ) (notes_before notes : Noting) : Type 0 where
   pub heards : List Heard
   pub now : Ear
   pub listens : Listens t before now heards
+  pub since : Continues (exchange_of now) last
   pub lines_are :
-      (lines ≡ lines_before ++ printed topics heards) ⊎ PrintsPartly topics t heards now (lines_before ++ printed topics heards) lines
+      (lines ≡ lines_before ++ printed topics heards) ⊎ PrintsPartly topics t heards now last (lines_before ++ printed topics heards) lines
   pub noted_are : IsNoted (noted topics heards) notes_before notes
 
 -- a session was joined, and the topics asked for
@@ -153,12 +205,19 @@ pub record Subscribes (s : Serializer) (realm : List ℕ) (authid : Option (List
   pub given : now.given ≡ left.given
   pub taken : now.taken ≡ left.taken
 
--- what `subscribe` printed and noted that failed after it had asked
-pub record PrintsAfterAsking (s : Serializer) (realm : List ℕ) (authid : Option (List ℕ)) (wishes : SubscribeWishes) (topics : List (List ℕ)) (before : Exchange) (lines_before lines : List ℕ) (notes_before notes : Noting) : Type 0 where
+-- what `subscribe` printed and noted that failed after it had asked, by what was read and written until then
+pub record PrintsAfterAsking (s : Serializer) (realm : List ℕ) (authid : Option (List ℕ)) (wishes : SubscribeWishes) (topics : List (List ℕ)) (before last : Exchange) (lines_before lines : List ℕ) (notes_before notes : Noting) : Type 0 where
   pub t : Terms
   pub asking : Ear
   pub asks : Asks s realm authid wishes topics before asking t
-  pub prints : Prints topics t asking lines_before lines notes_before notes
+  pub prints : Prints topics t asking last lines_before lines notes_before notes
+
+-- the message by which `subscribe` ends that had asked
+pub record EndsAfterAsking (s : Serializer) (realm : List ℕ) (authid : Option (List ℕ)) (wishes : SubscribeWishes) (topics : List (List ℕ)) (before last : Exchange) (fault : Fault) : Type 0 where
+  pub t : Terms
+  pub asking : Ear
+  pub asks : Asks s realm authid wishes topics before asking t
+  pub ends : EndsByMessage t asking last fault ⊎ EndsLeaving t asking last fault
 
 -- a publication was said, and where an acknowledgement was asked for, it was heard next
 abbrev pub Acknowledges : Bool → Terms → ℕ → Ear → Ear → Type 0

@@ -1,5 +1,5 @@
 -- What the faults of a command tell of each device.
-use Rattle.std.specs.Prelude.{◌≡◌, ◌+◌, ℕ, ⊤}
+use Rattle.std.specs.Prelude.{◌≡◌, ◌+◌, ℕ, ⊤, Bool, true, false}
 use Rattle.rawsocket.specs.Steps.{Told, Fine, Failed, NoTurn, failures_told}
 use Rattle.client_session.specs.Faults.{read_told, write_told}
 use Rattle.client_session.specs.declared.fault.Fault as link_faults
@@ -35,6 +35,21 @@ of_message (Abort reason) = Refused reason
 of_message (Error kind request reason) = Refused reason
 of_message (Goodbye reason) = Closed reason
 of_message _ = Unexpected
+
+-- a fault that only a message of the broker gives
+abbrev pub is_of_message : Fault → Bool
+is_of_message (Refused reason) = true
+is_of_message (Closed reason) = true
+is_of_message Unexpected = true
+is_of_message _ = false
+
+-- a fault that none gives
+abbrev pub IsOfNoMessage : Fault → Type 0
+IsOfNoMessage fault = is_of_message fault ≡ false
+
+-- where a message gave the fault, it is this one
+abbrev pub IsOfMessage : Heard → Fault → Type 0
+IsOfMessage heard fault = is_of_message fault ≡ true → fault ≡ of_message heard
 
 -- what a fault tells of what is read from the broker
 abbrev pub source_told : Fault → Told

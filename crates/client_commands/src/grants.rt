@@ -1,7 +1,7 @@
 //! Which subscription is of which topic.
 ghost use Rattle.std.specs.Prelude.{◌≡◌, ◌≤◌, IfErr, IfOk, IfSome, OnOk, Some, length, true};
 ghost use Rattle.client_commands.specs.Acts.{granted_with, request_of, topic_at, topic_told};
-ghost use Rattle.client_commands.specs.Faults.{IsOfBroker, IsOfHere};
+ghost use Rattle.client_commands.specs.Faults.{IsOfBroker, IsOfHere, IsOfMessage};
 ghost use Rattle.client.specs.declared.heard.Heard.TheVariants.{Subscribed as SubscribedHeard};
 
 use crate::fault::Fault;
@@ -41,6 +41,7 @@ pub(crate) fn grant<'a>(
         ≡ granted_with granted.old.items (SubscribedHeard request subscription)) }
     ensures topic { IfOk result (λ topic.
         topic.now ≡ topic_at topics.now.items (Some request)) }
+    ensures blamed { IfErr result (IsOfMessage (SubscribedHeard request subscription)) }
     ensures here { IfErr result IsOfHere }
     ensures aside { IfErr result IsOfBroker }
 {

@@ -2,10 +2,11 @@
 ghost use Rattle.std.specs.Prelude.{◌≡◌, ◌++◌, IfErr, IfOk, OnOk, Ok};
 ghost use Rattle.rawsocket.specs.Devices.{GrowsByBeginning};
 ghost use Rattle.rawsocket.specs.Steps.{Fine, WholeSteps, meter, told_by};
+ghost use Rattle.session.specs.Opened.{exchange};
 ghost use Rattle.client_session.specs.Hearing.{HearsNext};
 ghost use Rattle.client_session.specs.Saying.{saying};
-ghost use Rattle.client_commands.specs.Acts.{standing, terms_of};
-ghost use Rattle.client_commands.specs.Faults.{IsOfBroker, IsOfHere, IsOfLink, of_message, sink_told, source_told};
+ghost use Rattle.client_commands.specs.Acts.{Continues, standing, terms_of};
+ghost use Rattle.client_commands.specs.Faults.{IsOfBroker, IsOfHere, IsOfLink, IsOfNoMessage, of_message, sink_told, source_told};
 
 use crate::fault::Fault;
 use client_session::{ClientMessage, ClientSession, Heard, Link};
@@ -25,6 +26,7 @@ pub(crate) fn say<O: Sink>(
         (saying link.now.serializer said) }
     ensures unread { told_by source_told result ≡ Fine }
     ensures link { IfErr result IsOfLink }
+    ensures unblamed { IfErr result IsOfNoMessage }
     ensures aside { IfErr result IsOfBroker }
     ensures writes { WholeSteps (meter (O.calls sink.old) (O.failures sink.old))
         (meter (O.calls sink.new) (O.failures sink.new)) (told_by sink_told result) }
@@ -45,6 +47,9 @@ pub(crate) fn hear<I: Source, O: Sink>(
     ensures next { IfOk result (λ heard. HearsNext (terms_of session.old)
         (standing session.old (I.given source.old) (O.taken sink.old))
         (standing session.new (I.given source.new) (O.taken sink.new)) (Ok heard)) }
+    ensures goes_on { Continues (exchange (I.given source.old) (O.taken sink.old))
+        (exchange (I.given source.new) (O.taken sink.new)) }
+    ensures unblamed { IfErr result IsOfNoMessage }
     ensures aside { IfErr result IsOfBroker }
     ensures terms { terms_of session.new ≡ terms_of session.old }
     ensures reads { WholeSteps (meter (I.calls source.old) (I.failures source.old))

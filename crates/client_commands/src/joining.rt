@@ -1,10 +1,10 @@
 //! The way into a session.
-ghost use Rattle.std.specs.Prelude.{◌≡◌, IfErr, IfOk};
+ghost use Rattle.std.specs.Prelude.{◌≡◌, IfErr, IfOk, true};
 ghost use Rattle.rawsocket.specs.Steps.{told_by};
 ghost use Rattle.session.specs.Opened.{exchange};
 ghost use Rattle.client.specs.declared.client_message.ClientMessage.TheVariants.{Hello as HelloSaid};
-ghost use Rattle.client_commands.specs.Acts.{Joins};
-ghost use Rattle.client_commands.specs.Faults.{AreFailuresTold, IsOfBroker, sink_told, source_told};
+ghost use Rattle.client_commands.specs.Acts.{IsTurnedAway, Joins};
+ghost use Rattle.client_commands.specs.Faults.{AreFailuresTold, IsOfBroker, is_of_message, sink_told, source_told};
 
 use crate::command::Contact;
 use crate::fault::Fault;
@@ -46,6 +46,10 @@ pub(crate) fn join<I: Source, O: Sink>(
     ensures joined { IfOk result (λ session. Joins contact.now.serializer contact.now.realm contact.now.authid
         (exchange (I.given source.old) (O.taken sink.old))
         (exchange (I.given source.new) (O.taken sink.new)) session) }
+    ensures cause { IfErr result (λ fault. is_of_message fault ≡ true
+        → IsTurnedAway contact.now.serializer contact.now.realm contact.now.authid
+        (exchange (I.given source.old) (O.taken sink.old))
+        (exchange (I.given source.new) (O.taken sink.new)) fault) }
     ensures aside { IfErr result IsOfBroker }
     ensures reads { AreFailuresTold (I.failures source.old) (I.failures source.new)
         (told_by source_told result) }

@@ -1,10 +1,11 @@
 //! The way out of a session.
-ghost use Rattle.std.specs.Prelude.{◌≡◌, ◌++◌, IfErr, OnOk};
+ghost use Rattle.std.specs.Prelude.{◌≡◌, ◌++◌, IfErr, OnOk, true};
 ghost use Rattle.rawsocket.specs.Devices.{GrowsByBeginning};
 ghost use Rattle.rawsocket.specs.Steps.{Fine, told_by};
+ghost use Rattle.session.specs.Opened.{exchange};
 ghost use Rattle.client_session.specs.Saying.{saying};
-ghost use Rattle.client_commands.specs.Acts.{Leaves, standing, terms_of};
-ghost use Rattle.client_commands.specs.Faults.{AreFailuresTold, IsOfBroker, sink_told, source_told};
+ghost use Rattle.client_commands.specs.Acts.{Continues, IsCaused, Leaves, standing, terms_of, writing};
+ghost use Rattle.client_commands.specs.Faults.{AreFailuresTold, IsOfBroker, is_of_message, sink_told, source_told};
 
 use crate::fault::Fault;
 use crate::hearing::{fault_of, hear, say};
@@ -35,6 +36,12 @@ pub(crate) fn leave<I: Source, O: Sink>(
     ensures left { OnOk result (Leaves (terms_of session.old)
         (standing session.old (I.given source.old) (O.taken sink.old))
         (standing session.new (I.given source.new) (O.taken sink.new))) }
+    ensures goes_on { Continues (exchange (I.given source.old) (O.taken sink.old))
+        (exchange (I.given source.new) (O.taken sink.new)) }
+    ensures cause { IfErr result (IsCaused (terms_of session.old)
+        (writing (standing session.old (I.given source.old) (O.taken sink.old))
+        (saying session.old.line.serializer ClientMessage.Goodbye))
+        (exchange (I.given source.new) (O.taken sink.new))) }
     ensures aside { IfErr result IsOfBroker }
     ensures reads { AreFailuresTold (I.failures source.old) (I.failures source.new)
         (told_by source_told result) }
@@ -72,6 +79,7 @@ pub(crate) fn answer_goodbye<O: Sink>(
         → O.taken sink.new ≡ O.taken sink.old ++ saying session.now.line.serializer ClientMessage.Goodbye }
     ensures begun { GrowsByBeginning (O.taken sink.old) (O.taken sink.new)
         (saying session.now.line.serializer ClientMessage.Goodbye) }
+    ensures closed { is_of_message result ≡ true → result ≡ Fault.Closed reason }
     ensures unread { source_told result ≡ Fine }
     ensures aside { IsOfBroker result }
     ensures writes { AreFailuresTold (O.failures sink.old) (O.failures sink.new)

@@ -6,9 +6,9 @@ ghost use Rattle.session.specs.Opened.{exchange};
 ghost use Rattle.client.specs.declared.client_message.ClientMessage.TheVariants.{Subscribe as SubscribeSaid};
 ghost use Rattle.client.specs.Wishes.{subscribe_options};
 ghost use Rattle.client.specs.declared.heard.Heard.TheVariants.{Subscribed as SubscribedHeard};
-ghost use Rattle.client_commands.specs.Acts.{Follows, Prints, PrintsAfterAsking, Subscribes, asked, granted_with, is_event, line_for, note_for, standing, terms_of};
+ghost use Rattle.client_commands.specs.Acts.{EndsAfterAsking, Follows, IsCaused, IsTurnedAway, Prints, PrintsAfterAsking, Subscribes, asked, granted_with, is_event, line_for, note_for, standing, terms_of};
 ghost use Rattle.client_commands.specs.Notes.{IsNoted, noting};
-ghost use Rattle.client_commands.specs.Faults.{AreFailuresTold, IsOfBroker, IsOfHere, output_told, sink_told, source_told};
+ghost use Rattle.client_commands.specs.Faults.{AreFailuresTold, IsOfBroker, IsOfHere, IsOfMessage, IsOfNoMessage, is_of_message, output_told, sink_told, source_told};
 
 use crate::command::SubscribeCommand;
 use crate::event_lines::event_line;
@@ -56,6 +56,7 @@ fn ask<O: Sink>(
     ensures asked { OnOk result (O.taken sink.new ≡ O.taken sink.old
         ++ asked link.now.serializer command.now.wishes command.now.topics.items
         (length command.now.topics.items)) }
+    ensures unblamed { IfErr result IsOfNoMessage }
     ensures unread { told_by source_told result ≡ Fine }
     ensures aside { told_by output_told result ≡ Fine }
     ensures writes { AreFailuresTold (O.failures sink.old) (O.failures sink.new)
@@ -80,6 +81,7 @@ fn ask<O: Sink>(
 fn print<P: Sink>(output: &mut P, line: &[u8], turns: &mut Turns) -> Result<(), Fault>
     ensures printed { OnOk result (P.taken output.new ≡ P.taken output.old ++ line.now) }
     ensures begun { GrowsByBeginning (P.taken output.old) (P.taken output.new) line.now }
+    ensures unblamed { IfErr result IsOfNoMessage }
     ensures untold { IfErr result IsOfHere }
     ensures writes { Steps (meter (P.calls output.old) (P.failures output.old) turns.old)
         (meter (P.calls output.new) (P.failures output.new) turns.new)
@@ -112,6 +114,7 @@ fn take_grant<N: Sink>(
         (noting (N.taken notes.new) (N.failures notes.new))) }
     ensures untold { OnErr result (noting (N.taken notes.new) (N.failures notes.new)
         ≡ noting (N.taken notes.old) (N.failures notes.old)) }
+    ensures blamed { IfErr result (IsOfMessage (SubscribedHeard request subscription)) }
     ensures here { IfErr result IsOfHere }
     ensures aside { IfErr result IsOfBroker }
 {
@@ -152,6 +155,7 @@ fn take<P: Sink, N: Sink>(
     ensures event { IfOk result (λ told. told ≡ is_event heard) }
     ensures begun { GrowsByBeginning (P.taken output.old) (P.taken output.new)
         (line_for topics.now.items granted.old.items heard) }
+    ensures blamed { IfErr result (IsOfMessage heard) }
     ensures untold { IfErr result IsOfHere }
     ensures writes { Steps (meter (P.calls output.old) (P.failures output.old) turns.old)
         (meter (P.calls output.new) (P.failures output.new) turns.new)
@@ -209,9 +213,13 @@ fn follow<I: Source, O: Sink, P: Sink, N: Sink>(
     ensures terms { terms_of session.new ≡ terms_of session.old }
     ensures prints { Prints command.now.topics.items (terms_of session.old)
         (standing session.old (I.given source.old) (O.taken sink.old))
+        (exchange (I.given source.new) (O.taken sink.new))
         (P.taken output.old) (P.taken output.new)
         (noting (N.taken notes.old) (N.failures notes.old))
         (noting (N.taken notes.new) (N.failures notes.new)) }
+    ensures cause { IfErr result (IsCaused (terms_of session.old)
+        (standing session.old (I.given source.old) (O.taken sink.old))
+        (exchange (I.given source.new) (O.taken sink.new))) }
     ensures reads { AreFailuresTold (I.failures source.old) (I.failures source.new)
         (told_by source_told result) }
     ensures writes { AreFailuresTold (O.failures sink.old) (O.failures sink.new)
@@ -293,9 +301,18 @@ pub fn subscribe<I: Source, O: Sink, P: Sink, N: Sink>(
         ⊎ PrintsAfterAsking command.now.contact.serializer command.now.contact.realm
         command.now.contact.authid command.now.wishes command.now.topics.items
         (exchange (I.given source.old) (O.taken sink.old))
+        (exchange (I.given source.new) (O.taken sink.new))
         (P.taken output.old) (P.taken output.new)
         (noting (N.taken notes.old) (N.failures notes.old))
         (noting (N.taken notes.new) (N.failures notes.new)) }
+    ensures cause { IfErr result (λ fault. is_of_message fault ≡ true
+        → IsTurnedAway command.now.contact.serializer command.now.contact.realm
+        command.now.contact.authid (exchange (I.given source.old) (O.taken sink.old))
+        (exchange (I.given source.new) (O.taken sink.new)) fault
+        ⊎ EndsAfterAsking command.now.contact.serializer command.now.contact.realm
+        command.now.contact.authid command.now.wishes command.now.topics.items
+        (exchange (I.given source.old) (O.taken sink.old))
+        (exchange (I.given source.new) (O.taken sink.new)) fault) }
     ensures reads { AreFailuresTold (I.failures source.old) (I.failures source.new)
         (told_by source_told result) }
     ensures writes { AreFailuresTold (O.failures sink.old) (O.failures sink.new)

@@ -1,8 +1,9 @@
-use Rattle.std.proofs.Common.{[], ◌∷◌, ◌++◌, ◌∙◌, ap, append-nil, arith, refl, rules, sym}
+use Rattle.std.proofs.Common.{[], ◌∷◌, ◌++◌, ◌∙◌, ap, append-nil, arith, inr, refl, rules, subst, sym}
 use Rattle.rawsocket.proofs.Lemmas.{all_turns, then_steps}
-use Rattle.client_commands.specs.Acts.{granted_with, line_for, standing, terms_of}
-use Rattle.client_commands.specs.Notes.{noting}
-use Rattle.client_commands.proofs.ListeningLemmas.{counted-event, counted-other, listens-more, printed-more}
+use Rattle.client_commands.specs.Acts.{granted_with, line_for, noted, standing, terms_of}
+use Rattle.client_commands.specs.Notes.{IsNoted, Noting, noting}
+use Rattle.client_commands.proofs.CauseLemmas.{ends-by}
+use Rattle.client_commands.proofs.ListeningLemmas.{counted-event, counted-other, listens-more, printed-more, printed-partly}
 use Rattle.client_commands.proofs.NotingLemmas.{noted-more, none-noted}
 use Rattle.client_commands.proofs.subscribing.follow.Goals as goal
 use Rattle.client_commands.proofs.subscribing.follow.Goals.{then-event, else-event}
@@ -53,3 +54,27 @@ messages-preserved g c = record {
   writes = omega (arith, c.in-Ok.ensures.writes.steps.failures, c.messages.invariant.writes);
   steps = then_steps c.messages.invariant.steps c.in-Ok-take.ensures.writes;
 }
+
+pub returns-in-Err-take-clause-prints : goal.returns-in-Err-take-clause-prints
+returns-in-Err-take-clause-prints g c = record {
+  heards = c.messages.invariant.heards;
+  now = standing c.messages.session (g.I.Source.given c.messages.source) (g.O.Sink.taken c.messages.sink);
+  listens = c.messages.invariant.listens;
+  since = c.hear.ensures.goes_on;
+  lines_are =
+      inr (printed-partly c.args.command.now.topics.items (terms_of c.args.session.now) (terms_of c.messages.session) c.messages.invariant.heards c.in-Ok.heard
+      (standing c.messages.session (g.I.Source.given c.messages.source) (g.O.Sink.taken c.messages.sink))
+      (standing c.hear.new.session (g.I.Source.given c.hear.new.source) (g.O.Sink.taken c.hear.new.sink))
+      c.messages.granted.items (g.P.Sink.taken c.args.output.now) (g.P.Sink.taken c.messages.output) (g.P.Sink.taken c.take.new.output)
+      c.messages.invariant.terms c.in-Ok.ensures.next c.messages.invariant.lines c.messages.invariant.granted_are c.in-Err-take.ensures.begun);
+  noted_are =
+      subst (λ (n : Noting). IsNoted (noted c.args.command.now.topics.items c.messages.invariant.heards) (noting (g.N.Sink.taken c.args.notes.now) (g.N.Sink.failures c.args.notes.now)) n)
+      (sym c.in-Err-take.ensures.silent) c.messages.invariant.notes_are;
+}
+
+pub returns-in-Err-take-clause-cause : goal.returns-in-Err-take-clause-cause
+returns-in-Err-take-clause-cause g c =
+    λ is. ends-by (terms_of c.args.session.now) (terms_of c.messages.session) (standing c.args.session.now (g.I.Source.given c.args.source.now) (g.O.Sink.taken c.args.sink.now))
+    (standing c.messages.session (g.I.Source.given c.messages.source) (g.O.Sink.taken c.messages.sink))
+    (standing c.hear.new.session (g.I.Source.given c.hear.new.source) (g.O.Sink.taken c.hear.new.sink)) c.messages.invariant.heards c.in-Ok.heard c.in-Err-take.fault
+    c.messages.invariant.terms c.messages.invariant.listens c.in-Ok.ensures.next (c.in-Err-take.ensures.blamed is)
