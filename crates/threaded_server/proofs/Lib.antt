@@ -1,17 +1,20 @@
 pub mod SendLemmas
 pub mod AcceptLoop
 pub mod Accepting
+pub mod Acting
 pub mod CountedWords
 pub mod Balance
 pub mod Moving
+pub mod Numbering
 pub mod Places
 pub mod PosterSteps
+pub mod PostSteps
 pub mod RealmSteps
 pub mod RosterSteps
 pub mod RunSteps
+pub mod Saying
 pub mod ServeSteps
 pub mod TableSteps
 pub mod TableStanding
 pub mod Talking
-mod PosterPlaces
 mod StreamEnds

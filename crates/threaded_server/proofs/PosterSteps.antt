@@ -1,16 +1,20 @@
 -- The posters of connections, while these come and go.
-use Rattle.std.proofs.Common.{◌≡◌, ◌≢◌, ◌<◌, ◌+◌, ℕ, List, [], ◌∷◌, ◌++◌, Option, None, Some, All, MatchOption, length, map, option_map, set, slice_get, refl, sym, ap, ◌∙◌, subst, arith, length-set}
+use Rattle.std.proofs.Common.{◌≡◌, ◌≢◌, ◌≤◌, ◌<◌, ◌+◌, ◌-◌, ℕ, List, [], ◌∷◌, ◌++◌, Option, None, Some, MatchOption, length, length-append, map, option_map, replicate, set, slice_get, slice_index_or, refl, sym, ap, ◌∙◌, subst, arith, length-set}
 use mathlib.Core.Logic.{◌⊎◌, inl, inr}
-use Rattle.std.proofs.Math.Seq.{map-set_same}
-use Rattle.std.proofs.lemmas.List.{map-set}
-use Rattle.std.proofs.lemmas.Option.{get_or_from_slice_get, none-some, same_Some, slice_get_within}
-use Rattle.std.specs.Option.{ForSome}
-use Rattle.realm_inbox.specs.EndViews.{inbox_of_poster, posted, poster_conn}
+use Rattle.std.proofs.Math.ListN.{get_or-append}
+use Rattle.std.proofs.Math.Seq.{get_or-append_seam, map-set_same}
+use Rattle.std.proofs.lemmas.List.{length-map, map-set}
+use Rattle.std.proofs.lemmas.Option.{none-some, same_Some, slice_get_within}
+use Rattle.std.specs.Option.{option_flatten}
+use Rattle.realm_inbox.specs.EndViews.{AreNewSeats, IsNewSeat, inbox_of_poster, posted, poster_conn, seat_number}
+use Rattle.realm_inbox.specs.Ends.{Place}
+use Rattle.realm_inbox.specs.declared.act.Act.{Act}
 use Rattle.realm_inbox.specs.declared.ends.Poster.{Poster}
-use Rattle.threaded_server.proofs.Places.{below, get_of_map, get_push_cases, get_set_cases, map_get}
-use Rattle.threaded_server.proofs.PosterPlaces.{put_back}
+use Rattle.realm_inbox.specs.declared.ends.Seat.{Seat}
+use Rattle.threaded_server.proofs.Places.{below, changed_there, few_or_more, found_there, get_of_map, get_other, get_set, get_set_cases, map_get, only_there, put_back, same_or_other}
 use Rattle.threaded_server.proofs.RealmSteps.{Longer, at_longer}
-use Rattle.threaded_server.specs.Posters.{AreAt, AreOfSeat, Mark, Relabels, RelabelsAt, Stand, mark_of, seen_at}
+use Rattle.threaded_server.specs.Posters.{AllGain, AreAt, AreOfSeat, Gains, GivesUp, IsOfInbox, Puts, Relabels, RelabelsAt, Stand, poster_at, poster_in, seen_at}
+use Rattle.threaded_server.specs.Posts.{Say}
 use Rattle.threaded_server.specs.Realms.{Shown, places_of}
 use Rattle.wamp_ids.specs.Numbers.{seat_of}
 
@@ -20,7 +24,7 @@ module _ {S : Type 0} where
   stand_on old new slots longer h k posters e = let s = h k posters e in (at_longer old new posters longer s.0, s.1)
 
   -- posters are put at a seat
-  pub stand_put : (places : List Mark) (slots : List (Option (List (Option (Poster S))))) (k : ℕ) (posters : List (Option (Poster S))) → AreAt places posters → AreOfSeat (k + 1) posters → Stand places slots → Stand places (set slots k (Some posters))
+  pub stand_put : (places : List (Place S)) (slots : List (Option (List (Option (Poster S))))) (k : ℕ) (posters : List (Option (Poster S))) → AreAt places posters → AreOfSeat (k + 1) posters → Stand places slots → Stand places (set slots k (Some posters))
   stand_put places slots k posters at own h j others e = by_place (get_set_cases slots k j (Some posters) (Some others) e)
     where
       by_place : ((k ≡ j) × (Some posters ≡ Some others)) ⊎ ((k ≢ j) × (slice_get slots j ≡ Some (Some others))) → AreAt places others × AreOfSeat (j + 1) others
@@ -30,18 +34,12 @@ module _ {S : Type 0} where
       by_place (inr f) = h j others f.1
 
   -- a seat's are taken
-  pub stand_taken : (places : List Mark) (slots : List (Option (List (Option (Poster S))))) (k : ℕ) → Stand places slots → Stand places (set slots k None)
+  pub stand_taken : (places : List (Place S)) (slots : List (Option (List (Option (Poster S))))) (k : ℕ) → Stand places slots → Stand places (set slots k None)
   stand_taken places slots k h j others e = by_place (get_set_cases slots k j None (Some others) e)
     where
       by_place : ((k ≡ j) × (None ≡ Some others)) ⊎ ((k ≢ j) × (slice_get slots j ≡ Some (Some others))) → AreAt places others × AreOfSeat (j + 1) others
       by_place (inl w) = absurd (none-some others w.1)
       by_place (inr f) = h j others f.1
-
-  -- a seat's are taken, and put there again
-  pub stands_again : (places : List Mark) (before between now : List (Option (List (Option (Poster S))))) (k : ℕ) (posters : List (Option (Poster S))) → between ≡ set before k None → now ≡ set between k (Some posters) → AreAt places posters
-      → AreOfSeat (k + 1) posters → Stand places before → Stand places now
-  stands_again places before between now k posters e f at own h =
-      subst (λ l. Stand places l) (sym f) (stand_put places between k posters at own (subst (λ l. Stand places l) (sym e) (stand_taken places before k h)))
 
   -- what a place gave
   pub took_at : {V : Type 0} (items : V → List (Option (Poster S))) (slots : List (Option V)) (place : ℕ) (o left : Option V) → slice_get slots place ≡ Some o → left ≡ None
@@ -50,16 +48,18 @@ module _ {S : Type 0} where
   took_at items slots place None left at e = ap (map (option_map items)) (ap (set slots place) e ∙ put_back slots place None at)
   took_at items slots place (Some v) left at e = (map_get (option_map items) slots place (Some v) at, ap (λ x. map (option_map items) (set slots place x)) e ∙ map-set (option_map items) slots place None)
 
-  -- nothing stands anywhere
-  pub none_stand : {V : Type 0} (items : V → List (Option (Poster S))) (slots : List (Option V)) → All (λ slot. ForSome slot (λ v. items v ≡ [])) slots → (places : List Mark) → Stand places (map (option_map items) slots)
-  none_stand {V} items slots none places k posters e =
-      let o = get_of_map (option_map items) slots k (Some posters) e in
-      let nothing : posters ≡ [] = empty o.0 (subst (λ (x : Option V). ForSome x (λ v. items v ≡ [])) (get_or_from_slice_get slots k o.0 o.0 o.1) (none k o.0 (slice_get_within slots k o.0 o.1))) o.2 in
-      (λ i p f. absurd (none-some (Some p) (ap (λ l. slice_get l i) (sym nothing) ∙ f)), λ i p f. absurd (none-some (Some p) (ap (λ l. slice_get l i) (sym nothing) ∙ f)))
+  -- nothing stands anywhere yet
+  pub none_stand : (whole : ℕ) (slots : List (Option (List (Option (Poster S))))) (places : List (Place S)) → slots ≡ replicate 256 (Some (replicate whole None)) → Stand places slots
+  none_stand whole slots places e k posters at = (λ i p f. absurd (nobody i p f), λ i p f. absurd (nobody i p f))
     where
-      empty : (x : Option V) → ForSome x (λ v. items v ≡ []) → option_map items x ≡ Some posters → posters ≡ []
-      empty None h f = absurd (none-some posters f)
-      empty (Some v) h f = sym (same_Some (items v) posters f) ∙ h v refl
+      here : slice_get (replicate 256 (Some (replicate whole None))) k ≡ Some (Some posters)
+      here = ap (λ l. slice_get l k) (sym e) ∙ at
+
+      plain : posters ≡ replicate whole None
+      plain = same_Some posters (replicate whole None) (sym (only_there 256 k (Some (replicate whole None)) (Some posters) here))
+
+      nobody : (i : ℕ) (p : Poster S) → slice_get posters i ≡ Some (Some p) → ⊥
+      nobody i p f = none-some p (only_there whole i None (Some p) (ap (λ l. slice_get l i) (sym plain) ∙ f))
 
   -- what stood somewhere before its connection changed
   stood : (o : Option (Poster S)) (p : Poster S) → seen_at o ≡ seen_at (Some p) → (q : Poster S) × (o ≡ Some q) × (inbox_of_poster q ≡ inbox_of_poster p) × (posted q ≡ posted p)
@@ -72,8 +72,8 @@ module _ {S : Type 0} where
       let q = stood o.0 p o.2 in
       (q.0, o.1 ∙ ap Some q.1, q.2, q.3)
 
-  pub relabelled_at : (places : List Mark) (conn : ℕ) (were now : List (Option (Poster S))) → Relabels conn were now → AreAt places were → AreAt places now
-  relabelled_at places conn were now r at i p e = let q = was_there conn were now i p r e in at i q.0 q.1 ∙ ap (λ x. Some (mark_of x)) q.2
+  pub relabelled_at : (places : List (Place S)) (conn : ℕ) (were now : List (Option (Poster S))) → Relabels conn were now → AreAt places were → AreAt places now
+  relabelled_at places conn were now r at i p e = let q = was_there conn were now i p r e in at i q.0 q.1 ∙ ap Some q.2
 
   pub relabelled_own : (conn : ℕ) (were now : List (Option (Poster S))) → Relabels conn were now → AreOfSeat (seat_of conn) now
   relabelled_own conn were now r i p e = ap seat_of (r.own i p e)
@@ -110,17 +110,146 @@ module _ {S : Type 0} where
     own = λ i p e. r.own i p (subst (λ (n : ℕ). i < n) (r.long ∙ sym all) (slice_get_within now i (Some p) e)) e;
   }
 
-  -- one poster more behind those of a seat
-  pub one_at : (places : List Mark) (posters : List (Option (Poster S))) (p : Poster S) → AreAt places posters → slice_get places (length posters) ≡ Some (mark_of (inbox_of_poster p)) → AreAt places (posters ++ Some p ∷ [])
-  one_at places posters p at here i q e = by_place (get_push_cases posters (Some p) (Some q) i e)
-    where
-      by_place : ((i ≡ length posters) × (Some p ≡ Some q)) ⊎ (slice_get posters i ≡ Some (Some q)) → slice_get places i ≡ Some (mark_of (inbox_of_poster q))
-      by_place (inl w) = ap (slice_get places) w.0 ∙ here ∙ ap (λ x. Some (mark_of (inbox_of_poster x))) (same_Some p q w.1)
-      by_place (inr w) = at i q w
+  -- a connection's posters say what they said
+  pub said_relabelled : (conn whole count : ℕ) (said : ℕ → List (ℕ × Act S)) (were now : List (Option (Poster S))) → Relabels conn were now → Say posted whole count said were → Say posted whole count said now
+  said_relabelled conn whole count said were now r h = record {
+    long = sym (length-map now seen_at) ∙ ap length r.seen ∙ length-map were seen_at ∙ h.long;
+    each = λ i less.
+        let p = h.each i less in
+        let o = get_of_map seen_at now i (seen_at (Some p.0)) (ap (λ l. slice_get l i) r.seen ∙ map_get seen_at were i (Some p.0) p.1) in
+        let q = stood o.0 p.0 o.2 in
+        (q.0, o.1 ∙ ap Some q.1, q.3 ∙ p.2);
+  }
 
-  pub one_of_seat : (number : ℕ) (posters : List (Option (Poster S))) (p : Poster S) → AreOfSeat number posters → seat_of (poster_conn p) ≡ number → AreOfSeat number (posters ++ Some p ∷ [])
-  one_of_seat number posters p own here i q e = by_place (get_push_cases posters (Some p) (Some q) i e)
+  -- a realm more: each free seat has its poster
+  pub gains_stand : (places : List (Place S)) (place : Place S) (realm : ℕ) (before now : List (Option (List (Option (Poster S))))) → slice_get places realm ≡ Some place → AllGain place realm before now → Stand places before → Stand places now
+  gains_stand places place realm before now here all h k posters at = by_seat (few_or_more k)
     where
-      by_place : ((i ≡ length posters) × (Some p ≡ Some q)) ⊎ (slice_get posters i ≡ Some (Some q)) → seat_of (poster_conn q) ≡ number
-      by_place (inl w) = ap (λ x. seat_of (poster_conn x)) (sym (same_Some p q w.1)) ∙ here
-      by_place (inr w) = own i q w
+      with_one : (g : Gains place realm k before now) → (were : List (Option (Poster S))) × (slice_get before k ≡ Some (Some were)) × (set were realm (Some g.poster) ≡ posters)
+      with_one g = gained (slice_get before k) refl (sym g.slot ∙ at)
+        where
+          gained : (o : Option (Option (List (Option (Poster S))))) → slice_get before k ≡ o → option_map (option_map (λ l. set l realm (Some g.poster))) o ≡ Some (Some posters)
+              → (were : List (Option (Poster S))) × (slice_get before k ≡ Some (Some were)) × (set were realm (Some g.poster) ≡ posters)
+          gained None e f = absurd (none-some (Some posters) f)
+          gained (Some None) e f = absurd (none-some posters (same_Some None (Some posters) f))
+          gained (Some (Some were)) e f = (were, e, same_Some (set were realm (Some g.poster)) posters (same_Some (Some (set were realm (Some g.poster))) (Some posters) f))
+
+      of_gain : (g : Gains place realm k before now) → AreAt places posters × AreOfSeat (k + 1) posters
+      of_gain g =
+          let w = with_one g in
+          let s = h k w.0 w.1 in (
+            λ i p e. at_place i p (get_set_cases w.0 realm i (Some g.poster) (Some p) (ap (λ l. slice_get l i) w.2 ∙ e)),
+            λ i p e. of_seat i p (get_set_cases w.0 realm i (Some g.poster) (Some p) (ap (λ l. slice_get l i) w.2 ∙ e)),
+          )
+        where
+          at_place : (i : ℕ) (p : Poster S) → ((realm ≡ i) × (Some g.poster ≡ Some p)) ⊎ ((realm ≢ i) × (slice_get (with_one g).0 i ≡ Some (Some p))) → slice_get places i ≡ Some (inbox_of_poster p)
+          at_place i p (inl w) = ap (slice_get places) (sym w.0) ∙ here ∙ ap Some (sym g.inbox ∙ ap inbox_of_poster (same_Some g.poster p w.1))
+          at_place i p (inr w) = (h k (with_one g).0 (with_one g).1).0 i p w.1
+
+          of_seat : (i : ℕ) (p : Poster S) → ((realm ≡ i) × (Some g.poster ≡ Some p)) ⊎ ((realm ≢ i) × (slice_get (with_one g).0 i ≡ Some (Some p))) → seat_of (poster_conn p) ≡ k + 1
+          of_seat i p (inl w) = ap (λ x. seat_of (poster_conn x)) (sym (same_Some g.poster p w.1)) ∙ g.number
+          of_seat i p (inr w) = (h k (with_one g).0 (with_one g).1).1 i p w.1
+
+      by_seat : (k < 256) ⊎ (256 ≤ k) → AreAt places posters × AreOfSeat (k + 1) posters
+      by_seat (inl few) = of_gain (all.seats k few)
+      by_seat (inr more) = h k posters (sym (all.others k more) ∙ at)
+
+  -- the seats that aren't left have their poster of the realm
+  pub record Gaining (place : Place S) (realm : ℕ) (before now : List (Option (List (Option (Poster S))))) (left : List (Seat S)) : Type 0 where
+    pub are : AreNewSeats place left
+    pub few : length left ≤ 256
+    pub done : (k : ℕ) → length left ≤ k → k < 256 → Gains place realm k before now
+    pub ahead : (k : ℕ) → (k < length left) ⊎ (256 ≤ k) → slice_get now k ≡ slice_get before k
+
+  pub gaining_none : (place : Place S) (realm : ℕ) (before : List (Option (List (Option (Poster S))))) (seats : List (Seat S)) → length seats ≡ 256 → AreNewSeats place seats → Gaining place realm before before seats
+  gaining_none place realm before seats all are = record { are = are; few = omega (arith, all); done = λ k more less. absurd (omega (arith, all, more, less)); ahead = λ k h. refl }
+
+  pub gaining_on : (place : Place S) (realm : ℕ) (before now next : List (Option (List (Option (Poster S))))) (seats left : List (Seat S)) (at : Seat S) → seats ≡ left ++ at ∷ [] → Puts realm at now next → Gaining place realm before now seats → Gaining place realm before next left
+  gaining_on place realm before now next seats left at e put g = record {
+    are = λ k d less. subst (λ (s : Seat S). IsNewSeat place (k + 1) s) (ap (λ l. slice_index_or l k d) e ∙ get_or-append left (at ∷ []) d k less) (g.are k d (omega (arith, long, less)));
+    few = omega (arith, long, g.few);
+    done = λ k more less. by_place k more less (same_or_other k (length left));
+    ahead = λ k h. moved k h;
+  }
+    where
+      long : length seats ≡ length left + 1
+      long = ap length e ∙ length-append left (at ∷ [])
+
+      new : IsNewSeat place (length left + 1) at
+      new = subst (λ (s : Seat S). IsNewSeat place (length left + 1) s) (ap (λ l. slice_index_or l (length left) at) e ∙ get_or-append_seam left at [] at) (g.are (length left) at (omega (arith, long)))
+
+      where_put : seat_number at - 1 ≡ length left
+      where_put = omega (arith, new.0)
+
+      one : List (Option (Poster S)) → List (Option (Poster S))
+      one posters = set posters realm (Some put.poster)
+
+      put_there : next ≡ set now (length left) (option_map one (option_flatten (slice_get now (length left))))
+      put_there = put.put ∙ ap (λ n. set now n (option_map one (option_flatten (slice_get now n)))) where_put
+
+      here : Gains place realm (length left) before next
+      here = record {
+        poster = put.poster;
+        inbox = put.inbox ∙ new.2;
+        number = put.number ∙ new.0;
+        posted = put.posted ∙ new.1;
+        slot = ap (λ l. slice_get l (length left)) put_there ∙ changed_there one now (length left) ∙ ap (option_map (option_map one)) (g.ahead (length left) (inl (omega (arith, long))));
+      }
+
+      other : (k : ℕ) → k ≢ length left → slice_get next k ≡ slice_get now k
+      other k apart = ap (λ l. slice_get l k) put_there ∙ get_other now (length left) k (option_map one (option_flatten (slice_get now (length left)))) apart
+
+      by_place : (k : ℕ) → length left ≤ k → k < 256 → (k ≡ length left) ⊎ (k ≢ length left) → Gains place realm k before next
+      by_place k more less (inl same) = subst (λ (n : ℕ). Gains place realm n before next) (sym same) here
+      by_place k more less (inr apart) =
+          let was = g.done k (omega (arith, long, more, apart)) less in
+          record { poster = was.poster; inbox = was.inbox; number = was.number; posted = was.posted; slot = other k apart ∙ was.slot }
+
+      moved : (k : ℕ) → (k < length left) ⊎ (256 ≤ k) → slice_get next k ≡ slice_get before k
+      moved k (inl less) = other k (λ same. omega (arith, same, less)) ∙ g.ahead k (inl (omega (arith, long, less)))
+      moved k (inr more) = other k (λ same. omega (arith, same, more, long, g.few)) ∙ g.ahead k (inr more)
+
+  pub gaining_all : (place : Place S) (realm : ℕ) (before now : List (Option (List (Option (Poster S))))) (left : List (Seat S)) → length left ≡ 0 → Gaining place realm before now left → AllGain place realm before now
+  gaining_all place realm before now left none g = record { seats = λ k less. g.done k (omega (arith, none)) less; others = λ k more. g.ahead k (inr more) }
+
+  -- a poster that is found stands in its place
+  pub record Found (slots : List (Option (List (Option (Poster S))))) (k realm : ℕ) (p : Poster S) : Type 0 where
+    pub posters : List (Option (Poster S))
+    pub seat : slice_get slots k ≡ Some (Some posters)
+    pub at : slice_get posters realm ≡ Some (Some p)
+
+  pub poster_found : (slots : List (Option (List (Option (Poster S))))) (k realm : ℕ) (p : Poster S) → poster_at slots k realm ≡ Some p → Found slots k realm p
+  poster_found slots k realm p e = by_slot (slice_get slots k) refl e
+    where
+      by_slot : (o : Option (Option (List (Option (Poster S))))) → slice_get slots k ≡ o → poster_in (option_flatten o) realm ≡ Some p → Found slots k realm p
+      by_slot None f h = absurd (none-some p h)
+      by_slot (Some None) f h = absurd (none-some p h)
+      by_slot (Some (Some posters)) f h = record { posters = posters; seat = f; at = found_there (slice_get posters realm) p h }
+
+  pub found_poster : (slots : List (Option (List (Option (Poster S))))) (k realm : ℕ) (posters : List (Option (Poster S))) (p : Poster S) → slice_get slots k ≡ Some (Some posters) → slice_get posters realm ≡ Some (Some p) → poster_at slots k realm ≡ Some p
+  found_poster slots k realm posters p e f = ap (λ o. poster_in (option_flatten o) realm) e ∙ ap option_flatten f
+
+  -- and so it is of the inbox of its realm
+  pub found_stands : (places : List (Place S)) (slots : List (Option (List (Option (Poster S))))) (k realm : ℕ) (place : Place S) (p : Poster S) → slice_get places realm ≡ Some place → Stand places slots → poster_at slots k realm ≡ Some p → IsOfInbox place (k + 1) p
+  found_stands places slots k realm place p here h e =
+      let f = poster_found slots k realm p e in
+      let s = h k f.posters f.seat in
+      record { inbox = same_Some place (inbox_of_poster p) (sym here ∙ s.0 realm p f.at); seat = s.1 realm p f.at }
+
+  -- a poster is given up
+  pub gives_none : (slots : List (Option (List (Option (Poster S))))) (k realm : ℕ) → poster_at slots k realm ≡ None → GivesUp slots k realm None slots
+  gives_none slots k realm e = record { there = e; others = λ l i h. refl }
+
+  pub gives_up : (slots now : List (Option (List (Option (Poster S))))) (k realm : ℕ) (posters left : List (Option (Poster S))) (given : Option (Poster S)) → slice_get slots k ≡ Some (Some posters) → option_flatten (slice_get posters realm) ≡ given
+      → ((i : ℕ) → i ≢ realm → slice_get left i ≡ slice_get posters i) → now ≡ set slots k (Some left) → GivesUp slots k realm given now
+  gives_up slots now k realm posters left given e f same put = record {
+    there = ap (λ o. poster_in (option_flatten o) realm) e ∙ f;
+    others = λ l i h. by_place l i h (same_or_other l k);
+  }
+    where
+      by_place : (l i : ℕ) → (l ≢ k) ⊎ (i ≢ realm) → (l ≡ k) ⊎ (l ≢ k) → poster_at now l i ≡ poster_at slots l i
+      by_place l i h (inr apart) = ap (λ o. poster_in (option_flatten o) i) (ap (λ s. slice_get s l) put ∙ get_other slots k l (Some left) apart)
+      by_place l i (inl apart) (inl here) = absurd (apart here)
+      by_place l i (inr other) (inl here) =
+          ap (λ n. poster_at now n i) here ∙ ap (λ o. poster_in (option_flatten o) i) (ap (λ s. slice_get s k) put ∙ get_set slots k (Some posters) (Some left) e) ∙ ap option_flatten (same i other)
+          ∙ sym (ap (λ o. poster_in (option_flatten o) i) e) ∙ ap (λ n. poster_at slots n i) (sym here)

@@ -10,12 +10,13 @@ use Rattle.outbox_queue.specs.Ends.{IsOf, Owes}
 use Rattle.outbox_queue.specs.Tied.{Kept}
 use Rattle.realm.specs.History.{History}
 use Rattle.realm_inbox.specs.EndViews.{inbox_of_poster, poster_conn}
+use Rattle.realm_inbox.specs.Ends.{Place}
 use Rattle.realm_inbox.specs.declared.ends.Poster.{Poster}
 use Rattle.realm_inbox.specs.declared.joining.Joining.{Joining}
 use Rattle.threaded_server.proofs.Places.{get_before_set, get_more, get_of_map, get_set, get_set_cases, map_get}
-use Rattle.threaded_server.specs.Posters.{AreAt, AreOfSeat, Mark, mark_of}
+use Rattle.threaded_server.specs.Posters.{AreAt, AreOf, AreOfSeat}
 use Rattle.threaded_server.specs.Overs.{seen_of}
-use Rattle.threaded_server.specs.Realms.{IsAtHome, Keeps, Shown, TakesIn, mark_in, places_of, with_seen}
+use Rattle.threaded_server.specs.Realms.{IsAtHome, Keeps, Shown, TakesIn, inbox_in, places_of, with_seen}
 use Rattle.threaded_server.specs.Streams.{GoesBy, IsServed, Reads, Sight, Stream}
 use Rattle.threaded_server.specs.Talks.{Converses, Passage, passage, start_of}
 use Rattle.connection.specs.Reader.{Start}
@@ -35,7 +36,7 @@ use Rattle.wamp_ids.specs.Numbers.{seat_of}
 module _ {S : Type 0} where
   -- the same inbox, and what was kept is kept
   pub record Grows (old new : Shown S) : Type 0 where
-    pub place : mark_in new ≡ mark_in old
+    pub place : inbox_in new ≡ inbox_in old
     pub seen : (kept : Kept History) → Contains old.seen kept → Contains new.seen kept
 
   still : (r : Shown S) → Grows r r
@@ -60,7 +61,7 @@ module _ {S : Type 0} where
         with_seen k.realm seen.history,
         ap (λ l. slice_get l i) k.kept ∙ h.1,
         record {
-          place = ap mark_in h.0;
+          place = ap inbox_in h.0;
           seen = λ kept c. Contains-append_left k.realm.seen (seen.history ∷ []) kept (subst (λ (x : Shown S). Contains x.seen kept) (sym h.0) c);
         },
       )
@@ -73,17 +74,17 @@ module _ {S : Type 0} where
   -- posters stand where they stood
   pub at_longer : (old new : List (Shown S)) (posters : List (Option (Poster S))) → Longer old new → AreAt (places_of old) posters → AreAt (places_of new) posters
   at_longer old new posters longer at i p e =
-      let r = get_of_map mark_in old i (mark_of (inbox_of_poster p)) (at i p e) in
+      let r = get_of_map inbox_in old i (inbox_of_poster p) (at i p e) in
       let s = longer i r.0 r.1 in
-      map_get mark_in new i s.0 s.1 ∙ ap Some (s.2.place ∙ r.2)
+      map_get inbox_in new i s.0 s.1 ∙ ap Some (s.2.place ∙ r.2)
 
 kept_in : (old new : List (Kept History)) (o : Option (Kept History)) → ((kept : Kept History) → Contains old kept → Contains new kept) → IsKeptIn old o → IsKeptIn new o
 kept_in old new None f h = tt
 kept_in old new (Some kept) f h = f kept h
 
 module _ {O S : Type 0} where
-  pub kept_longer : (old new : List (Shown S)) (posters : List (Option (Poster S))) (written : Written O) → Longer old new → IsKept old posters written → IsKept new posters written
-  kept_longer old new posters written longer k =
+  pub kept_longer : (old new : List (Shown S)) (conn : ℕ) (posters : List (Option (Poster S))) (written : Written O) → Longer old new → IsKept old conn posters written → IsKept new conn posters written
+  kept_longer old new conn posters written longer k =
       let s = longer written.realm k.realm k.at in
       record {
         realm = s.0;
@@ -91,20 +92,20 @@ module _ {O S : Type 0} where
         poster = k.poster;
         posts = k.posts;
         inbox = k.inbox ∙ sym s.2.place;
-        conn = k.conn;
+        own = k.own;
         owes = k.owes;
         kept = kept_in k.realm.seen s.0.seen written.seen s.2.seen k.kept;
       }
 
-  pub course_longer : (old new : List (Shown S)) (posters : List (Option (Poster S))) (course : Course O) → Longer old new → CourseKept old posters course → CourseKept new posters course
-  course_longer old new posters (Untouched sink) longer h = tt
-  course_longer old new posters (NotOpened sink fault) longer h = tt
-  course_longer old new posters (OpenedAlone sink) longer h = tt
-  course_longer old new posters (Served end written) longer h = kept_longer old new posters written longer h
+  pub course_longer : (old new : List (Shown S)) (conn : ℕ) (posters : List (Option (Poster S))) (course : Course O) → Longer old new → CourseKept old conn posters course → CourseKept new conn posters course
+  course_longer old new conn posters (Untouched sink) longer h = tt
+  course_longer old new conn posters (NotOpened sink fault) longer h = tt
+  course_longer old new conn posters (OpenedAlone sink) longer h = tt
+  course_longer old new conn posters (Served end written) longer h = kept_longer old new conn posters written longer h
 
 module _ {I O S : Type 0} where
   over_longer : (old new : List (Shown S)) (o : Over I O S) → Longer old new → OverKept old o → OverKept new o
-  over_longer old new (over.Seated reader ended) longer h = course_longer old new reader.value.posters.items ended.value.course longer h
+  over_longer old new (over.Seated reader ended) longer h = course_longer old new reader.value.conn reader.value.posters.items ended.value.course longer h
   over_longer old new (over.TurnedAway halves source sink) longer h = tt
   over_longer old new (over.Untouched halves) longer h = tt
 
@@ -115,16 +116,16 @@ module _ {I O S : Type 0} where
   one_kept realms overs now o e h all = subst (λ (l : List (Over I O S)). All (λ o. OverKept realms o) l) (sym e) (All-push (λ o. OverKept realms o) overs o all h)
 
 -- what was seen last, if anything was, is of its realm's chronicle
-home_in : {S : Type 0} (realms : List (Shown S)) (i : ℕ) (o : Option (Kept History)) (r : Shown S) → slice_get realms i ≡ Some r → IsOf (λ (h : Kept History) chronicle. h.chronicle ≡ chronicle) o (mark_in r).1
+home_in : {S : Type 0} (realms : List (Shown S)) (i : ℕ) (o : Option (Kept History)) (r : Shown S) → slice_get realms i ≡ Some r → IsOf (λ (h : Kept History) chronicle. h.chronicle ≡ chronicle) o (inbox_in r).2
     → IfSome (option_map (λ h. record { realm = i; history = h }) o) (λ (seen : Seen). IsAtHome realms seen)
 home_in realms i None r at of = tt
 home_in realms i (Some kept) r at of = record { realm = r; at = at; of = of }
 
 -- and it is kept
 put_by : {S : Type 0} (realms after : List (Shown S)) (i : ℕ) (o : Option (Kept History)) (r : Shown S) → slice_get realms i ≡ Some r → TakesIn realms (option_map (λ h. record { realm = i; history = h }) o) after
-    → (s : Shown S) × (slice_get after i ≡ Some s) × (mark_in s ≡ mark_in r) × IsKeptIn s.seen o
+    → (s : Shown S) × (slice_get after i ≡ Some s) × (inbox_in s ≡ inbox_in r) × IsKeptIn s.seen o
 put_by realms after i None r at e = (r, ap (λ l. slice_get l i) e ∙ at, refl, tt)
-put_by realms after i (Some kept) r at t = (with_seen t.realm kept, ap (λ l. slice_get l i) t.kept ∙ get_set realms i t.realm (with_seen t.realm kept) t.at, ap mark_in (same_Some t.realm r (sym t.at ∙ at)), Contains-push t.realm.seen kept)
+put_by realms after i (Some kept) r at t = (with_seen t.realm kept, ap (λ l. slice_get l i) t.kept ∙ get_set realms i t.realm (with_seen t.realm kept) t.at, ap inbox_in (same_Some t.realm r (sym t.at ∙ at)), Contains-push t.realm.seen kept)
 
 module _ {S : Type 0} where
   -- a poster that comes back is of the same inbox
@@ -140,20 +141,20 @@ module _ {S : Type 0} where
 module _ {I O S : Type 0} (see : Sight I O) (names : List (List ℕ)) where
   -- where a session was served: its realm, and the inbox of that
   served_at : (realms : List (Shown S)) (before : Stream I O S) (source : I) (back : List (Option (Poster S))) (end : ReadEnd) (written : Written O) → (h : IsServed see names before source back end written) → AreAt (places_of realms) before.posters
-      → (r : Shown S) × (slice_get realms written.realm ≡ Some r) × (mark_in r ≡ mark_of (inbox_of_poster h.poster))
+      → (r : Shown S) × (slice_get realms written.realm ≡ Some r) × (inbox_in r ≡ inbox_of_poster h.poster)
   served_at realms before source back end written h at =
-      let r = get_of_map mark_in realms h.session.realm (mark_of (inbox_of_poster h.poster)) (at h.session.realm h.poster h.named) in
+      let r = get_of_map inbox_in realms h.session.realm (inbox_of_poster h.poster) (at h.session.realm h.poster h.named) in
       let same : written.realm ≡ h.session.realm = h.talks.writes.realm ∙ h.talks.begins.in_realm in
       (r.0, ap (slice_get realms) same ∙ r.1, r.2)
 
-  served_back : (places : List Mark) (before : Stream I O S) (source : I) (back : List (Option (Poster S))) (end : ReadEnd) (written : Written O) → IsServed see names before source back end written → AreAt places before.posters → AreAt places back
+  served_back : (places : List (Place S)) (before : Stream I O S) (source : I) (back : List (Option (Poster S))) (end : ReadEnd) (written : Written O) → IsServed see names before source back end written → AreAt places before.posters → AreAt places back
   served_back places before source back end written h at i p e = by_place (get_set_cases before.posters h.session.realm i (Some h.left) (Some p) (ap (λ l. slice_get l i) (sym h.posters_are) ∙ e))
     where
       home : inbox_of_poster h.left ≡ inbox_of_poster h.poster
       home = back_home (start_of h.session) h.talks.joining (passage (see.given h.opened_source) h.poster) (passage (see.given source) h.left) end h.talks.converses
 
-      by_place : ((h.session.realm ≡ i) × (Some h.left ≡ Some p)) ⊎ ((h.session.realm ≢ i) × (slice_get before.posters i ≡ Some (Some p))) → slice_get places i ≡ Some (mark_of (inbox_of_poster p))
-      by_place (inl w) = ap (slice_get places) (sym w.0) ∙ at h.session.realm h.poster h.named ∙ ap (λ x. Some (mark_of x)) (sym home ∙ ap inbox_of_poster (same_Some h.left p w.1))
+      by_place : ((h.session.realm ≡ i) × (Some h.left ≡ Some p)) ⊎ ((h.session.realm ≢ i) × (slice_get before.posters i ≡ Some (Some p))) → slice_get places i ≡ Some (inbox_of_poster p)
+      by_place (inl w) = ap (slice_get places) (sym w.0) ∙ at h.session.realm h.poster h.named ∙ ap Some (sym home ∙ ap inbox_of_poster (same_Some h.left p w.1))
       by_place (inr w) = at i p w.1
 
   served_of_seat : (number : ℕ) (before : Stream I O S) (source : I) (back : List (Option (Poster S))) (end : ReadEnd) (written : Written O) → IsServed see names before source back end written → AreOfSeat number before.posters → AreOfSeat number back
@@ -167,7 +168,7 @@ module _ {I O S : Type 0} (see : Sight I O) (names : List (List ℕ)) where
       by_place (inr w) = own i p w.1
 
   -- the posters that a reader gives back stand where they stood
-  pub back_at : (places : List Mark) (before : Stream I O S) (source : Closed I) (back : List (Option (Poster S))) (course : Course O) → GoesBy see names before source back course → AreAt places before.posters → AreAt places back
+  pub back_at : (places : List (Place S)) (before : Stream I O S) (source : Closed I) (back : List (Option (Poster S))) (course : Course O) → GoesBy see names before source back course → AreAt places before.posters → AreAt places back
   back_at places before source back (Untouched sink) h at = subst (λ l. AreAt places l) (sym h.2) at
   back_at places before source back (NotOpened sink fault) h at = subst (λ l. AreAt places l) (sym h.1) at
   back_at places before source back (OpenedAlone sink) h at = subst (λ l. AreAt places l) (sym h.1) at
@@ -189,17 +190,17 @@ module _ {I O S : Type 0} (see : Sight I O) (names : List (List ℕ)) where
   seen_at_home realms before source back (Served end written) h at =
       let r = served_at realms before source.last.value back end written h at in
       let writes = h.talks.writes in
-      let home : written.drain.value.chronicle ≡ (mark_in r.0).1 = writes.later.chronicle ∙ h.talks.begins.new.2 ∙ ap (λ (mark : Mark). mark.1) (sym r.2) in
+      let home : written.drain.value.chronicle ≡ (inbox_in r.0).2 = writes.later.chronicle ∙ h.talks.begins.new.2 ∙ ap (λ (place : Place S). place.2) (sym r.2) in
       let of = subst (λ o. IsOf (λ (k : Kept History) chronicle. k.chronicle ≡ chronicle) o written.drain.value.chronicle) (sym writes.seen) writes.of in
       home_in realms written.realm written.seen r.0 r.1 (subst (λ c. IsOf (λ (k : Kept History) chronicle. k.chronicle ≡ chronicle) written.seen c) home of)
 
   -- and its realm keeps that
-  pub kept_now : (realms after : List (Shown S)) (before : Stream I O S) (source : Closed I) (back : List (Option (Poster S))) (course : Course O) → GoesBy see names before source back course → AreAt (places_of realms) before.posters
-      → TakesIn realms (seen_of course) after → CourseKept after before.posters course
-  kept_now realms after before source back (Untouched sink) h at t = tt
-  kept_now realms after before source back (NotOpened sink fault) h at t = tt
-  kept_now realms after before source back (OpenedAlone sink) h at t = tt
-  kept_now realms after before source back (Served end written) h at t =
+  pub kept_now : (realms after : List (Shown S)) (conn : ℕ) (before : Stream I O S) (source : Closed I) (back : List (Option (Poster S))) (course : Course O) → GoesBy see names before source back course → AreAt (places_of realms) before.posters
+      → AreOf conn before.posters → TakesIn realms (seen_of course) after → CourseKept after conn before.posters course
+  kept_now realms after conn before source back (Untouched sink) h at own t = tt
+  kept_now realms after conn before source back (NotOpened sink fault) h at own t = tt
+  kept_now realms after conn before source back (OpenedAlone sink) h at own t = tt
+  kept_now realms after conn before source back (Served end written) h at own t =
       let r = served_at realms before source.last.value back end written h at in
       let s = put_by realms after written.realm written.seen r.0 r.1 t in
       let writes = h.talks.writes in
@@ -209,7 +210,7 @@ module _ {I O S : Type 0} (see : Sight I O) (names : List (List ℕ)) where
         poster = h.poster;
         posts = ap (slice_get before.posters) (writes.realm ∙ h.talks.begins.in_realm) ∙ h.named;
         inbox = sym r.2 ∙ sym s.2;
-        conn = writes.later.conn ∙ h.talks.begins.new.1;
+        own = writes.later.conn ∙ h.talks.begins.new.1 ∙ own h.session.realm h.poster h.named;
         owes = subst (λ o. Owes owed_kept o written.drain.value.conn written.drain.value.taken) (sym writes.seen) writes.owes;
         kept = s.3;
       }
@@ -217,8 +218,8 @@ module _ {I O S : Type 0} (see : Sight I O) (names : List (List ℕ)) where
 module _ {I O S : Type 0} (see : Sight I O) where
   -- a stream that had a seat is over, and what its reader gave back was taken in
   pub seat_kept : (realms after : List (Shown S)) (overs now : List (Over I O S)) (began : Snapshot (Reader I O S)) (left : Snapshot (Ended I O S)) (ended : Ended I O S) → now ≡ overs ++ over.Seated began left ∷ [] → left.value ≡ ended
-      → Reads see began.value ended → AreAt (places_of realms) began.value.posters.items → TakesIn realms (seen_of ended.course) after → All (λ o. OverKept realms o) overs → All (λ o. OverKept after o) now
-  seat_kept realms after overs now began left ended e same reads at t all =
-      let here = kept_now see (arc_value began.value.plan).realms.items realms after _ ended.source ended.posters.items ended.course reads at t in
-      one_kept after overs now (over.Seated began left) e (subst (λ (x : Ended I O S). CourseKept after began.value.posters.items x.course) (sym same) here)
+      → Reads see began.value ended → AreAt (places_of realms) began.value.posters.items → AreOf began.value.conn began.value.posters.items → TakesIn realms (seen_of ended.course) after → All (λ o. OverKept realms o) overs → All (λ o. OverKept after o) now
+  seat_kept realms after overs now began left ended e same reads at own t all =
+      let here = kept_now see (arc_value began.value.plan).realms.items realms after began.value.conn _ ended.source ended.posters.items ended.course reads at own t in
+      one_kept after overs now (over.Seated began left) e (subst (λ (x : Ended I O S). CourseKept after began.value.conn began.value.posters.items x.course) (sym same) here)
       (overs_longer realms after overs (takes_longer realms after (seen_of ended.course) t) all)

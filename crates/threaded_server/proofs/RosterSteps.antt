@@ -4,7 +4,7 @@ use Rattle.std.proofs.lemmas.List.{map-append}
 use Rattle.std.proofs.lemmas.List.Elements.{All-set}
 use Rattle.std.specs.Option.{ForSome}
 use Rattle.std.specs.declared.snapshot.Snapshot.{Snapshot}
-use Rattle.threaded_server.proofs.PosterPlaces.{put_back}
+use Rattle.threaded_server.proofs.Places.{put_back}
 use Rattle.threaded_server.proofs.Balance.{all_none_came_, all_none_in_slots, all_went_, gone_, passed_, seated_}
 use Rattle.threaded_server.specs.Overs.{after_of, before_of, sink_of}
 use Rattle.threaded_server.specs.Roster.{IsOfPlan, halves_of}

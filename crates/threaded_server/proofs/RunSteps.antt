@@ -1,8 +1,9 @@
 -- How the realms ran, and what their histories owe.
-use Rattle.std.proofs.Common.{◌≡◌, ◌<◌, ℕ, zero, suc, List, [], ◌∷◌, ◌++◌, Option, None, Some, All, IfSome, length, remove, slice_get, slice_index_or, refl, sym, ap, ◌∙◌, append_assoc, append-nil, arith, subst}
+use Rattle.std.proofs.Common.{◌≡◌, ◌<◌, ◌+◌, ℕ, zero, suc, List, [], ◌∷◌, ◌++◌, Option, None, Some, All, IfSome, length, option_map, remove, slice_get, slice_index_or, refl, sym, ap, ◌∙◌, append_assoc, append-nil, arith, subst}
 use mathlib.Core.List.{IsPrefix}
+use mathlib.Core.Logic.{◌⊎◌, inl, inr}
 use Rattle.std.proofs.lemmas.List.Elements.{All-contains, All-cons, All-head, All-nil, All-pop, All-tail, All-weaker}
-use Rattle.std.proofs.lemmas.Option.{none-some, same_Some}
+use Rattle.std.proofs.lemmas.Option.{get_or_from_slice_get, none-some, same_Some, slice_get_within}
 use Rattle.chronicle.specs.Recorded.{Reaches, Recorded}
 use Rattle.outbox_queue.specs.Ends.{Owes}
 use Rattle.outbox_queue.specs.Tied.{Kept}
@@ -10,13 +11,19 @@ use Rattle.realm.specs.Grants.{Grants, pairs_of}
 use Rattle.realm.specs.History.{History, Begins}
 use Rattle.realm.specs.Yield.{owed}
 use Rattle.realm_inbox.specs.HistoryBeginnings.{owed_more}
-use Rattle.realm_inbox.specs.EndViews.{inbox_of}
+use Rattle.realm_inbox.specs.EndViews.{inbox_of, posted, received}
+use Rattle.realm_inbox.specs.Ends.{Place}
+use Rattle.realm_inbox.specs.Seats.{at_seat}
+use Rattle.realm_inbox.specs.declared.ends.Inbox.{Inbox}
 use Rattle.realm_inbox.specs.declared.ends.Poster.{Poster}
 use Rattle.session.specs.declared.messages.item.Item.{Item}
 use Rattle.std.specs.declared.snapshot.Snapshot.{Snapshot}
+use Rattle.threaded_server.proofs.Places.{get_of_map, get_push_cases, get_seam, map_get, none_left}
+use Rattle.threaded_server.proofs.PosterSteps.{found_poster, found_stands}
 use Rattle.threaded_server.specs.Acts.{Acts}
-use Rattle.threaded_server.specs.Posters.{mark_of}
-use Rattle.threaded_server.specs.Realms.{EachRuns, RunsTo, Shown, shown}
+use Rattle.threaded_server.specs.Posters.{IsOfInbox, Stand, lists_at, poster_at}
+use Rattle.threaded_server.specs.Posts.{AllSay, AreIn, OnlyPosted, posts_at}
+use Rattle.threaded_server.specs.Realms.{AllWerePosted, EachRuns, RunsTo, Shown, inbox_in, places_of, shown}
 use Rattle.threaded_server.specs.Ties.{CourseKept, CourseTied, IsKept, IsKeptIn, IsRun, IsTied, OverKept, OverTied}
 use Rattle.threaded_server.specs.Writes.{owed_kept}
 use Rattle.threaded_server.specs.declared.actor_thread.Acted.{Acted}
@@ -24,6 +31,7 @@ use Rattle.threaded_server.specs.declared.actor_thread.ActorThread.{ActorThread}
 use Rattle.threaded_server.specs.declared.realm_handle.RealmHandle.{RealmHandle}
 use Rattle.threaded_server.specs.declared.course.Course.{Course}
 use Rattle.threaded_server.specs.declared.course.Course.TheVariants.{Untouched, NotOpened, OpenedAlone, Served}
+use Rattle.threaded_server.specs.declared.entry.Connection.{Connection}
 use Rattle.threaded_server.specs.declared.over.Over.{Over}
 use Rattle.threaded_server.specs.declared.over.Over.TheVariants as over
 use Rattle.threaded_server.specs.declared.realm_run.RealmRun.{RealmRun}
@@ -55,6 +63,39 @@ module _ {S : Type 0} where
 
   pub so_far_all : (all rest : List (Shown S)) (runs : List (RealmRun S)) → RunSoFar all rest runs → rest ≡ [] → EachRuns all runs
   so_far_all all rest runs h e = subst (λ (l : List (Shown S)). EachRuns l runs) (sym (h.all_are ∙ ap (λ l. h.done ++ l) e ∙ append-nil h.done)) h.each
+
+  ran_long : (realms : List (Shown S)) (runs : List (RealmRun S)) → EachRuns realms runs → length realms ≡ length runs
+  ran_long [] [] each = refl
+  ran_long [] (run ∷ runs) each = absurd each
+  ran_long (realm ∷ realms) [] each = absurd each
+  ran_long (realm ∷ realms) (run ∷ runs) each = ap suc (ran_long realms runs each.1)
+
+  -- the next that is to run
+  next_at : (all rest : List (Shown S)) (realm : Shown S) (runs : List (RealmRun S)) → RunSoFar all (realm ∷ rest) runs → slice_get all (length runs) ≡ Some realm
+  next_at all rest realm runs h = ap (λ l. slice_get l (length runs)) h.all_are ∙ ap (slice_get (h.done ++ realm ∷ rest)) (sym (ran_long h.done runs h.each)) ∙ get_seam h.done realm rest
+
+  -- what the next one received is compared with the posters of its inbox
+  pub next_stands : (all rest : List (Shown S)) (realm : Shown S) (runs : List (RealmRun S)) (run : RealmRun S) (inbox : Inbox S) (place : ℕ) (before now : List (Option (List (Option (Poster S))))) → RunSoFar all (realm ∷ rest) runs → length runs ≡ place → RunsTo realm run → inbox ≡ run.ended.value.inbox
+      → Stand (places_of all) before → ((k : ℕ) → poster_at now k place ≡ poster_at before k place) → (k : ℕ) (p : Poster S) → poster_at now k place ≡ Some p → IsOfInbox (inbox_of inbox) (k + 1) p
+  next_stands all rest realm runs run inbox place before now h long ran is stand same k p e =
+      let here = map_get inbox_in all place realm (ap (slice_get all) (sym long) ∙ next_at all rest realm runs h) in
+      let own : inbox_in realm ≡ inbox_of inbox = ap (λ (w : ActorThread S). inbox_of w.inbox) (sym ran.began) ∙ sym ran.acts.inbox ∙ ap inbox_of (sym is) in
+      subst (λ (i : Place S). IsOfInbox i (k + 1) p) own (found_stands (places_of all) before k place (inbox_in realm) p here stand (sym (same k) ∙ e))
+
+  -- and was posted by them
+  pub posted_on : (runs now : List (RealmRun S)) (run : RealmRun S) (inbox : Inbox S) (place : ℕ) (slots left : List (Option (List (Option (Poster S))))) → now ≡ runs ++ run ∷ [] → length runs ≡ place → inbox ≡ run.ended.value.inbox → ((k : ℕ) → poster_at left k place ≡ poster_at slots k place)
+      → ((k : ℕ) (p : Poster S) → k < 256 → poster_at left k place ≡ Some p → IsPrefix (at_seat (k + 1) (received inbox)) (posted p)) → AllWerePosted runs slots → AllWerePosted now slots
+  posted_on runs now run inbox place slots left e long is same compared all realm k other p at less there = by_place (get_push_cases runs run other realm (ap (λ l. slice_get l realm) (sym e) ∙ at))
+    where
+      by_place : ((realm ≡ length runs) × (run ≡ other)) ⊎ (slice_get runs realm ≡ Some other) → IsPrefix (at_seat (k + 1) (received other.ended.value.inbox)) (posted p)
+      by_place (inl w) =
+          let here : realm ≡ place = w.0 ∙ long in
+          subst (λ (r : RealmRun S). IsPrefix (at_seat (k + 1) (received r.ended.value.inbox)) (posted p)) w.1
+          (subst (λ (i : Inbox S). IsPrefix (at_seat (k + 1) (received i)) (posted p)) is (compared k p less (same k ∙ ap (poster_at slots k) (sym here) ∙ there)))
+      by_place (inr w) = all realm k other p w less there
+
+  pub posted_none : (slots : List (Option (List (Option (Poster S))))) (runs : List (RealmRun S)) → runs ≡ [] → AllWerePosted runs slots
+  posted_none slots runs e realm k run p at less there = absurd (none-some run (ap (λ l. slice_get l realm) (sym e) ∙ at))
 
   ran_at : (realms : List (Shown S)) (runs : List (RealmRun S)) (i : ℕ) (realm : Shown S) → EachRuns realms runs → slice_get realms i ≡ Some realm → (run : RealmRun S) × (slice_get runs i ≡ Some run) × RunsTo realm run
   ran_at [] runs i realm each at = absurd (none-some realm at)
@@ -104,11 +145,7 @@ checking_on own new all rest left last same e r h = subst (λ (c : Recorded Hist
 })
 
 pub checking_all : (own was : Recorded History) (all rest : List (Kept History)) → own ≡ was → length rest ≡ 0 → Checking own all rest → All (λ kept. Reaches Begins (Some kept.history) was.history) all
-checking_all own was all rest same none h = subst (λ (c : Recorded History). All (λ kept. Reaches Begins (Some kept.history) c.history) all) same (seen_all own.history all rest (nothing rest none) h.so_far)
-  where
-    nothing : (xs : List (Kept History)) → length xs ≡ 0 → xs ≡ []
-    nothing [] e = refl
-    nothing (x ∷ xs) e = absurd (omega (arith, e))
+checking_all own was all rest same none h = subst (λ (c : Recorded History). All (λ kept. Reaches Begins (Some kept.history) c.history) all) same (seen_all own.history all rest (none_left rest none) h.so_far)
 
 -- the first of a list, and the others
 pub first_of : {A : Type 0} (xs : List A) (x : A) → 0 < length xs → x ≡ slice_index_or xs 0 x → xs ≡ x ∷ remove xs 0
@@ -142,8 +179,8 @@ reached own all None h k = tt
 reached own all (Some kept) h k = All-contains (λ x. Reaches Begins (Some x.history) own) all kept h k
 
 module _ {O S : Type 0} where
-  tied : (realms : List (Shown S)) (runs : List (RealmRun S)) (posters : List (Option (Poster S))) (written : Written O) → EachRuns realms runs → IsKept realms posters written → IsTied runs posters written
-  tied realms runs posters written each k =
+  tied : (realms : List (Shown S)) (runs : List (RealmRun S)) (conn : ℕ) (posters : List (Option (Poster S))) (written : Written O) → EachRuns realms runs → IsKept realms conn posters written → IsTied runs conn posters written
+  tied realms runs conn posters written each k =
       let r = ran_at realms runs written.realm k.realm each k.at in
       let own = r.0.ended.value.chronicle.history in
       record {
@@ -151,22 +188,40 @@ module _ {O S : Type 0} where
         at = r.1;
         poster = k.poster;
         posts = k.posts;
-        inbox = k.inbox ∙ ap (λ w. mark_of (inbox_of w.inbox)) (sym r.2.began);
-        conn = k.conn;
+        inbox = k.inbox ∙ ap (λ w. inbox_of w.inbox) (sym r.2.began);
+        own = k.own;
         owes = owed_by written.seen own written.drain.value.conn written.drain.value.taken (reached own k.realm.seen written.seen r.2.begins k.kept) k.owes;
       }
 
-  course_tied : (realms : List (Shown S)) (runs : List (RealmRun S)) (posters : List (Option (Poster S))) (course : Course O) → EachRuns realms runs → CourseKept realms posters course → CourseTied runs posters course
-  course_tied realms runs posters (Untouched sink) each k = tt
-  course_tied realms runs posters (NotOpened sink fault) each k = tt
-  course_tied realms runs posters (OpenedAlone sink) each k = tt
-  course_tied realms runs posters (Served end written) each k = tied realms runs posters written each k
+  course_tied : (realms : List (Shown S)) (runs : List (RealmRun S)) (conn : ℕ) (posters : List (Option (Poster S))) (course : Course O) → EachRuns realms runs → CourseKept realms conn posters course → CourseTied runs conn posters course
+  course_tied realms runs conn posters (Untouched sink) each k = tt
+  course_tied realms runs conn posters (NotOpened sink fault) each k = tt
+  course_tied realms runs conn posters (OpenedAlone sink) each k = tt
+  course_tied realms runs conn posters (Served end written) each k = tied realms runs conn posters written each k
 
 module _ {I O S : Type 0} where
   over_tied : (realms : List (Shown S)) (runs : List (RealmRun S)) (o : Over I O S) → EachRuns realms runs → OverKept realms o → OverTied runs o
-  over_tied realms runs (over.Seated reader ended) each k = course_tied realms runs reader.value.posters.items ended.value.course each k
+  over_tied realms runs (over.Seated reader ended) each k = course_tied realms runs reader.value.conn reader.value.posters.items ended.value.course each k
   over_tied realms runs (over.TurnedAway halves source sink) each k = tt
   over_tied realms runs (over.Untouched halves) each k = tt
 
   pub all_tied : (realms : List (Shown S)) (runs : List (RealmRun S)) (overs : List (Over I O S)) → EachRuns realms runs → All (λ o. OverKept realms o) overs → All (λ o. OverTied runs o) overs
   all_tied realms runs overs each all = All-weaker (λ o. OverKept realms o) (λ o. OverTied runs o) (λ o. over_tied realms runs o each) overs all
+
+  -- at the end all posters are free, and say what the streams posted
+  pub only_posted : (whole : ℕ) (realms : List (Shown S)) (runs : List (RealmRun S)) (slots taken : List (Option (List (Option (Poster S))))) (overs : List (Over I O S)) → EachRuns realms runs → AllWerePosted runs slots → ((k : ℕ) (posters : List (Option (Poster S))) → slice_get taken k ≡ Some (Some posters) → ⊥)
+      → AllSay posted whole (length realms) (λ realm number. posts_at realm number overs) slots taken → OnlyPosted runs overs
+  only_posted whole realms runs slots taken overs each all none say realm k run at less = by_table (say k less)
+    where
+      by_table : AreIn posted whole (length realms) k (λ realm number. posts_at realm number overs) slots taken ⊎ AreIn posted whole (length realms) k (λ realm number. posts_at realm number overs) taken slots → IsPrefix (at_seat (k + 1) (received run.ended.value.inbox)) (posts_at realm (k + 1) overs)
+      by_table (inr a) = absurd (none k a.posters a.at)
+      by_table (inl a) =
+          let p = a.say.each realm (subst (λ (n : ℕ). realm < n) (sym (ran_long realms runs each)) (slice_get_within runs realm run at)) in
+          subst (λ l. IsPrefix (at_seat (k + 1) (received run.ended.value.inbox)) l) p.2 (all realm k run p.0 at less (found_poster slots k realm a.posters p.0 a.at p.1))
+
+  -- nobody is at a place where nobody is anywhere
+  pub nobody_there : (entries : List (Option (Connection I O S))) → All (λ slot. slot ≡ None) entries → (k : ℕ) (posters : List (Option (Poster S))) → slice_get (lists_at entries) k ≡ Some (Some posters) → ⊥
+  nobody_there entries none k posters e =
+      let o = get_of_map (option_map (λ (entry : Connection I O S). entry.began.value.posters.items)) entries k (Some posters) e in
+      let free : o.0 ≡ None = sym (get_or_from_slice_get entries k o.0 o.0 o.1) ∙ none k o.0 (slice_get_within entries k o.0 o.1) in
+      none-some posters (ap (option_map (λ (entry : Connection I O S). entry.began.value.posters.items)) (sym free) ∙ o.2)

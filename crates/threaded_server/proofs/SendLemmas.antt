@@ -123,8 +123,8 @@ module _ (S : RattleType) (shut : Ghosts S.Denot) where
       (search (heap.send, crosses, sendable) depth 60, (search (plan_send, plan_sync, crosses, sendable) depth 60 fits 20000, (search sendable, (search (maps, crosses, sendable) depth 60 fits 20000, (search (words_send, maps, crosses, sendable) depth 60 fits 20000, (as_row_send (Chronicle.the_field moment moment_recorded) chronicle_send, (inbox_send S shut s, (search (crosses, sendable) depth 60 fits 20000, (search (marks_send, marks_sync, crosses, sendable) depth 60 fits 20000, tt)))))))))
 
 module _ (S : RattleType) (shut : Ghosts S.Denot) where
-  pub actor_done_send : IsSend (Acted.the_row S shut)
-  actor_done_send = declared_send (Acted.the_type S shut) (as_row_send (Chronicle.the_field moment moment_recorded) chronicle_send, (search (crosses, sendable) depth 60, (search (crosses, sendable) depth 60, tt)))
+  pub actor_done_send : IsSend S → IsSend (Acted.the_row S shut)
+  actor_done_send s = declared_send (Acted.the_type S shut) (as_row_send (Chronicle.the_field moment moment_recorded) chronicle_send, (search (crosses, sendable) depth 60, (inbox_send S shut s, tt)))
 
 -- a handle that marks a fate
 pub marked_send : (S : RattleType) → IsSend S → IsSend (Marked.the_row S)

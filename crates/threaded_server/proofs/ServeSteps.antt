@@ -3,17 +3,21 @@ use Rattle.std.proofs.Common.{◌≡◌, ◌+◌, ◌<◌, ℕ, List, [], ◌∷
 use Rattle.std.proofs.Math.Logic.{∥∥₁_map}
 use Rattle.std.proofs.lemmas.List.Elements.{All-nil}
 use Rattle.std.proofs.lemmas.List.Sorted.{IsPermutation-refl}
+use Rattle.std.proofs.lemmas.Option.{none-some}
 use Rattle.realm.specs.Grants.{Grants}
 use Rattle.threaded_server.proofs.Accepting.{Accepting, one_came, one_failed}
 use Rattle.threaded_server.proofs.Moving.{moves_on}
+use Rattle.threaded_server.specs.Conns.{AreApart, conns_of}
 use Rattle.threaded_server.specs.Lending.{Lending}
 use Rattle.threaded_server.specs.Overs.{AllWent, Books, Moves, Went}
+use Rattle.threaded_server.specs.Posts.{OnlyPosted}
 use Rattle.threaded_server.specs.Served.{LentUntil, Served, came_in}
 use Rattle.threaded_server.specs.Streams.{Sight}
 use Rattle.threaded_server.specs.Ties.{IsRun, OverTied}
 use Rattle.threaded_server.specs.declared.answer.Answer.{Answer}
 use Rattle.threaded_server.specs.declared.answer.Answer.TheVariants.{Came, Failed}
 use Rattle.threaded_server.specs.declared.fault.Fault.{Fault}
+use Rattle.threaded_server.specs.declared.over.Over.{Over}
 use Rattle.threaded_server.specs.declared.realm_run.RealmRun.{RealmRun}
 
 module _ {I O S : Type 0} where
@@ -40,8 +44,8 @@ module _ {I O S : Type 0} where
   -- serving is over, and each stream is
   pub served : (see : Sight I O) (shown names : List (List ℕ)) (had_grants grants : Grants) (runs : List (RealmRun S)) (before now closed : List Answer) (was lending returned : Lending I O) (had has left : Books I O S) (result : Result Unit Fault) → had.lent ≡ [] → had.over ≡ []
       → LentUntil before now was lending had has result → closed ≡ now → Moves 0 lending returned has left → shown ≡ names → had_grants ≡ grants → ∥ AllWent see shown left.lent left.over ∥₁
-      → All (λ run. IsRun had_grants run) runs → ∥ All (λ over. OverTied runs over) left.over ∥₁ → ∥ Served S see names grants before closed was returned ∥₁
-  served see shown names had_grants grants runs before now closed was lending returned had has left result none nobody h e m same alike all each_ran tied =
+      → All (λ run. IsRun had_grants run) runs → AreApart (conns_of left.over) → ∥ OnlyPosted runs left.over ∥₁ → ∥ All (λ over. OverTied runs over) left.over ∥₁ → ∥ Served S see names grants before closed was returned ∥₁
+  served see shown names had_grants grants runs before now closed was lending returned had has left result none nobody h e m same alike all each_ran apart only tied =
       let whole = moves_on (came_in h.serves.given) 0 was lending returned had has left h.moves m in
       let lent : left.lent ≡ whole.more = whole.lent_here ∙ ap (λ l. l ++ whole.more) none in
       let over : left.over ≡ whole.over = whole.over_here ∙ ap (λ l. l ++ whole.over) nobody in
@@ -58,6 +62,8 @@ module _ {I O S : Type 0} where
         went = subst (λ (l : List (I × O)). AllWent see names l whole.over) lent (subst (λ o. AllWent see names left.lent o) over (subst (λ (n : List (List ℕ)). AllWent see n left.lent left.over) same each));
         runs = runs;
         each_ran = subst (λ (g : Grants). All (λ run. IsRun g run) runs) alike each_ran;
+        apart = subst (λ (o : List (Over I O S)). AreApart (conns_of o)) over apart;
+        only_posted = subst (λ (o : List (Over I O S)). ∥ OnlyPosted runs o ∥₁) over only;
         tied = subst (λ o. ∥ All (λ x. OverTied runs x) o ∥₁) over tied;
       })
 
@@ -75,6 +81,8 @@ module _ {I O S : Type 0} where
     went = record { each = IsPermutation-refl []; went = All-nil (λ over. ∥ Went see names over ∥₁) };
     runs = [];
     each_ran = All-nil (λ run. IsRun grants run);
+    apart = λ i j n at there. absurd (none-some n at);
+    only_posted = ∣ (λ realm k run at less. absurd (none-some run at)) ∣₁;
     tied = ∣ All-nil (λ over. OverTied [] over) ∣₁;
   }
 

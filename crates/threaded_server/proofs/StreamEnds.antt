@@ -3,7 +3,7 @@ use Rattle.std.proofs.Common.{◌≡◌, ℕ, List, Option, None, Some, Ok, refl
 use Rattle.realm_inbox.specs.declared.ends.Poster.{Poster}
 use Rattle.session.specs.Opened.{Exchange, OpensSince, Session, exchange}
 use Rattle.session.specs.declared.fault.Fault.{Fault}
-use Rattle.threaded_server.proofs.PosterPlaces.{put_back, put_twice}
+use Rattle.threaded_server.proofs.Places.{put_back, put_twice}
 use Rattle.threaded_server.specs.Streams.{GoesBy, IsNotOpened, IsOpened, IsUntouched, Sight, Stream, stream}
 use Rattle.threaded_server.specs.Talks.{Passage, Talks, passage}
 use Rattle.threaded_server.specs.declared.closed.Closed.{Closed}

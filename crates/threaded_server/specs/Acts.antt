@@ -1,5 +1,6 @@
 -- What a realm's actor's thread gives back, beside what it was given.
 use Rattle.std.specs.Prelude.{◌≡◌, List, [], Option, Some, None}
+use mathlib.Core.List.{IsPrefix}
 use Rattle.std.specs.declared.snapshot.Snapshot.{Snapshot}
 use Rattle.realm.specs.Grants.{pairs_of}
 use Rattle.realm.specs.History.{begun}
@@ -16,20 +17,20 @@ module _ {S : Type 0} where
   abbrev pub first_of : ActorThread S → Acting S
   first_of w = record { chronicle = w.chronicle.chronicle; history = begun (pairs_of w.config.grants.items); rows = []; words = w.words.given; last_cut = []; handled = [] }
 
-  -- the actor ran on what its own inbox gave, up to its end, and its chronicle has the history that this made
+  -- the actor ran on what its own inbox gave first, up to its end, and its chronicle has the history that this made; what the inbox gave then was turned away
   pub record RanOn (w : ActorThread S) (done : Acted S) (actor : Acting S) : Type 0 where
     pub came : List (Post S)
-    pub received : received done.inbox.value ≡ came
+    pub received : IsPrefix came (received done.inbox)
     pub in_order : InOrder [] came
     pub ran : Ran (first_of w) came actor
     pub history : done.chronicle.history ≡ Some actor.history
 
   -- or there was no memory for the realm: nothing was received, and its chronicle has no history
   abbrev pub ActsBy : ActorThread S → Acted S → Option (Snapshot (Acting S)) → Type 0
-  ActsBy w done None = (done.inbox.value ≡ w.inbox) × (done.chronicle.history ≡ None)
+  ActsBy w done None = (done.inbox ≡ w.inbox) × (done.chronicle.history ≡ None)
   ActsBy w done (Some actor) = RanOn w done actor.value
 
   pub record Acts (w : ActorThread S) (done : Acted S) : Type 0 where
-    pub inbox : inbox_of done.inbox.value ≡ inbox_of w.inbox
+    pub inbox : inbox_of done.inbox ≡ inbox_of w.inbox
     pub chronicle : done.chronicle.chronicle ≡ w.chronicle.chronicle
     pub course : ActsBy w done done.actor

@@ -2,9 +2,11 @@ pub mod Acts
 pub mod Answers
 pub mod Begun
 pub mod Closing
+pub mod Conns
 pub mod Lending
 pub mod Overs
 pub mod Posters
+pub mod Posts
 pub mod Realms
 pub mod Roster
 pub mod Served
@@ -14,5 +16,6 @@ pub mod Streams
 pub mod Table
 pub mod Talks
 pub mod Ties
+pub mod TrailCode
 pub mod Words
 pub mod Writes

@@ -1,12 +1,16 @@
 -- What the accepting thread has of the realms.
-use Rattle.std.specs.Prelude.{◌≡◌, List, [], ◌∷◌, ◌++◌, Option, None, Some, All, map, set, slice_get}
+use Rattle.std.specs.Prelude.{◌≡◌, ◌<◌, ◌+◌, ℕ, List, [], ◌∷◌, ◌++◌, Option, None, Some, All, map, set, slice_get}
+use mathlib.Core.List.{IsPrefix}
 use Rattle.chronicle.specs.Recorded.{Reaches}
 use Rattle.outbox_queue.specs.Ends.{IsOf}
 use Rattle.outbox_queue.specs.Tied.{Kept}
 use Rattle.realm.specs.History.{History, Begins}
-use Rattle.realm_inbox.specs.EndViews.{inbox_of}
+use Rattle.realm_inbox.specs.EndViews.{inbox_of, posted, received}
+use Rattle.realm_inbox.specs.Ends.{Place}
+use Rattle.realm_inbox.specs.Seats.{at_seat}
+use Rattle.realm_inbox.specs.declared.ends.Poster.{Poster}
 use Rattle.threaded_server.specs.Acts.{Acts}
-use Rattle.threaded_server.specs.Posters.{Mark, mark_of}
+use Rattle.threaded_server.specs.Posters.{poster_at}
 use Rattle.threaded_server.specs.declared.actor_thread.ActorThread.{ActorThread}
 use Rattle.threaded_server.specs.declared.realm_handle.RealmHandle.{RealmHandle}
 use Rattle.threaded_server.specs.declared.realm_run.RealmRun.{RealmRun}
@@ -26,11 +30,11 @@ module _ {S : Type 0} where
   realms_of realms = map shown realms.handles.items
 
   -- the inbox that its actor runs on
-  abbrev pub mark_in : Shown S → Mark
-  mark_in realm = mark_of (inbox_of realm.work.inbox)
+  abbrev pub inbox_in : Shown S → Place S
+  inbox_in realm = inbox_of realm.work.inbox
 
-  abbrev pub places_of : List (Shown S) → List Mark
-  places_of realms = map mark_in realms
+  abbrev pub places_of : List (Shown S) → List (Place S)
+  places_of realms = map inbox_in realms
 
   -- with one that was seen last
   abbrev pub with_seen : Shown S → Kept History → Shown S
@@ -40,7 +44,7 @@ module _ {S : Type 0} where
   pub record IsAtHome (realms : List (Shown S)) (seen : Seen) : Type 0 where
     pub realm : Shown S
     pub at : slice_get realms seen.realm ≡ Some realm
-    pub of : IsOf (λ (h : Kept History) chronicle. h.chronicle ≡ chronicle) (Some seen.history) (mark_in realm).1
+    pub of : IsOf (λ (h : Kept History) chronicle. h.chronicle ≡ chronicle) (Some seen.history) (inbox_in realm).2
 
   -- its realm keeps it
   pub record Keeps (realms : List (Shown S)) (seen : Seen) (now : List (Shown S)) : Type 0 where
@@ -65,3 +69,7 @@ module _ {S : Type 0} where
   EachRuns [] (run ∷ runs) = ⊥
   EachRuns (realm ∷ realms) [] = ⊥
   EachRuns (realm ∷ realms) (run ∷ runs) = RunsTo realm run × EachRuns realms runs
+
+  -- what each realm received of a seat begins what was posted there, by the realm's poster of that seat
+  abbrev pub AllWerePosted : List (RealmRun S) → List (Option (List (Option (Poster S)))) → Type 0
+  AllWerePosted runs slots = (realm k : ℕ) (run : RealmRun S) (p : Poster S) → slice_get runs realm ≡ Some run → k < 256 → poster_at slots k realm ≡ Some p → IsPrefix (at_seat (k + 1) (received run.ended.value.inbox)) (posted p)

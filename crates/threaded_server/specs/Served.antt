@@ -2,8 +2,10 @@
 use Rattle.std.specs.Prelude.{◌≡◌, ◌+◌, ℕ, List, [], ◌∷◌, ◌++◌, Result, All, length, map}
 use Rattle.realm.specs.Grants.{Grants}
 use Rattle.threaded_server.specs.Answers.{Serves}
+use Rattle.threaded_server.specs.Conns.{AreApart, conns_of}
 use Rattle.threaded_server.specs.Lending.{Lending}
 use Rattle.threaded_server.specs.Overs.{AllWent, Books, Moves, after_of}
+use Rattle.threaded_server.specs.Posts.{OnlyPosted}
 use Rattle.threaded_server.specs.Streams.{Sight}
 use Rattle.threaded_server.specs.Ties.{IsRun, OverTied}
 use Rattle.threaded_server.specs.declared.answer.Answer.{Answer}
@@ -26,8 +28,9 @@ module _ {I O S : Type 0} where
     pub moves : Moves (came_in serves.given) was lending had has
 
 -- Between two states of an acceptor: each stream that came was lent, or couldn't be taken apart; each that was lent was let go of and came back, as its reader left it, or it was told
--- that no seat is free, or nothing was read or written; and what came back is these, in the order of that. Each realm ran, from an empty history with these grants on; and what
--- the writer of a session took begins what the history of the realm that its HELLO names owes its connection
+-- that no seat is free, or nothing was read or written; and what came back is these, in the order of that. No two connections had one number. Each realm that served a session ran, from an empty history with these
+-- grants on; what it received of a seat begins what the streams posted there; and what the writer of a session took begins what the one history of the realm that its HELLO names
+-- owes its connection
 pub record Served {I O : Type 0} (S : Type 0) (see : Sight I O) (names : List (List ℕ)) (grants : Grants) (before now : List Answer) (was lending : Lending I O) : Type 0 where
   pub given : List Answer
   pub lent : List (I × O)
@@ -41,4 +44,6 @@ pub record Served {I O : Type 0} (S : Type 0) (see : Sight I O) (names : List (L
   pub went : AllWent see names lent streams
   pub runs : List (RealmRun S)
   pub each_ran : All (λ run. IsRun grants run) runs
+  pub apart : AreApart (conns_of streams)
+  pub only_posted : ∥ OnlyPosted runs streams ∥₁
   pub tied : ∥ All (λ over. OverTied runs over) streams ∥₁

@@ -1,15 +1,14 @@
 -- What a session was written, and the history of its realm.
-use Rattle.std.specs.Prelude.{◌≡◌, ⊤, List, Option, None, Some, Contains, slice_get}
+use Rattle.std.specs.Prelude.{◌≡◌, ⊤, ℕ, List, Option, None, Some, Contains, slice_get}
 use Rattle.outbox_queue.specs.Ends.{Owes}
 use Rattle.outbox_queue.specs.Tied.{Kept}
 use Rattle.realm.specs.Grants.{Grants, pairs_of}
 use Rattle.realm.specs.History.{History}
 use Rattle.realm.specs.Yield.{owed}
-use Rattle.realm_inbox.specs.EndViews.{inbox_of, inbox_of_poster, poster_conn}
+use Rattle.realm_inbox.specs.EndViews.{inbox_of, inbox_of_poster}
 use Rattle.realm_inbox.specs.declared.ends.Poster.{Poster}
 use Rattle.threaded_server.specs.Acts.{Acts}
-use Rattle.threaded_server.specs.Posters.{mark_of}
-use Rattle.threaded_server.specs.Realms.{Shown, mark_in}
+use Rattle.threaded_server.specs.Realms.{Shown, inbox_in}
 use Rattle.threaded_server.specs.Writes.{owed_kept}
 use Rattle.threaded_server.specs.declared.course.Course.{Course}
 use Rattle.threaded_server.specs.declared.course.Course.TheVariants as course
@@ -25,49 +24,49 @@ IsKeptIn all None = ⊤
 IsKeptIn all (Some kept) = Contains all kept
 
 module _ {O S : Type 0} where
-  -- a session was served by the poster of its realm's inbox, and its realm keeps what its writer saw last, which owes its connection what was taken
-  pub record IsKept (realms : List (Shown S)) (posters : List (Option (Poster S))) (written : Written O) : Type 0 where
+  -- a connection's session was served by the poster of its realm's inbox, and its realm keeps what its writer saw last, which owes the connection what was taken
+  pub record IsKept (realms : List (Shown S)) (conn : ℕ) (posters : List (Option (Poster S))) (written : Written O) : Type 0 where
     pub realm : Shown S
     pub at : slice_get realms written.realm ≡ Some realm
     pub poster : Poster S
     pub posts : slice_get posters written.realm ≡ Some (Some poster)
-    pub inbox : mark_of (inbox_of_poster poster) ≡ mark_in realm
-    pub conn : written.drain.value.conn ≡ poster_conn poster
+    pub inbox : inbox_of_poster poster ≡ inbox_in realm
+    pub own : written.drain.value.conn ≡ conn
     pub owes : Owes owed_kept written.seen written.drain.value.conn written.drain.value.taken
     pub kept : IsKeptIn realm.seen written.seen
 
-  -- a session was served by the poster of its realm's inbox, on which its realm's actor ran; and what its writer took begins what the history that this actor made owes
-  -- its connection
-  pub record IsTied (runs : List (RealmRun S)) (posters : List (Option (Poster S))) (written : Written O) : Type 0 where
+  -- a connection's session was served by the poster of its realm's inbox, on which its realm's actor ran; and what its writer took begins what the history that this actor
+  -- made owes the connection
+  pub record IsTied (runs : List (RealmRun S)) (conn : ℕ) (posters : List (Option (Poster S))) (written : Written O) : Type 0 where
     pub run : RealmRun S
     pub at : slice_get runs written.realm ≡ Some run
     pub poster : Poster S
     pub posts : slice_get posters written.realm ≡ Some (Some poster)
-    pub inbox : mark_of (inbox_of_poster poster) ≡ mark_of (inbox_of run.began.value.inbox)
-    pub conn : written.drain.value.conn ≡ poster_conn poster
+    pub inbox : inbox_of_poster poster ≡ inbox_of run.began.value.inbox
+    pub own : written.drain.value.conn ≡ conn
     pub owes : Owes owed run.ended.value.chronicle.history written.drain.value.conn written.drain.value.taken
 
   -- of what became of a stream that had a seat, where a session was served
-  abbrev pub CourseKept : List (Shown S) → List (Option (Poster S)) → Course O → Type 0
-  CourseKept realms posters (course.Untouched sink) = ⊤
-  CourseKept realms posters (course.NotOpened sink fault) = ⊤
-  CourseKept realms posters (course.OpenedAlone sink) = ⊤
-  CourseKept realms posters (course.Served end written) = IsKept realms posters written
+  abbrev pub CourseKept : List (Shown S) → ℕ → List (Option (Poster S)) → Course O → Type 0
+  CourseKept realms conn posters (course.Untouched sink) = ⊤
+  CourseKept realms conn posters (course.NotOpened sink fault) = ⊤
+  CourseKept realms conn posters (course.OpenedAlone sink) = ⊤
+  CourseKept realms conn posters (course.Served end written) = IsKept realms conn posters written
 
-  abbrev pub CourseTied : List (RealmRun S) → List (Option (Poster S)) → Course O → Type 0
-  CourseTied runs posters (course.Untouched sink) = ⊤
-  CourseTied runs posters (course.NotOpened sink fault) = ⊤
-  CourseTied runs posters (course.OpenedAlone sink) = ⊤
-  CourseTied runs posters (course.Served end written) = IsTied runs posters written
+  abbrev pub CourseTied : List (RealmRun S) → ℕ → List (Option (Poster S)) → Course O → Type 0
+  CourseTied runs conn posters (course.Untouched sink) = ⊤
+  CourseTied runs conn posters (course.NotOpened sink fault) = ⊤
+  CourseTied runs conn posters (course.OpenedAlone sink) = ⊤
+  CourseTied runs conn posters (course.Served end written) = IsTied runs conn posters written
 
 module _ {I O S : Type 0} where
   abbrev pub OverKept : List (Shown S) → Over I O S → Type 0
-  OverKept realms (Seated reader ended) = CourseKept realms reader.value.posters.items ended.value.course
+  OverKept realms (Seated reader ended) = CourseKept realms reader.value.conn reader.value.posters.items ended.value.course
   OverKept realms (TurnedAway halves source sink) = ⊤
   OverKept realms (Untouched halves) = ⊤
 
   abbrev pub OverTied : List (RealmRun S) → Over I O S → Type 0
-  OverTied runs (Seated reader ended) = CourseTied runs reader.value.posters.items ended.value.course
+  OverTied runs (Seated reader ended) = CourseTied runs reader.value.conn reader.value.posters.items ended.value.course
   OverTied runs (TurnedAway halves source sink) = ⊤
   OverTied runs (Untouched halves) = ⊤
 

@@ -1,6 +1,7 @@
 //! The thread of a realm's actor.
 ghost use Rattle.std.specs.Prelude.{◌≡◌, Some, None, length};
-ghost use Rattle.realm_inbox.specs.EndViews.{home_of, received};
+ghost use mathlib.Core.List.{IsPrefix};
+ghost use Rattle.realm_inbox.specs.EndViews.{home_of, inbox_of, received};
 
 use crate::id_words::IdWords;
 use crate::plan::Plan;
@@ -10,7 +11,7 @@ use crate::work::{Task, Work};
 use crossbeam_channel::Sender;
 use realm::{Realm, RealmConfig};
 use realm_actor::{Actor, Onlooker};
-use realm_inbox::{Act, Inbox, Post, RealmChronicle, Shut};
+use realm_inbox::{Act, Inbox, Letter, Post, RealmChronicle, Shut};
 use std::alloc::Global;
 use std::snapshot::Snapshot;
 use std::sync::{Arc, Wait};
@@ -43,11 +44,11 @@ pub struct Acted<S: Shut> {
     pub chronicle: RealmChronicle,
     /// The actor, as it ended; none where there was no memory for the realm.
     pub actor: Option<Snapshot<Actor<S, IdWords>>>,
-    /// The inbox, as the actor left it. It takes no bytes.
-    pub inbox: Snapshot<Inbox<S>>,
+    /// The inbox, from which nothing is received any more.
+    pub inbox: Inbox<S>,
 }
 
-impl<S: Shut + 'static> Task for ActorThread<S> {
+impl<S: Shut + Send + 'static> Task for ActorThread<S> {
     ghost use Rattle.threaded_server.specs.Acts.{Acts};
 
     type Done = Acted<S>;
@@ -55,11 +56,11 @@ impl<S: Shut + 'static> Task for ActorThread<S> {
     ghost does = { λ w acted. Acts w acted };
 }
 
-impl<R: Wait + Copy, S: Shut + 'static> Work<R> for ActorThread<S> {
+impl<R: Wait + Copy, S: Shut + Send + 'static> Work<R> for ActorThread<S> {
     ghost use Rattle.threaded_server.specs.Acts.{Acts};
 
     /// Makes the actor, which runs until it is stopped, marks whose sessions it holds then, and tells that they are marked. What is
-    /// posted behind the stop is turned away until each sender is gone. Where there was no memory for the realm nothing is received.
+    /// posted behind the stop is turned away until the next stop. Where there was no memory for the realm nothing is received.
     fn run(self, rt: R) -> Acted<S>
         ensures { Acts self result }
     {
@@ -79,7 +80,7 @@ impl<R: Wait + Copy, S: Shut + 'static> Work<R> for ActorThread<S> {
             return Acted {
                 chronicle,
                 actor: None,
-                inbox: Snapshot::of(&inbox),
+                inbox,
             };
         };
         let _ = teller.send(&rt, true);
@@ -92,14 +93,15 @@ impl<R: Wait + Copy, S: Shut + 'static> Work<R> for ActorThread<S> {
         };
         let actor = actor.run_before(&rt, alloc, &mut inbox, &mut onlooker);
         mark_held(&actor, &marks);
-        let acted = Acted {
-            actor: Some(Snapshot::of(&actor)),
-            inbox: Snapshot::of(&inbox),
-            chronicle: actor.into_chronicle(),
-        };
+        let ended = Snapshot::of(&actor);
+        let chronicle = actor.into_chronicle();
         let _ = teller.send(&rt, true);
-        turn_away_rest(&rt, inbox);
-        acted
+        turn_away_rest(&rt, &mut inbox);
+        Acted {
+            chronicle,
+            actor: Some(ended),
+            inbox,
+        }
     }
 }
 
@@ -124,24 +126,26 @@ impl<R: Wait> Onlooker for StoreNotice<'_, R> {
     }
 }
 
-// Receives until each sender is gone, and turns away what comes. It can't be left in the inbox, whose posts last as long as a sender does:
-// the writer of a session that asked to join would wait for its outbox, its reader for the writer, and the sender is the reader's.
-fn turn_away_rest<R: Wait, S: Shut>(rt: &R, mut inbox: Inbox<S>) {
+// Receives until the next stop, which is posted once no reader is left that posts, and turns away what comes. It can't be left in the
+// inbox, whose posts last as long as a sender does: the writer of a session that asked to join would wait for its outbox, its reader for
+// the writer, and the sender is the reader's.
+fn turn_away_rest<R: Wait, S: Shut>(rt: &R, inbox: &mut Inbox<S>)
+    ensures more { IsPrefix (received inbox.old) (received inbox.new) }
+    ensures same { inbox_of inbox.new ≡ inbox_of inbox.old }
+{
     for _ in rt.forever() {
         match inbox.receive(rt) {
-            Some(post) => turn_away(&post),
-            None => return,
+            Some(Post::Act(letter)) => turn_away(&letter),
+            Some(Post::Stop(_)) | None => return,
         }
     }
     unreachable!()
 }
 
-// Nobody joins any more: the outbox is closed, so that its writer ends, and the transport is shut. Another post says nothing to anybody.
-fn turn_away<S: Shut>(post: &Post<S>) {
-    if let Post::Act(letter) = post {
-        if let Act::Join(joining) = letter.act() {
-            joining.transport.shut();
-        }
+// Nobody joins any more: the outbox is closed, so that its writer ends, and the transport is shut. Another act says nothing to anybody.
+fn turn_away<S: Shut>(letter: &Letter<S>) {
+    if let Act::Join(joining) = letter.act() {
+        joining.transport.shut();
     }
 }
 

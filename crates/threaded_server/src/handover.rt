@@ -1,5 +1,6 @@
 //! What a connection's reader and the accepting thread share.
 ghost use Rattle.std.specs.Prelude.{◌≡◌, None, Some, MatchOption, set, slice_get};
+ghost use Rattle.std.specs.Option.{option_flatten};
 
 use realm_inbox::{Poster, Shut};
 use std::alloc::{AllocError, Global};
@@ -58,7 +59,8 @@ impl<S: Shut> Shared<S> {
 
 /// Takes the poster of the realm at this place, if it is here.
 pub fn take_poster<S: Shut>(posters: &mut Posters<S>, realm: usize) -> Option<Poster<S>>
-    ensures { MatchOption result (posters.new.items ≡ posters.old.items)
+    ensures there { option_flatten (slice_get posters.old.items realm) ≡ result }
+    ensures taken { MatchOption result (posters.new.items ≡ posters.old.items)
         (λ p. (slice_get posters.old.items realm ≡ Some (Some p))
         × (posters.new.items ≡ set posters.old.items realm None)) }
 {

@@ -43,6 +43,7 @@ mod realms;
 mod roster;
 mod seat_table;
 mod serve;
+mod starting;
 mod talk;
 mod tcp;
 mod told;

@@ -1,14 +1,15 @@
 //! What posts at each seat, while no connection is there.
-ghost use Rattle.std.specs.Prelude.{◌≡◌, ◌<◌, ◌-◌, None, Some, List, All, IfOk, MatchOption, length, set, slice_get};
-ghost use Rattle.std.specs.Option.{ForSome};
-ghost use Rattle.realm_inbox.specs.EndViews.{inbox_of_poster, inbox_of_seat, poster_conn};
-ghost use Rattle.threaded_server.specs.Posters.{AreAt, AreOfSeat, IsTaken, Mark, Relabels, RelabelsAt, Stand, lists_of, mark_of, seen_at};
-ghost use Rattle.threaded_server.specs.Realms.{places_of, realms_of};
+ghost use Rattle.std.specs.Prelude.{◌≡◌, ◌≢◌, ◌⊎◌, ◌≤◌, ◌<◌, ◌+◌, ◌-◌, ℕ, None, Some, IfOk, MatchOption, length, option_map, replicate, set, slice_get};
+ghost use Rattle.std.specs.Option.{ForSome, option_flatten};
+ghost use mathlib.Core.List.{IsPrefix};
+ghost use Rattle.realm_inbox.specs.EndViews.{AreNewSeats, inbox_of, inbox_of_poster, inbox_of_seat, posted, posted_at, poster_conn, received, seat_number};
+ghost use Rattle.realm_inbox.specs.Ends.{Place};
+ghost use Rattle.realm_inbox.specs.Seats.{at_seat};
+ghost use Rattle.threaded_server.specs.Posters.{AllGain, AreOfSeat, GivesUp, IsOfInbox, IsTaken, Puts, Relabels, RelabelsAt, lists_of, poster_at, seen_at};
 ghost use Rattle.wamp_ids.specs.Numbers.{seat_of};
 
-use crate::handover::Posters;
-use crate::realms::Realms;
-use realm_inbox::{Poster, Seat, Shut};
+use crate::handover::{Posters, put_poster, take_poster};
+use realm_inbox::{Inbox, Poster, Seat, Shut};
 use std::alloc::{AllocError, Global};
 use wamp_ids::{Conn, SEATS, seat};
 
@@ -20,63 +21,48 @@ pub struct PosterTable<S: Shut + 'static> {
 }
 
 impl<S: Shut + 'static> PosterTable<S> {
-    /// Of no realm yet.
+    /// Of so many realms, none of which is there yet.
     ///
     /// # Errors
     /// Where memory was refused.
-    pub fn new(alloc: Global) -> Result<PosterTable<S>, AllocError>
-        ensures { IfOk result (λ table. (places : List Mark) → Stand places (lists_of table)) }
+    pub fn new(alloc: Global, realms: usize) -> Result<PosterTable<S>, AllocError>
+        ensures { IfOk result (λ table. lists_of table
+            ≡ replicate 256 (Some (replicate realms None))) }
     {
         let mut slots = Vec::with_capacity(alloc, SEATS as usize)?;
-        for _ in 0..SEATS {
-            slots.push(Some(Vec::new(alloc)))?;
+        for _place in 0..SEATS {
+            slots.push(Some(no_posters(alloc, realms)?))?;
         }
         Ok(PosterTable { slots })
     }
 
     /// The seats of one realm more, which is at this place.
-    ///
-    /// # Errors
-    /// Where memory was refused.
-    pub fn add_realm(
-        &mut self,
-        realms: &Realms<S>,
-        realm: usize,
-        mut seats: Vec<Seat<S>>,
-    ) -> Result<(), AllocError>
-        requires stand { Stand (places_of (realms_of realms.now)) (lists_of self.old) }
-        requires seats { All (λ at. slice_get (places_of (realms_of realms.now)) realm
-            ≡ Some (mark_of (inbox_of_seat at))) seats.items }
-        ensures { Stand (places_of (realms_of realms.now)) (lists_of self.new) }
+    pub fn add_realm(&mut self, realm: usize, mut seats: Vec<Seat<S>>)
+        requires { length seats.items ≡ 256 }
+        ensures { (inbox : Place S) → AreNewSeats inbox seats.items
+            → AllGain inbox realm (lists_of self.old) (lists_of self.new) }
     {
-        for _ in 0..seats.len() {
+        for _done in 0..SEATS {
             if let Some(at) = seats.pop() {
-                self.add_seat(realms, realm, at)?;
+                self.add_seat(realm, at);
             }
         }
-        Ok(())
     }
 
-    fn add_seat(&mut self, realms: &Realms<S>, realm: usize, at: Seat<S>) -> Result<(), AllocError>
-        requires stand { Stand (places_of (realms_of realms.now)) (lists_of self.old) }
-        requires seat { slice_get (places_of (realms_of realms.now)) realm
-            ≡ Some (mark_of (inbox_of_seat at)) }
-        ensures { Stand (places_of (realms_of realms.now)) (lists_of self.new) }
+    fn add_seat(&mut self, realm: usize, at: Seat<S>)
+        ensures { Puts realm at (lists_of self.old) (lists_of self.new) }
     {
-        let Some(conn) = Conn::new(at.number()) else {
-            return Err(AllocError);
-        };
-        let Ok(poster) = at.into_poster(conn) else {
-            return Err(AllocError);
-        };
-        let place = place_of(conn);
-        match self.take_at(place) {
-            Some(mut posters) => {
-                let added = add_poster(&mut posters, realms, realm, poster);
-                self.put(place, posters);
-                added
-            }
-            None => Err(AllocError),
+        let poster = poster_of(at);
+        self.put_at(place_of(poster.conn()), realm, poster);
+    }
+
+    fn put_at(&mut self, place: usize, realm: usize, poster: Poster<S>)
+        ensures { lists_of self.new ≡ set (lists_of self.old) place
+            (option_map (λ posters. set posters realm (Some poster))
+            (option_flatten (slice_get (lists_of self.old) place))) }
+    {
+        if let Some(slot) = self.slots.get_mut(place) {
+            put_in(slot, realm, poster);
         }
     }
 
@@ -109,28 +95,85 @@ impl<S: Shut + 'static> PosterTable<S> {
             *slot = Some(posters);
         }
     }
+
+    /// Compares the inbox of the realm at this place with the realm's poster of each seat, and gives these up: what was received of a
+    /// seat begins what was posted there.
+    pub fn compare(&mut self, realm: usize, inbox: &mut Inbox<S>)
+        requires here { (k : ℕ) (p : Poster S) → poster_at (lists_of self.old) k realm ≡ Some p
+            → IsOfInbox (inbox_of inbox.old) (k + 1) p }
+        ensures others { (k i : ℕ) → i ≢ realm
+            → poster_at (lists_of self.new) k i ≡ poster_at (lists_of self.old) k i }
+        ensures received { (k : ℕ) (p : Poster S) → k < 256
+            → poster_at (lists_of self.old) k realm ≡ Some p
+            → IsPrefix (at_seat (k + 1) (received inbox.old)) (posted p) }
+    {
+        for place in 0..SEATS as usize {
+            self.compare_at(place, realm, inbox);
+        }
+    }
+
+    fn compare_at(&mut self, place: usize, realm: usize, inbox: &mut Inbox<S>)
+        requires here { (p : Poster S) → poster_at (lists_of self.old) place realm ≡ Some p
+            → IsOfInbox (inbox_of inbox.old) (place + 1) p }
+        ensures others { (k i : ℕ) → (k ≢ place) ⊎ (i ≢ realm)
+            → poster_at (lists_of self.new) k i ≡ poster_at (lists_of self.old) k i }
+        ensures received { (p : Poster S) → poster_at (lists_of self.old) place realm ≡ Some p
+            → IsPrefix (at_seat (place + 1) (received inbox.old)) (posted p) }
+        ensures same { (received inbox.new ≡ received inbox.old)
+            × (inbox_of inbox.new ≡ inbox_of inbox.old) }
+    {
+        if let Some(mut poster) = self.give_up(place, realm) {
+            inbox.compare(&mut poster);
+        }
+    }
+
+    // The poster of a realm at a seat, which is here no longer.
+    fn give_up(&mut self, place: usize, realm: usize) -> Option<Poster<S>>
+        ensures { GivesUp (lists_of self.old) place realm result (lists_of self.new) }
+    {
+        let slot = self.slots.get_mut(place)?;
+        match slot {
+            Some(posters) => take_poster(posters, realm),
+            None => None,
+        }
+    }
 }
 
-// One poster more, of the realm at this place. Contracts alone ask which realms there are.
-fn add_poster<S: Shut + 'static>(
-    posters: &mut Posters<S>,
-    realms: &Realms<S>,
-    realm: usize,
-    poster: Poster<S>,
-) -> Result<(), AllocError>
-    requires at { AreAt (places_of (realms_of realms.now)) posters.old.items }
-    requires seat { AreOfSeat (seat_of (poster_conn poster)) posters.old.items }
-    requires here { slice_get (places_of (realms_of realms.now)) realm
-        ≡ Some (mark_of (inbox_of_poster poster)) }
-    ensures at { AreAt (places_of (realms_of realms.now)) posters.new.items }
-    ensures seat { AreOfSeat (seat_of (poster_conn poster)) posters.new.items }
+// Of no realm.
+fn no_posters<S: Shut>(alloc: Global, realms: usize) -> Result<Posters<S>, AllocError>
+    ensures { IfOk result (λ posters. posters.items ≡ replicate realms None) }
 {
-    let _ = realms;
-    if posters.len() != realm {
-        return Err(AllocError);
+    let mut posters = Vec::with_capacity(alloc, realms)?;
+    for _realm in 0..realms {
+        posters.push(None)?;
     }
-    posters.push(Some(poster))?;
-    Ok(())
+    Ok(posters)
+}
+
+// The poster of a realm at a seat is put in its place, if the others are there.
+fn put_in<S: Shut>(slot: &mut Option<Posters<S>>, realm: usize, poster: Poster<S>)
+    ensures { option_map (λ posters. posters.items) slot.new
+        ≡ option_map (λ posters. set posters realm (Some poster))
+        (option_map (λ posters. posters.items) slot.old) }
+{
+    if let Some(posters) = slot {
+        put_poster(posters, realm, poster);
+    }
+}
+
+// A seat's poster, of its first connection.
+fn poster_of<S: Shut>(at: Seat<S>) -> Poster<S>
+    ensures inbox { inbox_of_poster result ≡ inbox_of_seat at }
+    ensures number { seat_of (poster_conn result) ≡ seat_number at }
+    ensures posted { posted result ≡ posted_at at }
+{
+    let Some(conn) = Conn::new(at.number()) else {
+        unreachable!()
+    };
+    match at.into_poster(conn) {
+        Ok(poster) => poster,
+        Err(_) => unreachable!(),
+    }
 }
 
 /// The place of a connection, from 0.

@@ -8,7 +8,7 @@ use crate::realm_run::RealmRun;
 use crate::work::{Doing, start};
 use crossbeam_channel::Receiver;
 use outbox_queue::check_seen;
-use realm_inbox::{Door, RealmChronicle, RealmHistory, Shut};
+use realm_inbox::{Door, Inbox, RealmChronicle, RealmHistory, Shut};
 use std::alloc::{AllocError, Global};
 use std::snapshot::Snapshot;
 use std::sync::Wait;
@@ -16,7 +16,7 @@ use std::thread::{PromisedHandle, Threads};
 
 /// What the accepting thread has of a realm: the door of its inbox, its actor's thread, and what that tells.
 #[derive(Drop)]
-pub struct RealmHandle<S: Shut + 'static> {
+pub struct RealmHandle<S: Shut + Send + 'static> {
     door: Door<S>,
     // What the actor's thread was given. It takes no bytes.
     began: Snapshot<ActorThread<S>>,
@@ -29,7 +29,7 @@ pub struct RealmHandle<S: Shut + 'static> {
 }
 
 impl<S: Shut + Send + 'static> RealmHandle<S> {
-    ghost use Rattle.threaded_server.specs.Realms.{shown};
+    ghost use Rattle.threaded_server.specs.Realms.{RunsTo, shown};
 
     /// Starts a realm's actor, which receives what is posted at this door and at the seats of its inbox, and tells what it tells to the
     /// other end of `told`.
@@ -58,10 +58,6 @@ impl<S: Shut + Send + 'static> RealmHandle<S> {
             seen: Vec::new(alloc),
         })
     }
-}
-
-impl<S: Shut + 'static> RealmHandle<S> {
-    ghost use Rattle.threaded_server.specs.Realms.{RunsTo, shown};
 
     /// Waits until the actor has begun. False where there was no memory for its realm.
     pub fn has_begun<R: Wait>(&self, rt: &R) -> bool {
@@ -92,25 +88,29 @@ impl<S: Shut + 'static> RealmHandle<S> {
         let _ = self.told.recv(rt);
     }
 
-    /// Gives up the door, and waits for the actor's thread, which ends once no sender is left: so not before each seat was given up.
-    /// What the writers saw begins the history that it gives back.
-    pub fn join<R: Threads + Wait>(self, rt: &R) -> RealmRun<S>
-        ensures { RunsTo (shown self) result }
+    /// Waits for the actor's thread, once no reader is left that posts. It ends at the second stop: the first ends its actor, unless that
+    /// was told to stop before, so two are posted. What the writers saw begins the history that it gives back. Beside how the realm
+    /// ran, its inbox.
+    pub fn join<R: Threads + Wait>(self, rt: &R) -> (RealmRun<S>, Inbox<S>)
+        ensures run { RunsTo (shown self) result.0 }
+        ensures inbox { result.1 ≡ result.0.ended.value.inbox }
     {
         let RealmHandle {
-            door,
+            mut door,
             began,
             actor,
             told: _,
             seen,
         } = self;
-        drop(door);
+        let _ = door.stop(rt);
+        let _ = door.stop(rt);
         let mut acted = actor.join(rt);
         check_all(rt, &mut acted.chronicle, seen);
-        RealmRun {
+        let run = RealmRun {
             began,
             ended: Snapshot::of(&acted),
-        }
+        };
+        (run, acted.inbox)
     }
 }
 

@@ -1,8 +1,10 @@
 //! The realms of a broker, as the accepting thread has them.
 ghost use Rattle.std.specs.Prelude.{◌≡◌, ◌++◌, ◌∷◌, [], length, IfOk, IfSome, MatchResult};
 ghost use Rattle.ghost_state.specs.GhostList.{items_of};
-ghost use Rattle.threaded_server.specs.Realms.{EachRuns, IsAtHome, Keeps, TakesIn, realms_of, shown};
+ghost use Rattle.threaded_server.specs.Posters.{Stand, lists_of};
+ghost use Rattle.threaded_server.specs.Realms.{AllWerePosted, EachRuns, IsAtHome, Keeps, TakesIn, places_of, realms_of, shown};
 
+use crate::poster_table::PosterTable;
 use crate::realm_handle::RealmHandle;
 use crate::realm_run::RealmRun;
 use crate::writer_thread::Seen;
@@ -15,11 +17,11 @@ use std::thread::Threads;
 
 /// The realms of a broker, in order.
 #[derive(Drop)]
-pub struct Realms<S: Shut + 'static> {
+pub struct Realms<S: Shut + Send + 'static> {
     handles: Vec<RealmHandle<S>>,
 }
 
-impl<S: Shut + 'static> Realms<S> {
+impl<S: Shut + Send + 'static> Realms<S> {
     /// None yet, with room for so many.
     ///
     /// # Errors
@@ -97,19 +99,24 @@ impl<S: Shut + 'static> Realms<S> {
         }
     }
 
-    /// Gives up the doors and the seats, and waits for the actors' threads.
-    pub fn join<R: Threads + Wait>(self, rt: &R) -> GhostList<RealmRun<S>>
-        ensures { EachRuns (realms_of self) (items_of result) }
+    /// Waits for the actors' threads, once no reader is left that posts. What each received of a seat begins what was posted there: its
+    /// inbox is compared with the realm's poster of each seat.
+    pub fn join<R: Threads + Wait>(
+        self,
+        rt: &R,
+        mut posters: PosterTable<S>,
+    ) -> GhostList<RealmRun<S>>
+        requires { Stand (places_of (realms_of self)) (lists_of posters) }
+        ensures runs { EachRuns (realms_of self) (items_of result) }
+        ensures received { AllWerePosted (items_of result) (lists_of posters) }
     {
         let mut handles = self.handles;
         let mut runs = GhostList::new();
-        for _ in rt.forever() {
-            if handles.is_empty() {
-                return runs;
-            }
-            let run = handles.remove(0).join(rt);
+        for realm in 0..handles.len() {
+            let (run, mut inbox) = handles.remove(0).join(rt);
+            posters.compare(realm, &mut inbox);
             runs.add(Snapshot::of(&run));
         }
-        unreachable!()
+        runs
     }
 }

@@ -47,6 +47,7 @@ impl<
         ensures lent { IfOk result (λ r. items_of r.lent ≡ []) }
         ensures over { IfOk result (λ r. items_of r.over.streams ≡ []) }
         ensures none { IfOk result (λ r. All (λ slot. slot ≡ None) r.entries.items) }
+        ensures long { IfOk result (λ r. length r.entries.items ≡ 256) }
     {
         Ok(Roster {
             entries: no_entries(alloc)?,
@@ -124,8 +125,9 @@ impl<
     ) -> Option<(Conn, Ended<I, O, S>)>
         ensures plan { self.new.over.plan ≡ self.old.over.plan }
         ensures lent { items_of self.new.lent ≡ items_of self.old.lent }
-        ensures over { MatchOption result (items_of self.new.over.streams
+        ensures over { MatchOption result ((items_of self.new.over.streams
             ≡ items_of self.old.over.streams)
+            × (self.new.entries.items ≡ self.old.entries.items))
             (λ r. Leaves (sight I.given I.is_ended I.calls I.failures O.taken O.calls O.failures)
             (slice_get self.old.entries.items place) r.1 (items_of self.old.over.streams)
             (items_of self.new.over.streams)) }
@@ -166,10 +168,11 @@ fn no_entries<
     O: Sink + Drop + Send + 'static,
     S: Shut + Send + 'static,
 >(alloc: Global) -> Result<Vec<Option<Connection<I, O, S>>>, AllocError>
-    ensures { IfOk result (λ v. All (λ slot. slot ≡ None) v.items) }
+    ensures none { IfOk result (λ v. All (λ slot. slot ≡ None) v.items) }
+    ensures long { IfOk result (λ v. length v.items ≡ 256) }
 {
     let mut entries = Vec::with_capacity(alloc, SEATS as usize)?;
-    for _ in 0..SEATS {
+    for _place in 0..SEATS {
         entries.push(None)?;
     }
     Ok(entries)

@@ -1,13 +1,14 @@
 //! The accepting thread.
-ghost use Rattle.std.specs.Prelude.{◌≡◌, ◌≤◌, ◌<◌, [], ◌∷◌, ◌++◌, length, All, IfOk, MatchOption, None};
+ghost use Rattle.std.specs.Prelude.{◌≡◌, ◌≤◌, ◌<◌, ◌+◌, [], ◌∷◌, ◌++◌, length, All, IfOk, MatchOption, None, OnOk};
 ghost use Rattle.ghost_state.specs.GhostList.{items_of};
 ghost use Rattle.realm.specs.Grants.{pairs_of};
 ghost use Rattle.threaded_server.specs.Answers.{Serves};
 ghost use Rattle.threaded_server.specs.Lending.{with_returned};
 ghost use Rattle.threaded_server.specs.Overs.{GoesOver, Moves};
+ghost use Rattle.threaded_server.specs.Realms.{realms_of};
 ghost use Rattle.threaded_server.specs.Served.{LentUntil, Served};
 ghost use Rattle.threaded_server.specs.Streams.{sight};
-ghost use Rattle.threaded_server.specs.Table.{books};
+ghost use Rattle.threaded_server.specs.Table.{IsUnused, books};
 ghost use Rattle.threaded_server.specs.declared.fate.Marked.{Marked};
 
 use crate::acceptor::{Accepted, Acceptor, Parts};
@@ -112,7 +113,12 @@ fn open_and_accept<R: Threads + Wait + RandomSource + Copy + Send + 'static, A: 
     connection_table: &mut ConnectionTable<A::Source, A::Sink, Marked<A::Shut>>,
     config: &Config,
 ) -> Result<(), Fault>
-    requires { connection_table.old.roster.over.plan.value.config.value ≡ config.now }
+    requires config { connection_table.old.roster.over.plan.value.config.value ≡ config.now }
+    requires realms { connection_table.old.roster.over.plan.value.realms.items
+        ≡ config.now.realms.items }
+    requires none { realms_of connection_table.old.realms ≡ [] }
+    requires unused { IsUnused connection_table.old.roster.entries.items
+        (items_of connection_table.old.roster.over.streams) }
     ensures lent { LentUntil (A.answers acceptor.old) (A.answers acceptor.new)
         (A.lending acceptor.old) (A.lending acceptor.new)
         (books connection_table.old.roster.lent connection_table.old.roster.over.streams)
@@ -180,7 +186,12 @@ fn open<
     O: Sink + Drop + Send + 'static,
     S: Shut + Send + 'static,
 >(rt: R, connection_table: &mut ConnectionTable<I, O, S>, config: &Config) -> Result<(), AllocError>
-    requires { connection_table.old.roster.over.plan.value.config.value ≡ config.now }
+    requires config { connection_table.old.roster.over.plan.value.config.value ≡ config.now }
+    requires realms { connection_table.old.roster.over.plan.value.realms.items
+        ≡ config.now.realms.items }
+    requires none { realms_of connection_table.old.realms ≡ [] }
+    requires unused { IsUnused connection_table.old.roster.entries.items
+        (items_of connection_table.old.roster.over.streams) }
     ensures { connection_table.new.roster ≡ connection_table.old.roster }
 {
     for name in &config.realms {
@@ -200,8 +211,14 @@ fn open_realm<
     config: &Config,
     name: &Topic,
 ) -> Result<(), AllocError>
-    requires { connection_table.old.roster.over.plan.value.config.value ≡ config.now }
-    ensures { connection_table.new.roster ≡ connection_table.old.roster }
+    requires config { connection_table.old.roster.over.plan.value.config.value ≡ config.now }
+    requires within { length (realms_of connection_table.old.realms)
+        < length connection_table.old.roster.over.plan.value.realms.items }
+    requires unused { IsUnused connection_table.old.roster.entries.items
+        (items_of connection_table.old.roster.over.streams) }
+    ensures roster { connection_table.new.roster ≡ connection_table.old.roster }
+    ensures one { OnOk result (length (realms_of connection_table.new.realms)
+        ≡ length (realms_of connection_table.old.realms) + 1) }
 {
     let alloc = connection_table.alloc;
     let chronicle = RealmChronicle::new(alloc)?;
@@ -377,7 +394,7 @@ fn admit<
 }
 
 // Stops the actors, ends the streams that no session's writer will end, and waits for all threads of connections. Each actor turns away what
-// is posted behind its stop until the realm's door and seats are given up, which is last of all: so no thread waits for what nobody would do.
+// is posted behind its stop until it is told once more to stop, which is last of all: so no thread waits for what nobody would do.
 fn close<R: Threads + Wait, A: Acceptor>(
     rt: &R,
     acceptor: &mut A,

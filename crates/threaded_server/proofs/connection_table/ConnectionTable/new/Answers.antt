@@ -1,13 +1,18 @@
-use Rattle.std.proofs.Common.{rules}
+use Rattle.std.proofs.Common.{rules, ◌≡◌, ℕ, None, Some, length, replicate, ap, ◌∙◌}
+use Rattle.std.proofs.lemmas.List.{length-replicate}
 use Rattle.ghost_state.specs.GhostList.{items_of}
+use Rattle.threaded_server.proofs.Numbering.{none_numbered}
 use Rattle.threaded_server.proofs.TableStanding.{none_yet}
 use Rattle.threaded_server.specs.Posters.{lists_of}
-use Rattle.threaded_server.specs.Realms.{places_of, realms_of}
+use Rattle.threaded_server.specs.Realms.{realms_of}
 use Rattle.threaded_server.proofs.connection_table.ConnectionTable.new.Goals as goal
 
 pub invariant_of-result : goal.invariant_of-result
 invariant_of-result g c =
     let roster = c.in_ok-roster.roster in
-    let realms = realms_of c.in_ok-realms.realms in
-    let s = none_yet roster.over.plan.value realms (lists_of c.in_ok-posters.posters) roster.entries.items (items_of roster.over.streams) c.in_ok-realms.ensures (c.in_ok-posters.ensures (places_of realms)) c.in_ok-roster.ensures.none c.in_ok-roster.ensures.over in
-    record { same = search rules; free = s.free; served = s.served; kept = s.kept; grants = s.grants }
+    let long : c.len-2.result ≡ length c.in_ok-roster.roster.over.plan.value.realms.items = search rules in
+    let plain = c.in_ok-posters.ensures ∙ ap (λ n. replicate 256 (Some (replicate n None))) long in
+    let zero : ℕ = 0 in
+    let given : length c.new-6.result.given ≡ 256 = ap (λ t. length t.given) c.new-6.ensures ∙ length-replicate 256 zero in
+    let s = none_yet roster.over.plan.value (realms_of c.in_ok-realms.realms) (lists_of c.in_ok-posters.posters) roster.entries.items (items_of roster.over.streams) c.in_ok-realms.ensures plain c.in_ok-roster.ensures.long c.in_ok-roster.ensures.none c.in_ok-roster.ensures.over in
+    record { same = search rules; free = s.free; served = s.served; say = s.say; numbered = none_numbered c.new-6.result roster.entries.items (items_of roster.over.streams) given c.in_ok-roster.ensures.none c.in_ok-roster.ensures.over; kept = s.kept; grants = s.grants }

@@ -1,8 +1,11 @@
 use Rattle.std.proofs.Common.{sym, ap, ◌∙◌, subst}
 use Rattle.ghost_state.specs.GhostList.{items_of}
+use Rattle.threaded_server.proofs.Numbering.{over_numbered}
 use Rattle.threaded_server.proofs.TableStanding.{over_standing}
 use Rattle.threaded_server.proofs.TableSteps.{turned_adds}
+use Rattle.threaded_server.specs.Conns.{conn_of}
 use Rattle.threaded_server.specs.Posters.{lists_of}
+use Rattle.threaded_server.specs.Posts.{posts_of}
 use Rattle.threaded_server.specs.Realms.{realms_of}
 use Rattle.threaded_server.specs.Ties.{OverKept}
 use Rattle.threaded_server.proofs.connection_table.ConnectionTable.turn_away.Goals as goal
@@ -10,11 +13,11 @@ use Rattle.threaded_server.proofs.connection_table.ConnectionTable.turn_away.Goa
 pub returns-clause-over : goal.returns-clause-over
 returns-clause-over g c =
     turned_adds (items_of c.args.self.now.roster.over.streams) (items_of c.pass.new.self.over.streams) c.of-before.result c.of.result c.of-2.result c.of-3.result.value c.args.parts.source c.of-4.result.last.value
-    c.refuse.new.sink c.of-5.result.last.value c.pass.ensures.over c.of-3.ensures c.of.ensures c.of-2.ensures c.of-4.ensures c.of-5.ensures
+    c.tell_no_seat.new.sink c.of-5.result.last.value c.pass.ensures.over c.of-3.ensures c.of.ensures c.of-2.ensures c.of-4.ensures c.of-5.ensures
 
 pub invariant_of-self : goal.invariant_of-self
 invariant_of-self g c =
     let table = c.args.self.now in
     let s = over_standing table.roster.over.plan c.pass.new.self.over.plan (realms_of table.realms) (lists_of table.posters) table.roster.entries.items c.pass.new.self.entries.items (items_of table.roster.over.streams) (items_of c.pass.new.self.over.streams) c.of-3.result.value
-    c.pass.ensures.plan (ap (λ v. v.items) c.pass.ensures.entries) c.pass.ensures.over (subst (λ o. OverKept (realms_of table.realms) o) (sym c.of-3.ensures) tt) (record { free = table.free; served = table.served; kept = table.kept; grants = table.grants }) in
-    record { same = table.same ∙ ap (λ p. p.value) (sym c.pass.ensures.plan); free = s.free; served = s.served; kept = s.kept; grants = s.grants }
+    c.pass.ensures.plan (ap (λ v. v.items) c.pass.ensures.entries) c.pass.ensures.over (subst (λ o. OverKept (realms_of table.realms) o) (sym c.of-3.ensures) tt) (λ realm number. ap (posts_of realm number) c.of-3.ensures) (record { free = table.free; served = table.served; say = table.say; kept = table.kept; grants = table.grants }) in
+    record { same = table.same ∙ ap (λ p. p.value) (sym c.pass.ensures.plan); free = s.free; served = s.served; say = s.say; numbered = over_numbered table.seats table.roster.entries.items c.pass.new.self.entries.items (items_of table.roster.over.streams) (items_of c.pass.new.self.over.streams) c.of-3.result.value (ap (λ v. v.items) c.pass.ensures.entries) c.pass.ensures.over (ap conn_of c.of-3.ensures) table.numbered; kept = s.kept; grants = s.grants }

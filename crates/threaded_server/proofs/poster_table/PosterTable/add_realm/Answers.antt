@@ -1,13 +1,31 @@
-use Rattle.std.proofs.Common.{◌≡◌, Some, slice_get, sym, subst}
-use Rattle.std.proofs.lemmas.List.Elements.{All-pop}
-use Rattle.realm_inbox.specs.EndViews.{inbox_of_seat}
-use Rattle.threaded_server.specs.Posters.{Stand, lists_of, mark_of}
-use Rattle.threaded_server.specs.Realms.{places_of, realms_of}
-use Rattle.threaded_server.proofs.poster_table.PosterTable.add_realm.Goals.{in-Some+in_ok-add_seat, in_default}
+use Rattle.std.proofs.Common.{◌≡◌, ◌+◌, [], ◌∷◌, length, length-append, sym, ap, ◌∙◌, subst, arith}
+use Rattle.threaded_server.proofs.PosterSteps.{Gaining, gaining_all, gaining_none, gaining_on}
+use Rattle.threaded_server.specs.Posters.{lists_of}
+use Rattle.threaded_server.proofs.poster_table.PosterTable.add_realm.Goals.{in-Some, in_default}
 use Rattle.threaded_server.proofs.poster_table.PosterTable.add_realm.Goals as goal
 
-pub loop-preserved : goal.loop-preserved
-loop-preserved g c = (
-  elim c.match-pop.branch [ in-Some+in_ok-add_seat w ↦ subst (λ t. Stand (places_of (realms_of c.args.realms.now)) (lists_of t)) (sym w.self-is) w.add_seat.ensures | in_default w ↦ subst (λ t. Stand (places_of (realms_of c.args.realms.now)) (lists_of t)) (sym w.self-is) c.loop.invariant.0 ],
-  (All-pop (λ at. slice_get (places_of (realms_of c.args.realms.now)) c.args.realm ≡ Some (mark_of (inbox_of_seat at))) c.loop.seats.items c.pop.new.self.items c.pop.result c.pop.ensures.items c.loop.invariant.1).0,
+pub loop-done-init : goal.loop-done-init
+loop-done-init g c = (
+  (let all : length c.args.seats.items + 0 ≡ 256 = omega (arith, c.requires) in all),
+  λ inbox are. gaining_none inbox c.args.realm (lists_of c.args.self.now) c.args.seats.items c.requires are,
 )
+
+pub loop-done-preserved : goal.loop-done-preserved
+loop-done-preserved g c =
+    let seats = c.loop-done.seats.items in
+    let left = c.pop.new.self.items in
+    let before = lists_of c.args.self.now in
+    elim c.match-pop.branch [
+      | in-Some w ↦
+          let long : length c.loop-done.seats.items ≡ length c.pop.new.self.items + 1 = ap length w.in-Some.ensures.items ∙ length-append left (w.in-Some.at ∷ []) in (
+            omega (arith, long, c.loop-done.invariant.0),
+            λ inbox are. subst (λ t. Gaining inbox c.args.realm before (lists_of t) left) (sym w.self-is)
+                (gaining_on inbox c.args.realm before (lists_of c.loop-done.self) (lists_of w.add_seat.new.self) seats left w.in-Some.at w.in-Some.ensures.items w.add_seat.ensures (c.loop-done.invariant.1 inbox are)),
+          )
+      | in_default w ↦ absurd (omega (arith, w.in_default.ensures.cases.0, c.loop-done.seats.ok.0, c.loop-done.invariant.0, c.loop-done-test.true))
+    ]
+
+pub returns : goal.returns
+returns g c inbox are =
+    let none : length c.loop-done.seats.items ≡ 0 = omega (arith, c.loop-done.invariant.0, c.loop-done-test.false) in
+    gaining_all inbox c.args.realm (lists_of c.args.self.now) (lists_of c.loop-done.self) c.loop-done.seats.items none (c.loop-done.invariant.1 inbox are)

@@ -8,4 +8,4 @@ pub start-requires-send-W : goal.start-requires-send-W
 start-requires-send-W g c κs within = param_send 1 _ (arg_send _ no _ (actor_work_send _ _ c.type_bounds.send-S))
 
 pub start-requires-send-W-Done : goal.start-requires-send-W-Done
-start-requires-send-W-Done g c κs within = param_send 2 _ (arg_send _ no _ (actor_done_send (param 0 g.row.S) g.S.Shut))
+start-requires-send-W-Done g c κs within = param_send 2 _ (arg_send _ no _ (actor_done_send (param 0 g.row.S) g.S.Shut c.type_bounds.send-S))

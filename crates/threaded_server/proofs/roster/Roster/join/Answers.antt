@@ -1,6 +1,7 @@
-use Rattle.std.proofs.Common.{rules, ◌<◌, ◌≡◌, [], ◌∷◌, ◌++◌, length, refl, sym, ap, ◌∙◌, subst, None, Some, slice_get}
+use Rattle.std.proofs.Common.{rules, ◌<◌, ◌≡◌, [], ◌∷◌, ◌++◌, length, refl, sym, ap, ◌∙◌, subst, None, Some, set, slice_get}
 use Rattle.std.proofs.lemmas.Option.{slice_get_read}
 use Rattle.ghost_state.specs.GhostList.{items_of}
+use Rattle.threaded_server.proofs.Places.{put_back}
 use Rattle.threaded_server.proofs.RosterSteps.{leave_balances, left_of_plan, seated_before, still_balances}
 use Rattle.threaded_server.specs.Streams.{Reads, sight}
 use Rattle.threaded_server.proofs.roster.Roster.join.Goals as goal
@@ -44,3 +45,10 @@ returns-clause-over g c =
       left_is = c.of.ensures;
       over = c.add.ensures.streams ∙ ap (λ o. items_of c.args.self.now.over.streams ++ o ∷ []) c.of-2.ensures;
     }
+
+pub returns-in-None-clause-over : goal.returns-in-None-clause-over
+returns-in-None-clause-over g c =
+    let slots = c.args.self.now.entries.items in
+    let within : c.args.place < length c.args.self.now.entries.items = search rules in
+    let at = slice_get_read slots (length slots) c.args.place c.in_ok-slot.slot.now refl within c.in_ok-slot.ensures.value in
+    (refl, ap (set slots c.args.place) c.take.ensures.after ∙ put_back slots c.args.place None (at ∙ ap Some (sym c.in-None.ensures.value)))

@@ -3,7 +3,7 @@ use denote.Param.Send.{param_send, arg_send, sendable}
 use denote.Param.{param, copied}
 use Rattle.threaded_server.proofs.SendLemmas.{reader_send, ended_send, both_send}
 use Rattle.threaded_server.specs.contracts.reader_thread.Reader as Reader
-use Rattle.threaded_server.proofs.connection_table.start_reader.Goals as goal
+use Rattle.threaded_server.proofs.starting.start_reader.Goals as goal
 
 pub spawn_with-requires-send-F : goal.spawn_with-requires-send-F
 spawn_with-requires-send-F g c κs within =
