@@ -6,11 +6,14 @@ ghost use Rattle.broker_server.specs.Commands.{fault_of_client};
 use broker_server::{Fault, explain, help, shown_line};
 use client_commands::LinkFault;
 use std::alloc::{AllocError, Global};
-use std::io;
+use std::io::{self, ErrorKind};
 
 /// What an argument of an event has to be.
 const ARGUMENTS: &str =
     "a number has to be whole, and lists and dictionaries nest no more than 98 levels";
+
+/// What is wrong with a word that can't be read.
+const UNREADABLE: &str = "a word isn't UTF-8";
 
 /// What a line of a replay has to be.
 const REPLAYED: &str =
@@ -34,6 +37,17 @@ impl Failure {
         Failure {
             fault,
             more: Vec::new(alloc),
+        }
+    }
+
+    /// The words couldn't be had: one isn't UTF-8, or there is no memory for them.
+    pub fn to_have_words(alloc: Global, error: &io::Error) -> Failure {
+        match error.kind() {
+            ErrorKind::InvalidData => {
+                let reason = format!(in alloc; "{UNREADABLE}");
+                Failure::with_reason(alloc, Fault::Usage, reason.ok())
+            }
+            _ => Failure::of(alloc, Fault::NoMemory),
         }
     }
 

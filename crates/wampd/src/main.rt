@@ -64,9 +64,7 @@ where
         + 'static,
 {
     let alloc = host.alloc();
-    let Some(words) = words_of(host) else {
-        return Err(Failure::of(alloc, Fault::NoMemory));
-    };
+    let words = words_of(host)?;
     let command = match read_command(alloc, &words) {
         Ok(command) => command,
         Err(fault) => return Err(Failure::of_words(alloc, fault, &words)),
@@ -128,8 +126,16 @@ fn run_replay<S: Sink>(
 }
 
 /// The words after the program's name.
-fn words_of(host: &HostRuntime) -> Option<Vec<String>> {
-    env::args(host).ok()?.skip(1).collect(host.alloc()).ok()
+fn words_of(host: &HostRuntime) -> Result<Vec<String>, Failure> {
+    let alloc = host.alloc();
+    let all = match env::args(host) {
+        Ok(all) => all,
+        Err(error) => return Err(Failure::to_have_words(alloc, &error)),
+    };
+    match all.skip(1).collect(alloc) {
+        Ok(words) => Ok(words),
+        Err(_) => Err(Failure::of(alloc, Fault::NoMemory)),
+    }
 }
 
 /// Where it listens.
