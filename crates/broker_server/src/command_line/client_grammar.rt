@@ -42,9 +42,9 @@ pub fn publish<'a>(alloc: Global) -> Result<Command<'a>, AllocError> {
                 .action(ArgAction::Append),
         )?
         .arg(
-            option(alloc, "kwargs")
-                .value_name("JSON")
-                .help("What is published by keys: a dictionary"),
+            option(alloc, "kwargs").value_name("JSON").help(
+                "What is published by keys: a dictionary in JSON, of whole numbers alone",
+            ),
         )?
         .arg(realm(alloc))?
         .arg(
@@ -57,7 +57,7 @@ pub fn publish<'a>(alloc: Global) -> Result<Command<'a>, AllocError> {
             Arg::new(alloc, "argument")
                 .value_name("JSON")
                 .help(
-                    "The event's arguments, each in JSON or else a text; - publishes each line of standard input",
+                    "The event's arguments, each in JSON, of whole numbers alone, or else a text; - publishes each line of standard input",
                 )
                 .num_args(0..)
                 .action(ArgAction::Append),

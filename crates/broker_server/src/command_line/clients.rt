@@ -146,7 +146,12 @@ fn read_count(alloc: Global, words: &ArgMatches<'_>) -> Result<Option<u64>, Refu
     };
     match text.parse::<u64>() {
         Ok(count) if count > 0 => Ok(Some(count)),
-        _ => refused_value(alloc, text, "--count <N>", "a number from 1 is wanted"),
+        _ => refused_value(
+            alloc,
+            text,
+            "--count <N>",
+            "a number from 1 to 18446744073709551615 is wanted",
+        ),
     }
 }
 

@@ -21,7 +21,7 @@ pub fn grammar<'a>(alloc: Global) -> Result<Command<'a>, AllocError> {
 /// What stands after `replay`.
 fn replay<'a>(alloc: Global) -> Result<Command<'a>, AllocError> {
     Command::new(alloc, "replay")
-        .about("Runs one realm on lines of input")
+        .about("Runs one realm on lines of input, each a client's number and its message")
         .arg(
             option(alloc, "realm")
                 .value_name("REALM")
