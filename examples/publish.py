@@ -10,9 +10,13 @@ from wamp import Session, arguments
 PUBLISH = 16
 
 
+def no_json(word):
+    raise ValueError(word)
+
+
 def value_of(text):
     try:
-        return json.loads(text)
+        return json.loads(text, parse_constant=no_json)  # NaN and Infinity, which Python would take
     except ValueError:
         return text
 

@@ -84,8 +84,8 @@ Section: net
 Priority: optional
 Description: publish-subscribe broker for WAMP
  The broker of WAMP version 2 over RawSocket, in JSON and MessagePack: clients
- subscribe to topics, prefixes and wildcards, and publish events. What it does
- is proved against a specification.
+ subscribe to topics, prefixes and wildcards, and publish events. Its rules of
+ delivery are proved; README.md says how far.
 """.encode()
 
 
