@@ -1,2 +1,5 @@
 -- What only the bodies and their proofs speak of: nothing here has to be believed.
+pub mod Vouching
 pub mod EndInvariants
+pub mod PartingInvariant
+pub mod LinkInvariants

@@ -4,10 +4,11 @@
 //! its capacity, or nothing: only a call of the queue tells it, and only of its own step. And nothing else raises the count of a
 //! pass. So a count is one more exactly where a step of this pass, in this call, found the queue full, or empty.
 ghost use Rattle.std.specs.Prelude.{◌≡◌, ◌+◌, MatchOption, MatchResult};
-ghost use Rattle.crossbeam_queue.specs.Fifo.{Held, Learns, Pops, Pushes};
+ghost use Rattle.std.specs.Prelude.{List};
+ghost use Rattle.crossbeam_queue.specs.Fifo.{Held, Learns, Merges, Pops, Pushes};
 ghost use Rattle.crossbeam_queue.specs.Passes.{view, IsPassOf, IsSamePass, ruled_capacity};
 
-use crossbeam_queue::protocol::{Lesson, Outcome, Protocol};
+use crossbeam_queue::protocol::{Join, Lesson, Outcome, Protocol};
 use crossbeam_queue::{Pass, RuledArrayQueue};
 use ghost_state::GhostCount;
 use std::sync::Wait;
@@ -17,6 +18,12 @@ use std::sync::Wait;
 pub struct CountedPass<T, V> {
     pass: Pass<T, V>,
     finds: GhostCount,
+}
+
+/// How often a pass found the queue full, or empty, before it was parted from its count. Only [`CountedPass::part`] makes one.
+#[derive(Drop)]
+pub struct Finds {
+    count: GhostCount,
 }
 
 impl<T, V> CountedPass<T, V> {
@@ -37,6 +44,36 @@ impl<T, V> CountedPass<T, V> {
     {
         let CountedPass { pass, finds: _ } = self;
         pass
+    }
+
+    /// The pass, and its count.
+    pub fn part(self) -> (Pass<T, V>, Finds)
+        ensures pass { result.0 ≡ self.pass }
+        ensures finds { result.1.count ≡ self.finds }
+    {
+        let CountedPass { pass, finds } = self;
+        (pass, Finds { count: finds })
+    }
+
+    /// Takes in what another pass knows, and tells what the rule says then. No step is counted.
+    pub fn absorb<P: Protocol<T, V>, J: Join<V>, M: Lesson<T, V>>(
+        &mut self,
+        queue: &RuledArrayQueue<T, V, P>,
+        other: Pass<T, V>,
+    )
+        requires queue { IsPassOf queue.now self.old.pass × IsPassOf queue.now other }
+        requires rule { Merges P.holds self.old.pass.id (view self.old.pass) other.id (view other)
+            (J.both (view self.old.pass) (view other)) J.spent
+            × Learns P.holds self.old.pass.id (J.both (view self.old.pass) (view other))
+            (M.fact (J.both (view self.old.pass) (view other))) }
+        ensures queue { IsSamePass self.old.pass self.new.pass }
+        ensures rule { view self.new.pass ≡ J.both (view self.old.pass) (view other) }
+        ensures fact { (items : List T)
+            × M.fact (J.both (view self.old.pass) (view other)) items }
+        ensures finds { self.new.finds ≡ self.old.finds }
+    {
+        queue.absorb::<J>(&mut self.pass, other);
+        queue.learn_as::<M>(&mut self.pass);
     }
 
     /// Pushes the item, or counts one more step that found the queue full.

@@ -3,16 +3,19 @@
 //! While the ends are apart, [`Producer::push`] and [`Consumer::pop`] alone step the queue, and by the calls of `counted` alone:
 //! so each find that an end shows was a step of the queue, in that call. [`settle_ends`] has both ends in one hand: `join_places`
 //! looks how many items wait, and `take_all` takes them. Neither counts anything.
-ghost use Rattle.std.specs.Prelude.{◌≡◌, ◌+◌, ◌≤◌, ◌<◌, [], ◌∷◌, ◌++◌, length, Some, None, true, slice_get, IfOk, MatchResult, MatchOption, Option, vec_capacity};
+ghost use Rattle.std.specs.Prelude.{◌≡◌, ◌+◌, ◌≤◌, ◌<◌, [], ◌∷◌, ◌++◌, length, Some, None, true, slice_get, IfOk, IfSome, is_some, MatchResult, MatchOption, Option, option_map, vec_capacity};
 ghost use Rattle.crossbeam_queue.specs.Passes.{view as shown, IsPassOf, IsSamePass, ruled_capacity};
 ghost use Rattle.outbox_queue.specs.Rule.{start, adding, taking, both};
 ghost use Rattle.outbox_queue.specs.Rule.{Grows, Belongs};
-ghost use Rattle.outbox_queue.specs.Ends.{Owes, IsOf};
+ghost use Rattle.outbox_queue.specs.Ends.{Owes, IsOf, Vouches, newest};
+ghost use Rattle.outbox_queue.specs.Outbox.{TakesNote};
+ghost use Rattle.outbox_queue.specs.Slot.{whose_drain, whose_of};
 ghost use Rattle.atomic_table.specs.Seated.{TableId};
 
-use crate::counted::CountedPass;
+use crate::counted::{CountedPass, Finds};
 use crate::owed::{Owed, Stamped};
-use crate::rule::{Adds, Ends, InStep, Naming, Settles, Takes, View, Whole};
+use crate::parting::Farewell;
+use crate::rule::{Adds, Ends, InStep, Naming, Over, Settles, Takes, View, Whole};
 use crossbeam_queue::{Pass, RuledArrayQueue};
 use ghost_state::GhostCount;
 use std::alloc::{AllocError, Global};
@@ -87,6 +90,16 @@ impl<T: Drop, H: Owed<T>> Producer<T, H> {
         let _ = &self.place;
     }
 
+    /// What it knows of the queue, and how often it found that full.
+    pub fn into_place(self) -> (Place<T, H>, Finds)
+        ensures queue { result.0.table_id ≡ self.queue }
+        ensures free { result.0.me.1 ≡ [] }
+        ensures view { shown result.0 ≡ adding self.conn self.chronicle self.history self.added }
+        ensures finds { result.1.count ≡ self.full_finds }
+    {
+        self.place.part()
+    }
+
     /// Stamps the next item that a history owes the connection.
     pub fn stamp(&self, item: T, history: H) -> Stamped<T, H>
         requires { slice_get (H.owed history self.now.conn) (length self.now.added)
@@ -136,19 +149,29 @@ impl<T: Drop, H: Owed<T>> Producer<T, H> {
     }
 }
 
-/// The end that takes. Contracts see what was taken, the history seen, and how often the queue was found empty.
+/// What came with the end that added: the history that names all that is owed, and how often that end had found the queue full.
+#[derive(Drop)]
+pub struct Came<H> {
+    history: H,
+    finds: Finds,
+}
+
+/// The end that takes. Contracts see what was taken, the history seen, how often the queue was found empty, and what came with the end
+/// that added, once that came over.
 #[derive(Drop)]
 pub struct Consumer<T, H: Owed<T>> {
     queue: Arc<Queue<T, H>>,
+    // Also what the end that added knew, once it came over.
     place: CountedPlace<T, H>,
     conn: u64,
+    came: Option<Came<H>>,
 }
 
 impl<T, H: Owed<T>> Model for Consumer<T, H> {
     ghost use Rattle.std.specs.Arc.{arc_value};
     ghost use Rattle.crossbeam_queue.specs.Passes.{view as shown, ruled_capacity};
     ghost use Rattle.outbox_queue.specs.Ends.{Taking};
-    ghost use Rattle.outbox_queue.specs.body.EndInvariants.{IsTaking};
+    ghost use Rattle.outbox_queue.specs.body.EndInvariants.{IsTaking, last_of};
 
     ghost Value = { Taking T H };
 
@@ -160,9 +183,10 @@ impl<T, H: Owed<T>> Model for Consumer<T, H> {
       seen = (shown e.place.pass).seen;
       taken = (shown e.place.pass).taken;
       empty_finds = e.place.finds;
+      last = last_of e.came;
     } };
 
-    ghost invariant = { IsTaking H.owed H.is_of };
+    ghost invariant = { IsTaking H.owed H.is_over H.is_of };
 }
 
 impl<T: Drop, H: Owed<T>> Consumer<T, H> {
@@ -177,25 +201,90 @@ impl<T: Drop, H: Owed<T>> Consumer<T, H> {
     pub fn shows(&self)
         ensures owed { Owes H.owed self.now.seen self.now.conn self.now.taken }
         ensures chronicle { IsOf H.is_of self.now.seen self.now.chronicle }
+        ensures newest { Owes H.owed (newest self.now) self.now.conn self.now.taken }
+        ensures newest_of { IsOf H.is_of (newest self.now) self.now.chronicle }
     {
         let _ = &self.place;
     }
 
-    /// Takes the item at the front, or counts one more step that found the queue empty.
+    /// Takes the item at the front, or counts one more step that found the queue empty. Where the end that added came over, all was taken
+    /// then.
     pub fn pop<R: Wait>(&mut self, rt: &R) -> Option<Stamped<T, H>>
         ensures { MatchOption result
+            ((self.new ≡ record self.old { empty_finds = self.old.empty_finds + 1 })
+            × IfSome self.old.last (λ last. Vouches H.owed H.is_over last.history
+            self.old.conn self.old.taken last.full_finds))
+            (λ x. TakesNote H.begins H.is_of self.old x self.new) }
+    {
+        if self.came.is_some() {
+            self.pop_rest(rt)
+        } else {
+            self.pop_apart(rt)
+        }
+    }
+
+    // The same while the end that adds is elsewhere.
+    fn pop_apart<R: Wait>(&mut self, rt: &R) -> Option<Stamped<T, H>>
+        requires { self.old.last ≡ None }
+        ensures { MatchOption result
             (self.new ≡ record self.old { empty_finds = self.old.empty_finds + 1 })
-            (λ x. (self.new ≡ record self.old {
-              seen = Some x.history;
-              taken = self.old.taken ++ x.item ∷ [];
-            })
-            × (x.conn ≡ self.old.conn) × (x.place ≡ length self.old.taken)
-            × Grows H.begins self.old.seen (Some x.history)
-            × Belongs H.is_of x.history self.old.chronicle) }
+            (λ x. TakesNote H.begins H.is_of self.old x self.new) }
     {
         let item = self.place.pop_counted::<InStep, Takes, R>(rt, &self.queue)?;
         item.shows();
         Some(item)
+    }
+
+    // The same once that came over.
+    fn pop_rest<R: Wait>(&mut self, rt: &R) -> Option<Stamped<T, H>>
+        requires { is_some self.old.last ≡ true }
+        ensures { MatchOption result
+            ((self.new ≡ record self.old { empty_finds = self.old.empty_finds + 1 })
+            × IfSome self.old.last (λ last. Vouches H.owed H.is_over last.history
+            self.old.conn self.old.taken last.full_finds))
+            (λ x. TakesNote H.begins H.is_of self.old x self.new) }
+    {
+        let item = self
+            .place
+            .pop_counted::<InStep, Settles, R>(rt, &self.queue)?;
+        item.shows();
+        Some(item)
+    }
+
+    /// Whether the end that added came over.
+    pub fn has_come(&self) -> bool
+        ensures { result ≡ is_some self.now.last }
+    {
+        self.came.is_some()
+    }
+
+    /// The end that added comes over, with a history that vouches for what was added.
+    pub fn take_over(&mut self, farewell: Farewell<T, H>)
+        requires whose { whose_of farewell.end ≡ whose_drain self.old }
+        requires first { self.old.last ≡ None }
+        ensures { self.new ≡ record self.old {
+          last = Some (record {
+            history = farewell.history;
+            full_finds = farewell.end.full_finds;
+          });
+        } }
+    {
+        let (end, history) = farewell.into_parts();
+        let (theirs, finds) = end.into_place();
+        self.place
+            .absorb::<InStep, Over, Settles>(&self.queue, theirs);
+        self.came = Some(Came { history, finds });
+    }
+
+    /// The newest history that this end knows.
+    pub fn into_last(self) -> Option<H>
+        ensures { result ≡ option_map (λ last. last.history) self.last }
+    {
+        let Consumer { came, .. } = self;
+        match came {
+            Some(came) => Some(came.history),
+            None => None,
+        }
     }
 }
 
@@ -243,6 +332,7 @@ pub fn new_ends<T: Drop, H: Owed<T>>(
       seen = None;
       taken = [];
       empty_finds = 0;
+      last = None;
     }) }
 {
     let (queue, mut place) = Queue::ruled(alloc, cap)?;
@@ -260,6 +350,7 @@ pub fn new_ends<T: Drop, H: Owed<T>>(
         queue: again,
         place: CountedPass::new(theirs),
         conn,
+        came: None,
     };
     Ok((adding, taking))
 }
@@ -331,6 +422,7 @@ pub fn settle_ends<T: Drop, H: Owed<T>, R: Wait>(
         queue: _,
         place: theirs,
         conn: _,
+        came: _,
     } = taking;
     let mut place = place.into_pass();
     join_places(rt, &queue, &mut place, theirs.into_pass());

@@ -1,32 +1,40 @@
 //! The adding end of an outbox, which can be closed.
 ghost use Rattle.std.specs.Prelude.{◌≡◌, ◌+◌, ◌≤◌, [], ◌∷◌, ◌++◌, length, true, false, Some, None, slice_get, MatchResult};
+ghost use Rattle.std.specs.Arc.{arc_value};
+ghost use Rattle.crossbeam_queue.specs.Passes.{view as shown, IsPassOf};
 ghost use Rattle.outbox_queue.specs.Rule.{Grows, Belongs};
-ghost use Rattle.outbox_queue.specs.Ends.{Owes, IsOf};
+ghost use Rattle.outbox_queue.specs.Ends.{Owes, IsOf, Vouches};
+ghost use Rattle.outbox_queue.specs.Slot.{whose_of};
 
 use crate::ends::Producer;
+use crate::link::{Link, SlotPass};
 use crate::owed::{Owed, Stamped};
+use crate::parting::Farewell;
 use crossbeam_utils::sync::Unparker;
 use std::marker::Model;
-use std::sync::atomic::{AtomicBool, Ordering};
+use std::sync::atomic::Ordering;
 use std::sync::{Arc, Wait};
 
 /// E14: the queue held its capacity. The item comes back.
 #[derive(Drop)]
 pub struct Full<S>(pub S);
 
-/// The end that adds. A dropped outbox is closed.
+/// The end that adds. A dropped outbox is closed, and its drain is told that nobody vouches for what was added: see
+/// [`Outbox::hand_over`].
 ///
 /// Contracts see which queue it is of, its capacity and connection, the chronicle of its histories, what was added and by which
 /// history, how often the queue was found full, and whether it is closed.
 pub struct Outbox<T, H: Owed<T>> {
     end: Producer<T, H>,
     is_closed: bool,
-    shut: Arc<AtomicBool>,
+    link: Arc<Link<T, H>>,
+    pass: SlotPass<T, H>,
     waker: Unparker,
 }
 
 impl<T, H: Owed<T>> Model for Outbox<T, H> {
     ghost use Rattle.outbox_queue.specs.Ends.{Sending};
+    ghost use Rattle.outbox_queue.specs.body.LinkInvariants.{IsSending};
 
     ghost Value = { Sending T H };
 
@@ -41,10 +49,19 @@ impl<T, H: Owed<T>> Model for Outbox<T, H> {
       added_at_find = o.end.added_at_find;
       is_closed = o.is_closed;
     } };
+
+    ghost invariant = { IsSending };
 }
 
 impl<T: Drop, H: Owed<T>> Outbox<T, H> {
-    pub(crate) fn new(end: Producer<T, H>, shut: Arc<AtomicBool>, waker: Unparker) -> Outbox<T, H>
+    pub(crate) fn new(
+        end: Producer<T, H>,
+        link: Arc<Link<T, H>>,
+        pass: SlotPass<T, H>,
+        waker: Unparker,
+    ) -> Outbox<T, H>
+        requires slot { IsPassOf (arc_value link).slot pass }
+        requires whose { shown pass ≡ Some (whose_of end) }
         ensures { result ≡ record {
           queue = end.queue;
           capacity = end.capacity;
@@ -60,7 +77,8 @@ impl<T: Drop, H: Owed<T>> Outbox<T, H> {
         Outbox {
             end,
             is_closed: false,
-            shut,
+            link,
+            pass,
             waker,
         }
     }
@@ -92,8 +110,29 @@ impl<T: Drop, H: Owed<T>> Outbox<T, H> {
         ensures { self.new ≡ record self.old { is_closed = true } }
     {
         self.is_closed = true;
-        self.shut.store(true, Ordering::SeqCst);
+        self.link.is_shut.store(true, Ordering::SeqCst);
         self.waker.unpark();
+    }
+
+    /// Closes it, and hands it over to its drain, with a history that vouches for what was added: it owes the connection nothing more,
+    /// and what was added begins what it owes, and is all of that unless the queue was found full. Who waits at the drain is woken, to be
+    /// told so once all was taken.
+    pub fn hand_over<R: Wait>(self, rt: &R, history: H)
+        requires vouches { Vouches H.owed H.is_over history self.conn self.added self.full_finds }
+        requires chronicle { Belongs H.is_of history self.chronicle }
+    {
+        let Self {
+            end,
+            is_closed: _,
+            link,
+            mut pass,
+            waker,
+        } = self;
+        if let Err(_) = link.put(rt, &mut pass, Farewell::new(end, history)) {
+            link.is_dropped.store(true, Ordering::SeqCst);
+        }
+        link.is_shut.store(true, Ordering::SeqCst);
+        waker.unpark();
     }
 
     /// Adds the item at the back, unless a step finds the capacity waiting. The item is stamped for this connection and for the
@@ -175,7 +214,8 @@ impl<T: Drop, H: Owed<T>> Outbox<T, H> {
         let Self {
             end,
             is_closed: _,
-            shut: _,
+            link: _,
+            pass: _,
             waker: _,
         } = self;
         end
@@ -187,10 +227,12 @@ impl<T: Drop, H: Owed<T>> Drop for Outbox<T, H> {
         let Self {
             end: _,
             is_closed: _,
-            shut,
+            link,
+            pass: _,
             waker,
         } = self;
-        shut.store(true, Ordering::SeqCst);
+        link.is_dropped.store(true, Ordering::SeqCst);
+        link.is_shut.store(true, Ordering::SeqCst);
         waker.unpark();
     }
 }

@@ -67,6 +67,8 @@ impl<T, H: Owed<T>> Owed<T> for Recorded<T, H> {
     ghost owes_on = { λ h k conn first. H.owes_on h.history k.history conn first };
 
     ghost is_of = { λ h chronicle. h.chronicle ≡ chronicle };
+
+    ghost is_over = { λ h conn. H.is_over h.history conn };
 }
 
 impl<T, H: Owed<T>> Recorded<T, H> {

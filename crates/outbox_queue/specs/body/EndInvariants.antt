@@ -1,12 +1,16 @@
 -- What always holds of the two ends.
-use Rattle.std.specs.Prelude.{◌≡◌, ◌<◌, ℕ, None, List, [], length}
+use Rattle.std.specs.Prelude.{◌≡◌, ◌<◌, ℕ, true, Option, None, Some, List, [], length}
+use mathlib.Core.List.{IsPrefix}
 use Rattle.std.specs.Arc.{arc_value}
 use Rattle.atomic_table.specs.Seated.{TableId}
 use Rattle.crossbeam_queue.specs.Passes.{view, IsPassOf, ruled_capacity}
 use Rattle.outbox_queue.specs.declared.ends.Producer.TheInside.{Inside as Producer}
 use Rattle.outbox_queue.specs.declared.ends.Consumer.TheInside.{Inside as Consumer}
-use Rattle.outbox_queue.specs.Rule.{adding, taking}
-use Rattle.outbox_queue.specs.Ends.{Owes, IsOf}
+use Rattle.outbox_queue.specs.declared.ends.Came.{Came}
+use Rattle.outbox_queue.specs.declared.rule.View.{View}
+use Rattle.outbox_queue.specs.Rule.{adding}
+use Rattle.outbox_queue.specs.Ends.{Owes, IsOf, Last}
+use Rattle.outbox_queue.specs.body.Vouching.{VouchesFor}
 
 module _ {T H : Type 0} (owed : H → ℕ → List T) (belongs : H → TableId → Type 0) where
   -- the adding end has a pass of its queue that adds alone; what was added begins what its history, which is of the chronicle,
@@ -21,12 +25,29 @@ module _ {T H : Type 0} (owed : H → ℕ → List T) (belongs : H → TableId �
     pub conn : e.conn ≡ (view e.place.pass).conn
     pub added : e.added ≡ length (view e.place.pass).added
 
-  -- the taking end has a pass of its queue that takes alone; what was taken begins what the history seen, which is of the chronicle,
+-- what came with the end that added, as contracts see it
+abbrev pub last_of : {H : Type 0} → Option (Came H) → Option (Last H)
+last_of None = None
+last_of (Some came) = Some (record { history = came.history; full_finds = came.finds.count })
+
+module _ {T H : Type 0} (owed : H → ℕ → List T) (is_over : H → ℕ → Type 0) (belongs : H → TableId → Type 0) where
+  -- the other end came over: its pass is one with this one's; what was taken begins what was added, and the history that came vouches for that
+  pub record CameOver (v : View T H) (last : Last H) : Type 0 where
+    pub adds : v.adds ≡ true
+    pub begins : IsPrefix v.taken v.added
+    pub vouches : VouchesFor owed is_over belongs last.history v.conn v.chronicle v.added last.full_finds
+
+  abbrev pub MayHaveCome : View T H → Option (Last H) → Type 0
+  MayHaveCome v None = Unit {0}
+  MayHaveCome v (Some last) = CameOver v last
+
+  -- the taking end has a pass of its queue that takes; what was taken begins what the history seen, which is of the chronicle,
   -- owes the connection, which is that of the pass
   pub record IsTaking (e : Consumer T H) : Type 0 where
     pub is_pass : IsPassOf (arc_value e.queue) e.place.pass
-    pub takes : view e.place.pass ≡ taking (view e.place.pass).conn (view e.place.pass).chronicle (view e.place.pass).seen (view e.place.pass).taken
+    pub takes : (view e.place.pass).takes ≡ true
     pub capacity : 0 < ruled_capacity (arc_value e.queue)
     pub owes : Owes owed (view e.place.pass).seen (view e.place.pass).conn (view e.place.pass).taken
     pub is_of : IsOf belongs (view e.place.pass).seen (view e.place.pass).chronicle
     pub conn : e.conn ≡ (view e.place.pass).conn
+    pub last : MayHaveCome (view e.place.pass) (last_of e.came)
