@@ -79,7 +79,7 @@ module _ (T H : RattleType) (owed : Ghosts H.Denot T.Denot) where
       view_send _ _ _ _ _ (declared_send (adding.the_type T H owed) (as_row_send (Arc.the_field queue Global.the_row global.ghosts) (heap.Arc-send queue (queue_send t h) (queue_sync t h)), (as_row_send (row_field (CountedPass.the_row item view)) (counted_send t h), (search sendable, (search (count_send, crosses, sendable) depth 60, (search (count_send, crosses, sendable) depth 60, tt))))))
 
   came_send : IsSend H → IsSend (Came.the_row H)
-  came_send h = declared_send (Came.the_type H) (as_row_send (row_field H) h, (as_row_send (row_field Finds.the_row) (declared_send Finds.the_type (search (count_send, crosses, sendable) depth 60, tt)), tt))
+  came_send h = declared_send (Came.the_type H) (option_send H h, (as_row_send (row_field Finds.the_row) (declared_send Finds.the_type (search (count_send, crosses, sendable) depth 60, tt)), tt))
 
   taking_send : IsSend T → IsSend H → IsSend (Consumer.the_row T H owed)
   taking_send t h =
@@ -89,7 +89,7 @@ module _ (T H : RattleType) (owed : Ghosts H.Denot T.Denot) where
   going = Farewell.the_row T H owed
 
   farewell_send : IsSend T → IsSend H → IsSend going
-  farewell_send t h = view_send _ _ _ _ _ (declared_send (farewell.the_type T H owed) (as_row_send (Producer.the_field T H owed) (adding_send t h), (as_row_send (row_field H) h, tt)))
+  farewell_send t h = view_send _ _ _ _ _ (declared_send (farewell.the_type T H owed) (as_row_send (Producer.the_field T H owed) (adding_send t h), (option_send H h, tt)))
 
   abbrev known : RattleType
   known = Option.the_row Whose.the_row
@@ -104,10 +104,10 @@ module _ (T H : RattleType) (owed : Ghosts H.Denot T.Denot) where
   slot_sync t h = slotted.the_sync _ _ _ _ (turns.ghosts going known OneQueue.the_row (one_queue.ghosts T H owed one_queue.no_dict one_queue.no_dict) turns.no_dict) global.ghosts (option_send _ (farewell_send t h)) heap.send heap.sync heap.frees
 
   link_send : IsSend T → IsSend H → IsSend (Link.the_row T H owed)
-  link_send t h = declared_send (Link.the_type T H owed) (search (crosses, sendable) depth 60, (search (crosses, sendable) depth 60, (as_row_send (row_field slot) (slot_send t h), tt)))
+  link_send t h = declared_send (Link.the_type T H owed) (search (crosses, sendable) depth 60, (as_row_send (row_field slot) (slot_send t h), tt))
 
   link_sync : IsSend T → IsSend H → IsSync (Link.the_row T H owed)
-  link_sync t h = declared_sync (Link.the_type T H owed) (search (crosses, sendable) depth 60, (search (crosses, sendable) depth 60, (as_row_sync (row_field slot) (slot_sync t h), tt)))
+  link_sync t h = declared_sync (Link.the_type T H owed) (search (crosses, sendable) depth 60, (as_row_sync (row_field slot) (slot_sync t h), tt))
 
   shared_send : IsSend T → IsSend H → IsSend (as_row (Arc.the_field (Link.the_row T H owed) Global.the_row global.ghosts))
   shared_send t h = as_row_send (Arc.the_field (Link.the_row T H owed) Global.the_row global.ghosts) (heap.Arc-send (Link.the_row T H owed) (link_send t h) (link_sync t h))

@@ -3,11 +3,11 @@
 //! While the ends are apart, [`Producer::push`] and [`Consumer::pop`] alone step the queue, and by the calls of `counted` alone:
 //! so each find that an end shows was a step of the queue, in that call. [`settle_ends`] has both ends in one hand: `join_places`
 //! looks how many items wait, and `take_all` takes them. Neither counts anything.
-ghost use Rattle.std.specs.Prelude.{◌≡◌, ◌+◌, ◌≤◌, ◌<◌, [], ◌∷◌, ◌++◌, length, Some, None, true, slice_get, IfOk, IfSome, is_some, MatchResult, MatchOption, Option, option_map, vec_capacity};
+ghost use Rattle.std.specs.Prelude.{◌≡◌, ◌+◌, ◌≤◌, ◌<◌, [], ◌∷◌, ◌++◌, length, Some, None, true, slice_get, IfOk, IfSome, is_some, MatchResult, MatchOption, Option, vec_capacity};
 ghost use Rattle.crossbeam_queue.specs.Passes.{view as shown, IsPassOf, IsSamePass, ruled_capacity};
 ghost use Rattle.outbox_queue.specs.Rule.{start, adding, taking, both};
 ghost use Rattle.outbox_queue.specs.Rule.{Grows, Belongs};
-ghost use Rattle.outbox_queue.specs.Ends.{Owes, IsOf, Vouches, newest};
+ghost use Rattle.outbox_queue.specs.Ends.{Owes, IsOf, TookAll, came_with, newest};
 ghost use Rattle.outbox_queue.specs.Outbox.{TakesNote};
 ghost use Rattle.outbox_queue.specs.Slot.{whose_drain, whose_of};
 ghost use Rattle.atomic_table.specs.Seated.{TableId};
@@ -149,10 +149,11 @@ impl<T: Drop, H: Owed<T>> Producer<T, H> {
     }
 }
 
-/// What came with the end that added: the history that names all that is owed, and how often that end had found the queue full.
+/// What came with the end that added: a history that vouches for what was added, if one does, and how often that end had found the
+/// queue full.
 #[derive(Drop)]
 pub struct Came<H> {
-    history: H,
+    history: Option<H>,
     finds: Finds,
 }
 
@@ -183,7 +184,7 @@ impl<T, H: Owed<T>> Model for Consumer<T, H> {
       seen = (shown e.place.pass).seen;
       taken = (shown e.place.pass).taken;
       empty_finds = e.place.finds;
-      last = last_of e.came;
+      last = last_of e.came (shown e.place.pass).added;
     } };
 
     ghost invariant = { IsTaking H.owed H.is_over H.is_of };
@@ -212,8 +213,7 @@ impl<T: Drop, H: Owed<T>> Consumer<T, H> {
     pub fn pop<R: Wait>(&mut self, rt: &R) -> Option<Stamped<T, H>>
         ensures { MatchOption result
             ((self.new ≡ record self.old { empty_finds = self.old.empty_finds + 1 })
-            × IfSome self.old.last (λ last. Vouches H.owed H.is_over last.history
-            self.old.conn self.old.taken last.full_finds))
+            × IfSome self.old.last (λ _. TookAll H.owed H.is_over self.old))
             (λ x. TakesNote H.begins H.is_of self.old x self.new) }
     {
         if self.came.is_some() {
@@ -240,8 +240,7 @@ impl<T: Drop, H: Owed<T>> Consumer<T, H> {
         requires { is_some self.old.last ≡ true }
         ensures { MatchOption result
             ((self.new ≡ record self.old { empty_finds = self.old.empty_finds + 1 })
-            × IfSome self.old.last (λ last. Vouches H.owed H.is_over last.history
-            self.old.conn self.old.taken last.full_finds))
+            × IfSome self.old.last (λ _. TookAll H.owed H.is_over self.old))
             (λ x. TakesNote H.begins H.is_of self.old x self.new) }
     {
         let item = self
@@ -258,13 +257,14 @@ impl<T: Drop, H: Owed<T>> Consumer<T, H> {
         self.came.is_some()
     }
 
-    /// The end that added comes over, with a history that vouches for what was added.
+    /// The end that added comes over, with a history that vouches for what was added, if one does.
     pub fn take_over(&mut self, farewell: Farewell<T, H>)
         requires whose { whose_of farewell.end ≡ whose_drain self.old }
         requires first { self.old.last ≡ None }
         ensures { self.new ≡ record self.old {
           last = Some (record {
             history = farewell.history;
+            added = farewell.end.added;
             full_finds = farewell.end.full_finds;
           });
         } }
@@ -276,13 +276,13 @@ impl<T: Drop, H: Owed<T>> Consumer<T, H> {
         self.came = Some(Came { history, finds });
     }
 
-    /// The newest history that this end knows.
+    /// The history that came with the end that added.
     pub fn into_last(self) -> Option<H>
-        ensures { result ≡ option_map (λ last. last.history) self.last }
+        ensures { result ≡ came_with self.last }
     {
         let Consumer { came, .. } = self;
         match came {
-            Some(came) => Some(came.history),
+            Some(came) => came.history,
             None => None,
         }
     }

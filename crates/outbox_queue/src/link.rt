@@ -89,8 +89,6 @@ impl<T, H: Owed<T>> Lesson<Farewell<T, H>, Option<Whose>> for Through {
 pub struct Link<T, H: Owed<T>> {
     /// Nothing more is added.
     pub is_shut: AtomicBool,
-    /// The outbox was dropped, so that its end doesn't come over.
-    pub is_dropped: AtomicBool,
     pub slot: Slot<T, H>,
 }
 
@@ -124,23 +122,17 @@ impl<T: Drop, H: Owed<T>> Link<T, H> {
         let other = pick::<T, H, Brand>(&slot, &mut pass, end);
         let link = Link {
             is_shut: AtomicBool::new(false),
-            is_dropped: AtomicBool::new(false),
             slot,
         };
         Ok((link, pass, other))
     }
 
-    /// Puts the end that adds into the slot. It comes back where something is there.
-    pub fn put<R: Wait>(
-        &self,
-        rt: &R,
-        pass: &mut SlotPass<T, H>,
-        farewell: Farewell<T, H>,
-    ) -> Result<(), Farewell<T, H>>
+    /// Puts the end that adds into the slot. Nobody else puts anything there, so that the first attempt does.
+    pub fn put(&self, pass: &mut SlotPass<T, H>, farewell: Farewell<T, H>)
         requires slot { IsPassOf self.now.slot pass.old }
         requires whose { shown pass.old ≡ Some (whose_of farewell.end) }
     {
-        self.slot.push_as::<Through, R>(rt, pass, farewell)
+        let _ = self.slot.try_push_as::<Through>(pass, farewell);
     }
 
     /// The end that adds, if it is in the slot.

@@ -19,8 +19,8 @@ use std::sync::{Arc, Wait};
 #[derive(Drop)]
 pub struct Full<S>(pub S);
 
-/// The end that adds. A dropped outbox is closed, and its drain is told that nobody vouches for what was added: see
-/// [`Outbox::hand_over`].
+/// The end that adds. A dropped outbox is closed, and handed over to its drain ([`Outbox::hand_over`]), but nothing vouches for what was
+/// added.
 ///
 /// Contracts see which queue it is of, its capacity and connection, the chronicle of its histories, what was added and by which
 /// history, how often the queue was found full, and whether it is closed.
@@ -117,7 +117,7 @@ impl<T: Drop, H: Owed<T>> Outbox<T, H> {
     /// Closes it, and hands it over to its drain, with a history that vouches for what was added: it owes the connection nothing more,
     /// and what was added begins what it owes, and is all of that unless the queue was found full. Who waits at the drain is woken, to be
     /// told so once all was taken.
-    pub fn hand_over<R: Wait>(self, rt: &R, history: H)
+    pub fn hand_over(self, history: H)
         requires vouches { Vouches H.owed H.is_over history self.conn self.added self.full_finds }
         requires chronicle { Belongs H.is_of history self.chronicle }
     {
@@ -128,9 +128,7 @@ impl<T: Drop, H: Owed<T>> Outbox<T, H> {
             mut pass,
             waker,
         } = self;
-        if let Err(_) = link.put(rt, &mut pass, Farewell::new(end, history)) {
-            link.is_dropped.store(true, Ordering::SeqCst);
-        }
+        link.put(&mut pass, Farewell::new(end, Some(history)));
         link.is_shut.store(true, Ordering::SeqCst);
         waker.unpark();
     }
@@ -225,13 +223,13 @@ impl<T: Drop, H: Owed<T>> Outbox<T, H> {
 impl<T: Drop, H: Owed<T>> Drop for Outbox<T, H> {
     fn drop(self) {
         let Self {
-            end: _,
+            end,
             is_closed: _,
             link,
-            pass: _,
+            mut pass,
             waker,
         } = self;
-        link.is_dropped.store(true, Ordering::SeqCst);
+        link.put(&mut pass, Farewell::new(end, None));
         link.is_shut.store(true, Ordering::SeqCst);
         waker.unpark();
     }

@@ -1,17 +1,16 @@
 //! The end that adds, on its way to the end that takes.
 ghost use Rattle.std.specs.Prelude.{◌≡◌};
-ghost use Rattle.outbox_queue.specs.Ends.{Vouches};
-ghost use Rattle.outbox_queue.specs.Rule.{Belongs};
+ghost use Rattle.outbox_queue.specs.Ends.{IsOf, IsVouched};
 
 use crate::ends::Producer;
 use crate::owed::Owed;
 use std::marker::Model;
 
-/// The end that adds, once nothing more is added, and the history that names all that is owed.
+/// The end that adds, once nothing more is added, and a history that vouches for what was added, if one does.
 #[derive(Drop)]
 pub struct Farewell<T, H: Owed<T>> {
     end: Producer<T, H>,
-    history: H,
+    history: Option<H>,
 }
 
 impl<T, H: Owed<T>> Model for Farewell<T, H> {
@@ -26,22 +25,22 @@ impl<T, H: Owed<T>> Model for Farewell<T, H> {
 }
 
 impl<T: Drop, H: Owed<T>> Farewell<T, H> {
-    /// The end, with a history that vouches for what was added.
-    pub fn new(end: Producer<T, H>, history: H) -> Farewell<T, H>
-        requires vouches { Vouches H.owed H.is_over history end.conn end.added end.full_finds }
-        requires chronicle { Belongs H.is_of history end.chronicle }
+    /// The end, with a history that vouches for what was added, if one does.
+    pub fn new(end: Producer<T, H>, history: Option<H>) -> Farewell<T, H>
+        requires vouched { IsVouched H.owed H.is_over history end.conn end.added end.full_finds }
+        requires chronicle { IsOf H.is_of history end.chronicle }
         ensures { result ≡ record { end = end; history = history } }
     {
         Farewell { end, history }
     }
 
     /// The end, and the history.
-    pub fn into_parts(self) -> (Producer<T, H>, H)
+    pub fn into_parts(self) -> (Producer<T, H>, Option<H>)
         ensures end { result.0 ≡ self.end }
         ensures history { result.1 ≡ self.history }
-        ensures vouches { Vouches H.owed H.is_over self.history self.end.conn self.end.added
+        ensures vouched { IsVouched H.owed H.is_over self.history self.end.conn self.end.added
             self.end.full_finds }
-        ensures chronicle { Belongs H.is_of self.history self.end.chronicle }
+        ensures chronicle { IsOf H.is_of self.history self.end.chronicle }
     {
         let Farewell { end, history } = self;
         (end, history)

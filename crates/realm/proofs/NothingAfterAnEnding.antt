@@ -1,5 +1,5 @@
 -- A connection whose session has ended stays without one.
-use Rattle.std.proofs.Common.{◌≡◌, ℕ, Bool, true, false, not, ◌&&◌, ◌||◌, eqb, ltb, List, [], ◌∷◌, refl, sym, ap, ◌∙◌, None, Some, arith}
+use Rattle.std.proofs.Common.{◌≡◌, ℕ, Bool, true, false, not, ◌&&◌, ◌||◌, eqb, ltb, List, [], ◌∷◌, ◌++◌, append-nil, refl, sym, ap, ◌∙◌, None, Some, arith}
 use Rattle.std.specs.declared.option.Option.{Option}
 use Rattle.std.specs.List.{list_all}
 use Rattle.std.proofs.lemmas.Bool.{eqb-true, eq-eqb, ne_eqb, and_parts, and_right, or_right}
@@ -15,7 +15,7 @@ use Rattle.realm.specs.Sessions.{who, live, ends, joined, conn_of, may_join, may
 use Rattle.realm.specs.Subscriptions.{held}
 use Rattle.realm.proofs.Conditionals.{clash, cond-same}
 use Rattle.realm.proofs.LiveSessions.{has, live-joined}
-use Rattle.realm.specs.Yield.{yield, events, publication_of, sent_events}
+use Rattle.realm.specs.Yield.{owed, yield, events, publication_of, sent_events}
 
 -- c has joined, and is not live
 pub record IsOver (h : History) (c : ℕ) : Type 0 where
@@ -94,3 +94,15 @@ nothing-given h k e f c ending begins is_history =
     let over : IsOver k c = over-all (h ▷ e) k c begins (λ is. over-ending h e c ending is.1) is_history.0 in
     let elsewhere : eqb (conn_of f) c ≡ false = over-entry k c f over is_history.1 in
     rw (elsewhere, no_events k f c over.ended elsewhere)
+
+over-yield : (k : History) (f : Entry) (c : ℕ) → IsOver k c → may_come k f ≡ true → yield k f c ≡ []
+unfolding yield
+over-yield k f c over come = let elsewhere : eqb (conn_of f) c ≡ false = over-entry k c f over come in rw (elsewhere, no_events k f c over.ended elsewhere)
+
+-- it is owed nothing more, however the history goes on
+pub owed-over : (h k : History) (c : ℕ) → IsOver h c → Begins h k → IsHistory k → owed k c ≡ owed h c
+owed-over h k c over same is_history = refl
+owed-over h (k ▷ f) c over (longer begins) is_history =
+    let there : IsOver k c = over-all h k c begins (λ _. over) is_history.0 in
+    let nothing : yield k f c ≡ [] = over-yield k f c there is_history.1 in
+    ap (λ l. owed k c ++ l) nothing ∙ append-nil (owed k c) ∙ owed-over h k c over begins is_history.0

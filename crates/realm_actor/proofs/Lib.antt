@@ -21,3 +21,4 @@ pub mod HistoryKeepsOrder
 pub mod RunKeepsOrder
 pub mod MadeHistory
 pub mod Lemmas
+pub mod Parting

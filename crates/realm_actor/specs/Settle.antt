@@ -63,6 +63,16 @@ module _ {S : Type 0} where
     pub last_cut : new.last_cut ≡ old.last_cut
     pub handled : new.handled ≡ old.handled
 
+  -- p is the row o, and as it was where its session is live; else its outbox was handed over
+  pub record Parted (h : History) (o p : Row S) : Type 0 where
+    pub conn : p.conn ≡ o.conn
+    pub lives : live h o.conn ≡ true → p ≡ o
+
+  abbrev pub EachParted : History → List (Row S) → List (Row S) → Type 0
+  EachParted h olds news =
+      (length news ≡ length olds)
+      × ((k : ℕ) (o p : Row S) → slice_get olds k ≡ Some o → slice_get news k ≡ Some p → Parted h o p)
+
   -- only the sessions that are live are held, and these as before
   pub record Sweeps (old new : Acting S) : Type 0 where
     pub lives : (c : ℕ) → live old.history c ≡ true → outbox_of new.rows c ≡ outbox_of old.rows c

@@ -1,11 +1,12 @@
 //! The end of a session's outbox.
-ghost use Rattle.std.specs.Prelude.{◌≡◌, ◌++◌, IfOk, IfErr, None, is_some, filter};
+ghost use Rattle.std.specs.Prelude.{◌≡◌, ◌++◌, [], true, IfOk, IfErr, None, Some, is_some, filter};
 ghost use Rattle.outbox_queue.specs.Rule.{Grows};
 ghost use Rattle.realm.specs.History.{Begins};
 ghost use Rattle.realm.specs.Sessions.{live};
-ghost use Rattle.realm_actor.specs.Rows.{Ascending, box_in};
+ghost use Rattle.realm_actor.specs.Rows.{Ascending, EachHome, RowDue, RowHome, box_in};
+ghost use Rattle.realm_actor.specs.Tables.{Sound, has_joined};
 ghost use Rattle.realm_actor.specs.LastCut.{outbox_of};
-ghost use Rattle.realm_actor.specs.Settle.{Emptied, EmptiesOne, IsOther};
+ghost use Rattle.realm_actor.specs.Settle.{EachParted, Emptied, EmptiesOne, IsOther, Parted};
 ghost use Rattle.realm_actor.specs.Invariant.{IsRoomy, Knows, Stands};
 
 use crate::row::{Held, Row};
@@ -14,7 +15,7 @@ use crate::state::State;
 use crate::table::Table;
 use outbox_queue::{Drain, Rest, settle};
 use realm::Realm;
-use realm_inbox::{IdSource, RealmHistory, Shut};
+use realm_inbox::{IdSource, RealmChronicle, RealmHistory, RealmMoment, Shut};
 use session::Item;
 use std::alloc::{AllocError, Global};
 use std::sync::Wait;
@@ -129,9 +130,10 @@ impl<S: Shut, W: IdSource> State<S, W> {
         settle_row(rt, alloc, &mut self.table.rows, drain)
     }
 
-    /// Forgets each session that isn't live.
+    /// Forgets each session that isn't live. Its outbox is handed over to its writer, if it is held.
     pub fn sweep(&mut self)
-        requires { Knows self.old.table }
+        requires sound { Sound self.old.table.realm self.old.table.rows.items }
+        requires knows { Knows self.old.table }
         ensures rows { self.new.table.rows.items ≡ filter (λ r. live self.old.table.realm r.conn)
             self.old.table.rows.items }
         ensures realm { self.new.table.realm ≡ self.old.table.realm }
@@ -144,6 +146,7 @@ impl<S: Shut, W: IdSource> State<S, W> {
     {
         let Table {
             realm,
+            chronicle,
             rows,
             has_ended,
             ..
@@ -152,14 +155,57 @@ impl<S: Shut, W: IdSource> State<S, W> {
             return;
         }
         *has_ended = false;
-        sweep(realm, rows);
+        sweep(realm, chronicle, rows);
+    }
+}
+
+// Hands the row's outbox over to its writer, if it is held, and the session isn't live: the realm's history owes it nothing more then.
+fn hand_over<S: Shut>(realm: &Realm, chronicle: &mut RealmChronicle, row: &mut Row<S>)
+    requires due { RowDue realm.now [] row.old }
+    requires joined { has_joined realm.now row.old.conn ≡ true }
+    requires told { chronicle.old.history ≡ Some realm.now }
+    requires home { RowHome chronicle.old.chronicle row.old }
+    ensures row { Parted realm.now row.old row.new }
+    ensures kept { chronicle.new ≡ chronicle.old }
+{
+    if realm.is_live(row.conn) {
+        return;
+    }
+    let Some(held) = row.held.take() else {
+        return;
+    };
+    let Held {
+        outbox,
+        transport: _,
+        is_full: _,
+        since_wake: _,
+    } = held;
+    outbox.hand_over(RealmHistory::by(chronicle, &RealmMoment::of(realm)));
+}
+
+// The same of each row.
+fn hand_over_ended<S: Shut>(realm: &Realm, chronicle: &mut RealmChronicle, rows: &mut [Row<S>])
+    requires sound { Sound realm.now rows.old }
+    requires told { chronicle.old.history ≡ Some realm.now }
+    requires home { EachHome chronicle.old.chronicle rows.old }
+    ensures rows { EachParted realm.now rows.old rows.new }
+    ensures kept { chronicle.new ≡ chronicle.old }
+{
+    for row in rows.iter_mut() {
+        hand_over(realm, chronicle, row);
     }
 }
 
 // The rows of live sessions stay.
-fn sweep<S: Shut>(realm: &Realm, rows: &mut Vec<Row<S>>)
-    ensures { rows.new.items ≡ filter (λ r. live realm.now r.conn) rows.old.items }
+fn sweep<S: Shut>(realm: &Realm, chronicle: &mut RealmChronicle, rows: &mut Vec<Row<S>>)
+    requires sound { Sound realm.now rows.old.items }
+    requires told { chronicle.old.history ≡ Some realm.now }
+    requires home { EachHome chronicle.old.chronicle rows.old.items }
+    ensures rows { rows.new.items ≡ filter (λ r. live realm.now r.conn) rows.old.items }
+    ensures kept { chronicle.new ≡ chronicle.old }
 {
+    let slots = rows.as_mut_slice();
+    hand_over_ended(realm, chronicle, slots);
     rows.retain(
         |row: &Row<S>| -> bool
             ensures { result ≡ live realm.entry.now row.now.conn }

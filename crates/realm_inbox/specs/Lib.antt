@@ -1,5 +1,6 @@
 pub mod HistoryBeginnings
 pub mod Joins
+pub mod Over
 pub mod Seats
 pub mod InTurn
 pub mod Ends

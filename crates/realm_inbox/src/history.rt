@@ -29,6 +29,7 @@ impl Owed<Item> for RealmMoment {
     ghost use Rattle.realm.specs.History.{Begins};
     ghost use Rattle.realm.specs.Yield.{owed as owed_by};
     ghost use Rattle.realm_inbox.specs.HistoryBeginnings.{begins_same, begins_longer, owed_more};
+    ghost use Rattle.realm_inbox.specs.Over.{OwesNoMore};
 
     ghost begins = { Begins };
 
@@ -41,6 +42,8 @@ impl Owed<Item> for RealmMoment {
     ghost owes_on = { owed_more };
 
     ghost is_of = { λ h chronicle. ⊤ };
+
+    ghost is_over = { OwesNoMore };
 }
 
 impl RealmMoment {

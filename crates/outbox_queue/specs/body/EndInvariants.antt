@@ -26,20 +26,20 @@ module _ {T H : Type 0} (owed : H → ℕ → List T) (belongs : H → TableId �
     pub added : e.added ≡ length (view e.place.pass).added
 
 -- what came with the end that added, as contracts see it
-abbrev pub last_of : {H : Type 0} → Option (Came H) → Option (Last H)
-last_of None = None
-last_of (Some came) = Some (record { history = came.history; full_finds = came.finds.count })
+abbrev pub last_of : {T H : Type 0} → Option (Came H) → List T → Option (Last T H)
+last_of None added = None
+last_of (Some came) added = Some (record { history = came.history; added = added; full_finds = came.finds.count })
 
 module _ {T H : Type 0} (owed : H → ℕ → List T) (is_over : H → ℕ → Type 0) (belongs : H → TableId → Type 0) where
-  -- the other end came over: its pass is one with this one's; what was taken begins what was added, and the history that came vouches for that
-  pub record CameOver (v : View T H) (last : Last H) : Type 0 where
+  -- the other end came over: its pass is one with this one's; what was taken begins what was added, and the history that came, if one did, vouches for that
+  pub record CameOver (v : View T H) (came : Came H) : Type 0 where
     pub adds : v.adds ≡ true
     pub begins : IsPrefix v.taken v.added
-    pub vouches : VouchesFor owed is_over belongs last.history v.conn v.chronicle v.added last.full_finds
+    pub vouches : VouchesFor owed is_over belongs came.history v.conn v.chronicle v.added came.finds.count
 
-  abbrev pub MayHaveCome : View T H → Option (Last H) → Type 0
+  abbrev pub MayHaveCome : View T H → Option (Came H) → Type 0
   MayHaveCome v None = Unit {0}
-  MayHaveCome v (Some last) = CameOver v last
+  MayHaveCome v (Some came) = CameOver v came
 
   -- the taking end has a pass of its queue that takes; what was taken begins what the history seen, which is of the chronicle,
   -- owes the connection, which is that of the pass
@@ -50,4 +50,4 @@ module _ {T H : Type 0} (owed : H → ℕ → List T) (is_over : H → ℕ → T
     pub owes : Owes owed (view e.place.pass).seen (view e.place.pass).conn (view e.place.pass).taken
     pub is_of : IsOf belongs (view e.place.pass).seen (view e.place.pass).chronicle
     pub conn : e.conn ≡ (view e.place.pass).conn
-    pub last : MayHaveCome (view e.place.pass) (last_of e.came)
+    pub last : MayHaveCome (view e.place.pass) e.came

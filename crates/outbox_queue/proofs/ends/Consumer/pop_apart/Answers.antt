@@ -1,9 +1,10 @@
 use Rattle.std.proofs.Common.{◌≡◌, ℕ, length, sym, ap, ◌∙◌, subst, true, Some}
-use Rattle.std.specs.Prelude.{slice_get, Option}
+use Rattle.std.specs.Prelude.{slice_get}
 use Rattle.crossbeam_queue.specs.Passes.{view}
 use Rattle.outbox_queue.specs.Rule.{with_taken}
-use Rattle.outbox_queue.specs.Ends.{Owes, IsOf, Last}
-use Rattle.outbox_queue.specs.body.EndInvariants.{MayHaveCome, last_of}
+use Rattle.outbox_queue.specs.Ends.{Owes, IsOf}
+use Rattle.outbox_queue.specs.body.EndInvariants.{MayHaveCome}
+use Rattle.outbox_queue.proofs.ComingOver.{apart}
 use Rattle.outbox_queue.specs.declared.rule.View.{View}
 use Rattle.outbox_queue.proofs.RuleSteps.{takes}
 use Rattle.outbox_queue.proofs.OwedBeginnings.{owes_next}
@@ -27,5 +28,5 @@ invariant_of-self-2 g c =
       owes = subst Q (sym eq) (owes_next o.begins o.owed o.owes_on v.seen v.conn v.taken x.history x.item old.owes told.3 owes);
       is_of = subst C (sym eq) told.4;
       conn = old.conn ∙ sym (ap (λ u. u.conn) eq);
-      last = let u = with_taken v x in subst (λ (w : View g.row.T.Denot g.row.H.Denot). MayHaveCome o.owed o.is_over o.is_of w (last_of c.self.inside.came)) (sym eq) (subst (λ (l : Option (Last g.row.H.Denot)). MayHaveCome o.owed o.is_over o.is_of u l) (sym (ap (λ a. a.last) c.self.view_is ∙ c.requires)) tt);
+      last = let none = ap (λ a. a.last) c.self.view_is ∙ c.requires in subst (λ (w : View g.row.T.Denot g.row.H.Denot). MayHaveCome o.owed o.is_over o.is_of w c.self.inside.came) (sym eq) (apart o.owed o.is_over o.is_of (with_taken v x) v.added c.self.inside.came none);
     }

@@ -4,14 +4,14 @@ use Rattle.crossbeam_queue.specs.Passes.{view}
 use Rattle.outbox_queue.specs.Rule.{with_taken}
 use Rattle.outbox_queue.specs.Ends.{Owes, IsOf}
 use Rattle.outbox_queue.specs.declared.rule.View.{View}
-use Rattle.outbox_queue.proofs.ComingOver.{came, goes_on}
+use Rattle.outbox_queue.proofs.ComingOver.{came_adds, goes_on}
 use Rattle.outbox_queue.proofs.RuleSteps.{settles, learns_waiting}
 use Rattle.outbox_queue.proofs.OwedBeginnings.{owes_next}
 use Rattle.outbox_queue.proofs.ends.Consumer.pop_rest.Goals as goal
 
 pub pop_counted-requires-clause-rule : goal.pop_counted-requires-clause-rule
 pop_counted-requires-clause-rule g c =
-    let o = g.H.Owed in let mays = c.self.invariant.takes in let may = came o.owed o.is_over o.is_of _ _ c.self.invariant.last (ap (λ a. is_some a.last) c.self.view_is ∙ c.requires) in
+    let o = g.H.Owed in let mays = c.self.invariant.takes in let may = came_adds o.owed o.is_over o.is_of _ _ c.self.invariant.last (ap (λ a. is_some a.last) c.self.view_is ∙ c.requires) in
     (settles o.begins o.is_of o.begins_itself o.begins_on _ _ may mays, learns_waiting o.begins o.is_of o.begins_itself o.begins_on _ _ may mays)
 
 pub invariant_of-self-2 : goal.invariant_of-self-2

@@ -2,9 +2,10 @@ use Rattle.std.proofs.Common.{◌≡◌, ℕ, List, ap, ◌∙◌, sym, subst, r
 use Rattle.std.specs.Prelude.{Option, Some}
 use Rattle.atomic_table.specs.Seated.{TableId}
 use Rattle.crossbeam_queue.specs.Passes.{view}
-use Rattle.outbox_queue.specs.Ends.{IsOf, Last, Owes, Vouches}
+use Rattle.outbox_queue.specs.Ends.{IsOf, IsVouched, Owes}
+use Rattle.outbox_queue.specs.declared.ends.Came.{Came}
 use Rattle.outbox_queue.specs.body.EndInvariants.{CameOver}
-use Rattle.outbox_queue.specs.Rule.{Belongs, Waiting, both}
+use Rattle.outbox_queue.specs.Rule.{Waiting}
 use Rattle.outbox_queue.specs.declared.owed.Note.{Note}
 use Rattle.outbox_queue.specs.declared.rule.View.{View}
 use Rattle.outbox_queue.proofs.ComingOver.{comes, joined, joins}
@@ -32,15 +33,14 @@ invariant_of-self g c =
     let own : from.conn ≡ t.conn = ap (λ w. w.conn) c.requires.whose ∙ sym (ap (λ a. a.conn) vi) in
     let home : from.chronicle ≡ t.chronicle = ap (λ w. w.chronicle) c.requires.whose ∙ sym (ap (λ a. a.chronicle) vi) in
     let knows = now_knows g c in let all = joined o.owed o.is_over o.is_of t end.history end.added in
-    let last : Last g.row.H.Denot = record { history = c.into_parts-end.result.1; full_finds = c.into_place-theirs.result.1.count } in
-    let finds : last.full_finds ≡ from.full_finds = c.into_place-theirs.ensures.finds ∙ ap (λ e. e.full_finds) same.end in
-    let V : g.row.H.Denot × List g.row.T.Denot × ℕ → Type 0 = λ y. Vouches o.owed o.is_over y.0 from.conn y.1 y.2 in
-    let vouches : Vouches o.owed o.is_over last.history from.conn end.added last.full_finds = subst V (λ i. (sym same.history i, ap (λ e. e.added) (sym same.end) i, sym finds i)) same.vouches in
-    let belongs : Belongs o.is_of last.history from.chronicle = subst (λ h. Belongs o.is_of h from.chronicle) (sym same.history) same.chronicle in
-    let before = both (view c.into_place-theirs.result.0) t in
+    let came : Came g.row.H.Denot = record { history = c.into_parts-end.result.1; finds = c.into_place-theirs.result.1 } in
+    let finds : came.finds.count ≡ from.full_finds = c.into_place-theirs.ensures.finds ∙ ap (λ e. e.full_finds) same.end in
+    let V : Option g.row.H.Denot × List g.row.T.Denot × ℕ → Type 0 = λ y. IsVouched o.owed o.is_over y.0 from.conn y.1 y.2 in
+    let vouched : IsVouched o.owed o.is_over came.history from.conn end.added came.finds.count = subst V (λ i. (sym same.history i, ap (λ e. e.added) (sym same.end) i, sym finds i)) same.vouched in
+    let belongs : IsOf o.is_of came.history from.chronicle = subst (λ (h : Option g.row.H.Denot). IsOf o.is_of h from.chronicle) (sym same.history) same.chronicle in
     let W : View g.row.T.Denot g.row.H.Denot → Type 0 = λ u. (waiting : List (Note g.row.T.Denot g.row.H.Denot)) × Waiting o.begins u waiting in
     let waits : W all = subst W (sym c.absorb.ensures.rule ∙ knows) c.absorb.ensures.fact in
-    let came = comes o.owed o.is_over o.is_of o.begins t from.conn from.chronicle end.history end.added last waits.0 own home vouches belongs waits.1 in
+    let over = comes o.owed o.is_over o.is_of o.begins t from.conn from.chronicle end.history end.added came waits.0 own home vouched belongs waits.1 in
     let moved = c.absorb.ensures.queue in
     record {
       is_pass = (moved.0 ∙ old.is_pass.0, moved.2 ∙ old.is_pass.1);
@@ -49,7 +49,7 @@ invariant_of-self g c =
       owes = subst (λ (u : View g.row.T.Denot g.row.H.Denot). Owes o.owed u.seen u.conn u.taken) (sym knows) old.owes;
       is_of = subst (λ (u : View g.row.T.Denot g.row.H.Denot). IsOf o.is_of u.seen u.chronicle) (sym knows) old.is_of;
       conn = old.conn ∙ sym (ap (λ u. u.conn) knows);
-      last = subst (λ (u : View g.row.T.Denot g.row.H.Denot). CameOver o.owed o.is_over o.is_of u last) (sym knows) came;
+      last = subst (λ (u : View g.row.T.Denot g.row.H.Denot). CameOver o.owed o.is_over o.is_of u came) (sym knows) over;
     }
 
 pub returns : goal.returns
@@ -62,5 +62,5 @@ returns g c =
       seen = (ap (λ u. u.seen) knows ∙ ap (λ a. a.seen) vi) i;
       taken = (ap (λ u. u.taken) knows ∙ ap (λ a. a.taken) vi) i;
       empty_finds = (c.absorb.ensures.finds ∙ ap (λ a. a.empty_finds) vi) i;
-      last = Some (record { history = c.into_parts-end.ensures.history i; full_finds = (c.into_place-theirs.ensures.finds ∙ ap (λ e. e.full_finds) c.into_parts-end.ensures.end) i });
+      last = Some (record { history = c.into_parts-end.ensures.history i; added = (ap (λ u. u.added) knows ∙ ap (λ e. e.added) c.into_parts-end.ensures.end) i; full_finds = (c.into_place-theirs.ensures.finds ∙ ap (λ e. e.full_finds) c.into_parts-end.ensures.end) i });
     }

@@ -1,5 +1,5 @@
 use Rattle.std.proofs.Common.{◌≡◌, ◌≤◌}
-use Rattle.outbox_queue.proofs.drain.Drain.wait_over.Given as goal
+use Rattle.outbox_queue.proofs.drain.Drain.wait_whole.Given as goal
 
 abbrev pub invariant-loop : goal.invariant-loop
 invariant-loop g l =

@@ -1,7 +1,7 @@
 use Rattle.std.proofs.Common.{ap, ◌∙◌, sym}
 use Rattle.std.specs.Prelude.{is_some}
 use Rattle.outbox_queue.proofs.ComingOver.{ends_in, stops}
-use Rattle.outbox_queue.proofs.drain.Drain.wait_over.Goals as goal
+use Rattle.outbox_queue.proofs.drain.Drain.wait_whole.Goals as goal
 
 pub returns-then-has_come : goal.returns-then-has_come
 returns-then-has_come g c =
