@@ -47,6 +47,8 @@ impl Owed<Item> for ListHistory {
     ghost owes_on = { owes_on };
 
     ghost is_of = { λ h chronicle. ⊤ };
+
+    ghost is_over = { λ h conn. ⊤ };
 }
 
 /// Adds what is owed, item by item, and then closes the outbox.

@@ -27,4 +27,6 @@ impl Owed<u64> for Numbers {
     ghost owes_on = { owes_on };
 
     ghost is_of = { λ h chronicle. ⊤ };
+
+    ghost is_over = { λ h conn. ⊤ };
 }

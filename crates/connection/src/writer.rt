@@ -1,7 +1,9 @@
 //! The writer of a connection: it takes items and writes their frames.
-ghost use Rattle.std.specs.Prelude.{◌≡◌, ◌≤◌, ◌<◌, ◌++◌, ◌∷◌, ◌⊎◌, [], length, IfOk, IfErr, OnOk, OnErr};
+ghost use Rattle.std.specs.Prelude.{◌≡◌, ◌≤◌, ◌<◌, ◌++◌, ◌∷◌, ◌⊎◌, [], length, IfOk, IfErr, OnOk, OnErr, ⊤};
 ghost use Rattle.rawsocket.specs.Devices.{GrowsByBeginning};
 ghost use Rattle.rawsocket.specs.Steps.{Steps, WholeSteps, meter, told_by};
+ghost use Rattle.outbox_queue.specs.Ends.{TookAll};
+ghost use Rattle.outbox_queue.specs.Outbox.{MatchWaited};
 ghost use Rattle.connection.specs.Writer.{IsWrittenBy, WritesSince, IsLater, write_told};
 ghost use Rattle.connection.specs.body.Writer.{IsOfDevice, HandsOver, EndsBetween, EndsWith, AddsFrame, BreaksAt, Passes, EndsFrom, output};
 
@@ -62,6 +64,15 @@ impl Watch for Unwatched {
 struct Client {
     serializer: Serializer,
     limit: u32,
+}
+
+/// When a writer that finds nothing waiting stops.
+#[derive(Clone, Copy, Drop)]
+enum Until {
+    /// Once the outbox is closed.
+    Closed,
+    /// Once its other end came over, so that nothing can come any more.
+    Whole,
 }
 
 /// Frames that a writer holds back, and the turns that it has left at its device.
@@ -132,12 +143,29 @@ fn pass_on<S: Sink>(sink: &mut S, gathered: &mut Gathered) -> Result<(), WriteEn
     }
 }
 
+/// Waits for the next item, or until there is to be none.
+fn wait<R: Wait, H: Owed<Item>>(rt: &R, drain: &mut Drain<Item, H>, until: Until) -> Waited<Item>
+    ensures took { MatchWaited result (λ item. drain.new.taken ≡ drain.old.taken ++ item ∷ [])
+        (drain.new.taken ≡ drain.old.taken) }
+    ensures drain { IsLater H.begins drain.old drain.new }
+    ensures stopped { MatchWaited result (λ _. ⊤)
+        (drain.old.empty_finds < drain.new.empty_finds) }
+    ensures whole { MatchWaited result (λ _. ⊤)
+        (until ≡ Until.Whole → TookAll H.owed H.is_over drain.new) }
+{
+    match until {
+        Until::Closed => drain.wait_next(rt),
+        Until::Whole => drain.wait_whole(rt),
+    }
+}
+
 /// Takes the next item. Where none waits, all that is gathered is passed on before the next one is waited for.
 fn next_item<R: Wait, H: Owed<Item>, S: Sink>(
     rt: &R,
     drain: &mut Drain<Item, H>,
     sink: &mut S,
     gathered: &mut Gathered,
+    until: Until,
 ) -> Result<Item, WriteEnd>
     ensures took { IfOk result (λ item. drain.new.taken ≡ drain.old.taken ++ item ∷ []) }
     ensures none { OnErr result (drain.new.taken ≡ drain.old.taken) }
@@ -149,6 +177,8 @@ fn next_item<R: Wait, H: Owed<Item>, S: Sink>(
         (output (S.taken sink.old) gathered.old.frames.items) (S.taken sink.new)) }
     ensures stopped { result ≡ Err WriteEnd.Stopped
         → drain.old.empty_finds < drain.new.empty_finds }
+    ensures whole { result ≡ Err WriteEnd.Stopped → until ≡ Until.Whole
+        → TookAll H.owed H.is_over drain.new }
     ensures steps { Steps (meter (S.calls sink.old) (S.failures sink.old) gathered.old.turns)
         (meter (S.calls sink.new) (S.failures sink.new) gathered.new.turns)
         (told_by write_told result) }
@@ -160,7 +190,7 @@ fn next_item<R: Wait, H: Owed<Item>, S: Sink>(
     if let Err(end) = pass_on(sink, gathered) {
         return Err(end);
     }
-    match drain.wait_next(rt) {
+    match wait(rt, drain, until) {
         Waited::Item(item) => Ok(item),
         Waited::Stopped => Err(WriteEnd::Stopped),
     }
@@ -227,6 +257,7 @@ fn write_next<R: Wait, H: Owed<Item>, S: Sink, W: Watch>(
     client: Client,
     gathered: &mut Gathered,
     watch: &mut W,
+    until: Until,
 ) -> Result<(), WriteEnd>
     requires limit { client.limit ≤ 16777215 }
     requires held { length gathered.old.frames.items < 65536 }
@@ -240,11 +271,13 @@ fn write_next<R: Wait, H: Owed<Item>, S: Sink, W: Watch>(
     ensures drain { IsLater H.begins drain.old drain.new }
     ensures stopped { result ≡ Err WriteEnd.Stopped
         → drain.old.empty_finds < drain.new.empty_finds }
+    ensures whole { result ≡ Err WriteEnd.Stopped → until ≡ Until.Whole
+        → TookAll H.owed H.is_over drain.new }
     ensures steps { Steps (meter (S.calls sink.old) (S.failures sink.old) gathered.old.turns)
         (meter (S.calls sink.new) (S.failures sink.new) gathered.new.turns)
         (told_by write_told result) }
 {
-    let item = match next_item(rt, drain, sink, gathered) {
+    let item = match next_item(rt, drain, sink, gathered, until) {
         Ok(item) => item,
         Err(end) => return Err(end),
     };
@@ -279,10 +312,19 @@ pub fn write_items<R: Wait, H: Owed<Item>, S: Sink>(
     ensures writes { WholeSteps (meter (S.calls sink.old) (S.failures sink.old))
         (meter (S.calls sink.new) (S.failures sink.new)) (write_told result.1) }
 {
-    write_watched(rt, alloc, drain, sink, serializer, limit, &mut Unwatched)
+    write_until(
+        rt,
+        alloc,
+        drain,
+        sink,
+        Client { serializer, limit },
+        &mut Unwatched,
+        Until::Closed,
+    )
 }
 
-/// The same as [`write_items`], while somebody watches.
+/// The same, while somebody watches, and until the outbox's other end came over: it ends by [`WriteEnd::Stopped`] only where all that was
+/// added was taken. An outbox that is closed has to be handed over, or dropped, for that.
 pub fn write_watched<R: Wait, H: Owed<Item>, S: Sink, W: Watch>(
     rt: &R,
     alloc: Global,
@@ -298,14 +340,46 @@ pub fn write_watched<R: Wait, H: Owed<Item>, S: Sink, W: Watch>(
         (IsWrittenBy serializer limit result.1) }
     ensures drain { IsLater H.begins drain result.0 }
     ensures stopped { result.1 ≡ WriteEnd.Stopped → drain.empty_finds < result.0.empty_finds }
+    ensures whole { result.1 ≡ WriteEnd.Stopped → TookAll H.owed H.is_over result.0 }
+    ensures writes { WholeSteps (meter (S.calls sink.old) (S.failures sink.old))
+        (meter (S.calls sink.new) (S.failures sink.new)) (write_told result.1) }
+{
+    write_until(
+        rt,
+        alloc,
+        drain,
+        sink,
+        Client { serializer, limit },
+        watch,
+        Until::Whole,
+    )
+}
+
+/// Takes items and writes their frames, until there is to be none.
+fn write_until<R: Wait, H: Owed<Item>, S: Sink, W: Watch>(
+    rt: &R,
+    alloc: Global,
+    drain: Drain<Item, H>,
+    sink: &mut S,
+    client: Client,
+    watch: &mut W,
+    until: Until,
+) -> (Drain<Item, H>, WriteEnd)
+    requires { client.limit ≤ 16777215 }
+    ensures written { WritesSince drain.taken
+        result.0.taken (S.taken sink.old) (S.taken sink.new)
+        (IsWrittenBy client.serializer client.limit result.1) }
+    ensures drain { IsLater H.begins drain result.0 }
+    ensures stopped { result.1 ≡ WriteEnd.Stopped → drain.empty_finds < result.0.empty_finds }
+    ensures whole { result.1 ≡ WriteEnd.Stopped → until ≡ Until.Whole
+        → TookAll H.owed H.is_over result.0 }
     ensures writes { WholeSteps (meter (S.calls sink.old) (S.failures sink.old))
         (meter (S.calls sink.new) (S.failures sink.new)) (write_told result.1) }
 {
     let mut drain = drain;
     let mut gathered = Gathered::nothing(alloc);
     'items: for _ in rt.forever() {
-        let client = Client { serializer, limit };
-        if let Err(end) = write_next(rt, &mut drain, sink, client, &mut gathered, watch) {
+        if let Err(end) = write_next(rt, &mut drain, sink, client, &mut gathered, watch, until) {
             return (drain, end);
         }
     }

@@ -94,6 +94,8 @@ module _ {O S : Type 0} where
         inbox = k.inbox ∙ sym s.2.place;
         own = k.own;
         owes = k.owes;
+        newest_is = k.newest_is;
+        whole = k.whole;
         kept = kept_in k.realm.seen s.0.seen written.seen s.2.seen k.kept;
       }
 
@@ -212,6 +214,8 @@ module _ {I O S : Type 0} (see : Sight I O) (names : List (List ℕ)) where
         inbox = sym r.2 ∙ sym s.2;
         own = writes.later.conn ∙ h.talks.begins.new.1 ∙ own h.session.realm h.poster h.named;
         owes = subst (λ o. Owes owed_kept o written.drain.value.conn written.drain.value.taken) (sym writes.seen) writes.owes;
+        newest_is = writes.seen;
+        whole = writes.whole;
         kept = s.3;
       }
 

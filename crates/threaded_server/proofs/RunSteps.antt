@@ -1,15 +1,18 @@
 -- How the realms ran, and what their histories owe.
-use Rattle.std.proofs.Common.{◌≡◌, ◌<◌, ◌+◌, ℕ, zero, suc, List, [], ◌∷◌, ◌++◌, Option, None, Some, All, IfSome, length, option_map, remove, slice_get, slice_index_or, refl, sym, ap, ◌∙◌, append_assoc, append-nil, arith, subst}
+use Rattle.std.proofs.Common.{◌≡◌, ◌<◌, ◌+◌, ℕ, zero, suc, List, [], ◌∷◌, ◌++◌, Option, None, Some, All, IfSome, length, option_map, remove, slice_get, slice_index_or, refl, sym, ap, ◌∙◌, append_assoc, append-nil, arith, subst, true}
+use Rattle.std.specs.Prelude.{⊤, is_some}
 use mathlib.Core.List.{IsPrefix}
 use mathlib.Core.Logic.{◌⊎◌, inl, inr}
 use Rattle.std.proofs.lemmas.List.Elements.{All-contains, All-cons, All-head, All-nil, All-pop, All-tail, All-weaker}
 use Rattle.std.proofs.lemmas.Option.{get_or_from_slice_get, none-some, same_Some, slice_get_within}
 use Rattle.chronicle.specs.Recorded.{Reaches, Recorded}
-use Rattle.outbox_queue.specs.Ends.{Owes}
+use Rattle.outbox_queue.specs.Ends.{IsVouched, Last, Owes, Taking, TookAll, Vouches, came_with, newest, or_else}
 use Rattle.outbox_queue.specs.Tied.{Kept}
 use Rattle.realm.specs.Grants.{Grants, pairs_of}
 use Rattle.realm.specs.History.{History, Begins}
+use Rattle.realm.specs.Sessions.{IsHistory}
 use Rattle.realm.specs.Yield.{owed}
+use Rattle.realm_actor.specs.ActorView.{Acting}
 use Rattle.realm_inbox.specs.HistoryBeginnings.{owed_more}
 use Rattle.realm_inbox.specs.EndViews.{inbox_of, posted, received}
 use Rattle.realm_inbox.specs.Ends.{Place}
@@ -20,12 +23,12 @@ use Rattle.session.specs.declared.messages.item.Item.{Item}
 use Rattle.std.specs.declared.snapshot.Snapshot.{Snapshot}
 use Rattle.threaded_server.proofs.Places.{get_of_map, get_push_cases, get_seam, map_get, none_left}
 use Rattle.threaded_server.proofs.PosterSteps.{found_poster, found_stands}
-use Rattle.threaded_server.specs.Acts.{Acts}
+use Rattle.threaded_server.specs.Acts.{Acts, ActsBy}
 use Rattle.threaded_server.specs.Posters.{IsOfInbox, Stand, lists_at, poster_at}
 use Rattle.threaded_server.specs.Posts.{AllSay, AreIn, OnlyPosted, posts_at}
 use Rattle.threaded_server.specs.Realms.{AllWerePosted, EachRuns, RunsTo, Shown, inbox_in, places_of, shown}
-use Rattle.threaded_server.specs.Ties.{CourseKept, CourseTied, IsKept, IsKeptIn, IsRun, IsTied, OverKept, OverTied}
-use Rattle.threaded_server.specs.Writes.{owed_kept}
+use Rattle.threaded_server.specs.Ties.{AreAllOwed, CourseKept, CourseTied, IsKept, IsKeptIn, IsRun, IsTied, OverKept, OverTied, TookAllOwed}
+use Rattle.threaded_server.specs.Writes.{over_kept, owed_kept}
 use Rattle.threaded_server.specs.declared.actor_thread.Acted.{Acted}
 use Rattle.threaded_server.specs.declared.actor_thread.ActorThread.{ActorThread}
 use Rattle.threaded_server.specs.declared.realm_handle.RealmHandle.{RealmHandle}
@@ -178,6 +181,41 @@ reached : (own : Option History) (all : List (Kept History)) (o : Option (Kept H
 reached own all None h k = tt
 reached own all (Some kept) h k = All-contains (λ x. Reaches Begins (Some x.history) own) all kept h k
 
+-- each entry may come after those before it
+abbrev IsLegal : Option History → Type 0
+IsLegal None = ⊤
+IsLegal (Some h) = IsHistory h
+
+legal_by : {S : Type 0} (w : ActorThread S) (done : Acted S) (actor : Option (Snapshot (Acting S))) → ActsBy w done actor → IsLegal done.chronicle.history
+legal_by w done None acts = subst (λ (o : Option History). IsLegal o) (sym acts.1) tt
+legal_by w done (Some actor) acts = subst (λ (o : Option History). IsLegal o) (sym acts.history) acts.legal
+
+legal_of : {S : Type 0} (w : ActorThread S) (done : Acted S) → Acts w done → IsLegal done.chronicle.history
+legal_of w done acts = legal_by w done done.actor acts.course
+
+-- what vouches for what was taken begins the history that was made, which owes nothing more
+vouched_by : (own : Option History) (kept : Kept History) (conn : ℕ) (items added : List Item) (finds : ℕ) → Reaches Begins (Some kept.history) own → IsLegal own → items ≡ added → Vouches owed_kept over_kept kept conn added finds → finds ≡ 0
+    → AreAllOwed own conn items
+vouched_by None kept conn items added finds reaches legal all vouches never = absurd reaches
+vouched_by (Some h) kept conn items added finds reaches legal all vouches never = all ∙ vouches.whole never ∙ sym (vouches.over h reaches legal)
+
+by_last : (own : Option History) (history : Option (Kept History)) (seen : Option (Kept History)) (conn : ℕ) (items added : List Item) (finds : ℕ) → IfSome (or_else history seen) (λ kept. Reaches Begins (Some kept.history) own) → IsLegal own
+    → items ≡ added → IsVouched owed_kept over_kept history conn added finds → is_some history ≡ true → finds ≡ 0 → AreAllOwed own conn items
+by_last own None seen conn items added finds reaches legal all vouched is never = absurd (cc is)
+by_last own (Some kept) seen conn items added finds reaches legal all vouched is never = vouched_by own kept conn items added finds reaches legal all vouched never
+
+all_owed : (own : Option History) (all : List (Kept History)) (o : Option (Kept History)) (drain : Taking Item (Kept History)) → All (λ kept. Reaches Begins (Some kept.history) own) all → IsKeptIn all o → o ≡ newest drain → IsLegal own
+    → TookAll owed_kept over_kept drain → TookAllOwed own drain
+all_owed own all o drain begins kept is legal took =
+    let new : IfSome (or_else took.last.history drain.seen) (λ k. Reaches Begins (Some k.history) own) =
+        subst (λ (x : Option (Kept History)). IfSome x (λ k. Reaches Begins (Some k.history) own)) (is ∙ ap (λ (l : Option (Last Item (Kept History))). or_else (came_with l) drain.seen) took.came) (reached own all o begins kept) in
+    record {
+      last = took.last;
+      came = took.came;
+      all = took.all;
+      owed = λ vouched never. by_last own took.last.history drain.seen drain.conn drain.taken took.last.added took.last.full_finds new legal took.all took.vouched vouched never;
+    }
+
 module _ {O S : Type 0} where
   tied : (realms : List (Shown S)) (runs : List (RealmRun S)) (conn : ℕ) (posters : List (Option (Poster S))) (written : Written O) → EachRuns realms runs → IsKept realms conn posters written → IsTied runs conn posters written
   tied realms runs conn posters written each k =
@@ -191,6 +229,7 @@ module _ {O S : Type 0} where
         inbox = k.inbox ∙ ap (λ w. inbox_of w.inbox) (sym r.2.began);
         own = k.own;
         owes = owed_by written.seen own written.drain.value.conn written.drain.value.taken (reached own k.realm.seen written.seen r.2.begins k.kept) k.owes;
+        whole = λ stopped. all_owed own k.realm.seen written.seen written.drain.value r.2.begins k.kept k.newest_is (legal_of r.0.began.value r.0.ended.value r.2.acts) (k.whole stopped);
       }
 
   course_tied : (realms : List (Shown S)) (runs : List (RealmRun S)) (conn : ℕ) (posters : List (Option (Poster S))) (course : Course O) → EachRuns realms runs → CourseKept realms conn posters course → CourseTied runs conn posters course

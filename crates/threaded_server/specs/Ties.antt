@@ -1,6 +1,7 @@
 -- What a session was written, and the history of its realm.
-use Rattle.std.specs.Prelude.{◌≡◌, ⊤, ℕ, List, Option, None, Some, Contains, slice_get}
-use Rattle.outbox_queue.specs.Ends.{Owes}
+use Rattle.std.specs.Prelude.{◌≡◌, ⊤, ℕ, true, List, Option, None, Some, Contains, is_some, slice_get}
+use Rattle.connection.specs.declared.writer.WriteEnd.TheVariants.{Stopped}
+use Rattle.outbox_queue.specs.Ends.{Last, Owes, Taking, TookAll, newest}
 use Rattle.outbox_queue.specs.Tied.{Kept}
 use Rattle.realm.specs.Grants.{Grants, pairs_of}
 use Rattle.realm.specs.History.{History}
@@ -9,7 +10,8 @@ use Rattle.realm_inbox.specs.EndViews.{inbox_of, inbox_of_poster}
 use Rattle.realm_inbox.specs.declared.ends.Poster.{Poster}
 use Rattle.threaded_server.specs.Acts.{Acts}
 use Rattle.threaded_server.specs.Realms.{Shown, inbox_in}
-use Rattle.threaded_server.specs.Writes.{owed_kept}
+use Rattle.session.specs.declared.messages.item.Item.{Item}
+use Rattle.threaded_server.specs.Writes.{over_kept, owed_kept}
 use Rattle.threaded_server.specs.declared.course.Course.{Course}
 use Rattle.threaded_server.specs.declared.course.Course.TheVariants as course
 use Rattle.threaded_server.specs.declared.over.Over.{Over}
@@ -23,6 +25,19 @@ abbrev pub IsKeptIn : List (Kept History) → Option (Kept History) → Type 0
 IsKeptIn all None = ⊤
 IsKeptIn all (Some kept) = Contains all kept
 
+-- these items are all that the history, which there is, owes the connection
+abbrev pub AreAllOwed : Option History → ℕ → List Item → Type 0
+AreAllOwed None conn items = ⊥
+AreAllOwed (Some h) conn items = items ≡ owed h conn
+
+-- the other end of the outbox came over, and all that was added there was taken. Where the actor vouched for it, as it does for each session that it lets go of, and never found the
+-- outbox full, that is all that the history owes
+pub record TookAllOwed (history : Option History) (drain : Taking Item (Kept History)) : Type 0 where
+  pub last : Last Item (Kept History)
+  pub came : drain.last ≡ Some last
+  pub all : drain.taken ≡ last.added
+  pub owed : is_some last.history ≡ true → last.full_finds ≡ 0 → AreAllOwed history drain.conn drain.taken
+
 module _ {O S : Type 0} where
   -- a connection's session was served by the poster of its realm's inbox, and its realm keeps what its writer saw last, which owes the connection what was taken
   pub record IsKept (realms : List (Shown S)) (conn : ℕ) (posters : List (Option (Poster S))) (written : Written O) : Type 0 where
@@ -33,10 +48,12 @@ module _ {O S : Type 0} where
     pub inbox : inbox_of_poster poster ≡ inbox_in realm
     pub own : written.drain.value.conn ≡ conn
     pub owes : Owes owed_kept written.seen written.drain.value.conn written.drain.value.taken
+    pub newest_is : written.seen ≡ newest written.drain.value
+    pub whole : written.end ≡ Stopped → TookAll owed_kept over_kept written.drain.value
     pub kept : IsKeptIn realm.seen written.seen
 
   -- a connection's session was served by the poster of its realm's inbox, on which its realm's actor ran; and what its writer took begins what the history that this actor
-  -- made owes the connection
+  -- made owes the connection. Where the writer stopped it is all of that
   pub record IsTied (runs : List (RealmRun S)) (conn : ℕ) (posters : List (Option (Poster S))) (written : Written O) : Type 0 where
     pub run : RealmRun S
     pub at : slice_get runs written.realm ≡ Some run
@@ -45,6 +62,7 @@ module _ {O S : Type 0} where
     pub inbox : inbox_of_poster poster ≡ inbox_of run.began.value.inbox
     pub own : written.drain.value.conn ≡ conn
     pub owes : Owes owed run.ended.value.chronicle.history written.drain.value.conn written.drain.value.taken
+    pub whole : written.end ≡ Stopped → TookAllOwed run.ended.value.chronicle.history written.drain.value
 
   -- of what became of a stream that had a seat, where a session was served
   abbrev pub CourseKept : List (Shown S) → ℕ → List (Option (Poster S)) → Course O → Type 0

@@ -59,8 +59,9 @@ impl<S: Shut + Send + 'static> Task for ActorThread<S> {
 impl<R: Wait + Copy, S: Shut + Send + 'static> Work<R> for ActorThread<S> {
     ghost use Rattle.threaded_server.specs.Acts.{Acts};
 
-    /// Makes the actor, which runs until it is stopped, marks whose sessions it holds then, and tells that they are marked. What is
-    /// posted behind the stop is turned away until the next stop. Where there was no memory for the realm nothing is received.
+    /// Makes the actor, which runs until it is stopped, marks whose sessions it holds then, hands their outboxes over to their writers, and
+    /// tells that they are marked. What is posted behind the stop is turned away until the next stop. Where there was no memory for the
+    /// realm nothing is received.
     fn run(self, rt: R) -> Acted<S>
         ensures { Acts self result }
     {
@@ -91,9 +92,11 @@ impl<R: Wait + Copy, S: Shut + Send + 'static> Work<R> for ActorThread<S> {
             realm,
             is_told: false,
         };
-        let actor = actor.run_before(&rt, alloc, &mut inbox, &mut onlooker);
+        let mut actor = actor.run_before(&rt, alloc, &mut inbox, &mut onlooker);
         mark_held(&actor, &marks);
+        actor.shows();
         let ended = Snapshot::of(&actor);
+        actor.sweep();
         let chronicle = actor.into_chronicle();
         let _ = teller.send(&rt, true);
         turn_away_rest(&rt, &mut inbox);

@@ -41,7 +41,8 @@ pub struct Written<O> {
     pub realm: usize,
     /// What it wrote to.
     pub sink: Closed<O>,
-    /// The history that the last item named, if it took one.
+    /// The newest history that it knew, if it knew one: that by which its realm's actor vouched for all that was added, else that which the last
+    /// item named.
     pub seen: Option<RealmHistory>,
     /// What it took from, as it left that. It takes no bytes.
     pub drain: Snapshot<Drain<Item, RealmHistory>>,
@@ -54,7 +55,7 @@ pub struct Written<O> {
 impl<O: Drop> Written<O> {
     ghost use Rattle.threaded_server.specs.Overs.{seen_by};
 
-    /// The half that was written to, and what the last item named of its realm's history, if one was taken.
+    /// The half that was written to, and the newest that was known of its realm's history, if anything was.
     pub fn into_parts(self) -> (Closed<O>, Option<Seen>)
         ensures sink { result.0 ≡ self.sink }
         ensures seen { result.1 ≡ seen_by self }
@@ -127,7 +128,7 @@ impl<R: Wait + Copy, O: Sink + Drop + Send + 'static, S: Shut> Work<R> for Write
         transport.shut();
         drain.shows();
         let left = Snapshot::of(&drain);
-        let seen = drain.into_seen();
+        let seen = drain.into_newest();
         drop(pongs);
         Written {
             realm,
