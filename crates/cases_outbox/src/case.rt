@@ -5,16 +5,17 @@ use crate::ends::{Added, Adder, Ends};
 use crate::numbers::Numbers;
 use crate::threads::pass_all;
 use case_text::line_of;
-use outbox_queue::{MOST_ITEMS, Next, Waited, cap_fits, pair, settle};
+use outbox_queue::{Drain, MOST_ITEMS, Next, Waited, cap_fits, pair, settle};
 use std::alloc::{AllocError, Global};
 use std::io;
 use std::sync::Wait;
 use std::thread::Threads;
 
-/// The queue of the present case, if one was made.
+/// The queue of the present case, if one was made; or its drain alone, once the other end was parted with.
 #[derive(Drop)]
 pub struct Case {
     ends: Option<Ends>,
+    alone: Option<Drain<u64, Numbers>>,
 }
 
 /// A queue of this capacity for connection 1, over the numbers from `first`.
@@ -30,7 +31,10 @@ pub fn ends_of(alloc: Global, cap: usize, numbers: Numbers) -> Result<Option<End
 impl Case {
     /// No queue yet.
     pub fn new() -> Case {
-        Case { ends: None }
+        Case {
+            ends: None,
+            alone: None,
+        }
     }
 
     /// Takes a line, and gives what it is answered by.
@@ -43,6 +47,7 @@ impl Case {
         match line.split_once(' ') {
             Some(("#", _)) => {
                 self.ends = None;
+                self.alone = None;
                 line_of(alloc, line)
             }
             Some(("queue", text)) => self.begin(alloc, text),
@@ -66,8 +71,11 @@ impl Case {
 
     /// Does what a word alone asks for.
     fn step<R: Wait>(&mut self, rt: &R, alloc: Global, word: &str) -> io::Result<String> {
-        if word == "settle" {
-            return self.settle(rt, alloc);
+        match word {
+            "settle" => return self.settle(rt, alloc),
+            "part" => return self.part(alloc),
+            "whole" => return self.wait_whole(rt, alloc),
+            _ => {}
         }
         let Some(ends) = &mut self.ends else {
             return line_of(alloc, "no queue");
@@ -82,6 +90,28 @@ impl Case {
             }
             "facts" => facts(alloc, ends),
             _ => line_of(alloc, "no case has this word"),
+        }
+    }
+
+    /// Hands the adding end over to the drain, if all that is owed was added, or drops it.
+    fn part(&mut self, alloc: Global) -> io::Result<String> {
+        let Some(ends) = self.ends.take() else {
+            return line_of(alloc, "no queue");
+        };
+        let Ends { adder, drain } = ends;
+        self.alone = Some(drain);
+        if adder.part() {
+            line_of(alloc, "handed over")
+        } else {
+            line_of(alloc, "dropped")
+        }
+    }
+
+    /// Waits until the adding end came over.
+    fn wait_whole<R: Wait>(&mut self, rt: &R, alloc: Global) -> io::Result<String> {
+        match &mut self.alone {
+            Some(drain) => waited(alloc, drain.wait_whole(rt)),
+            None => line_of(alloc, "no end was parted with"),
         }
     }
 

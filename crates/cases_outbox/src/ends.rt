@@ -86,6 +86,21 @@ impl Adder {
         self.outbox.close();
     }
 
+    /// Hands the outbox over, if all that is owed was added; else drops it. True where it was handed over.
+    pub fn part(self) -> bool {
+        let Adder {
+            outbox,
+            numbers,
+            added,
+        } = self;
+        if added < numbers.count {
+            return false;
+        }
+        outbox.shows();
+        outbox.hand_over(numbers);
+        true
+    }
+
     /// Whether it is closed, its connection, and its capacity.
     pub fn facts(&self) -> (bool, u64, usize) {
         (
