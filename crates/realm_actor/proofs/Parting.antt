@@ -1,6 +1,6 @@
 -- The outboxes of sessions that have ended are handed over.
 use Rattle.std.proofs.Common.{◌≡◌, ◌≢◌, ℕ, zero, suc, ◌+◌, ◌<◌, ◌≤◌, Bool, true, false, cond, List, [], ◌∷◌, ◌++◌, append-nil, filter, length, set, get_or, refl, sym, ap, ◌∙◌, subst, ⊎_elim, arith}
-use Rattle.std.specs.Prelude.{Option, Some, None, slice_get}
+use Rattle.std.specs.Prelude.{⊤, MatchOption, Option, Some, None, is_some, option_map, slice_get}
 use Rattle.std.proofs.Math.ListN.{length-set}
 use Rattle.atomic_table.specs.Seated.{TableId}
 use Rattle.outbox_queue.specs.Ends.{Vouches}
@@ -13,7 +13,9 @@ use Rattle.realm.proofs.NothingAfterAnEnding.{IsOver, owed-over}
 use Rattle.realm_inbox.specs.Over.{OwesNoMore}
 use Rattle.session.specs.declared.messages.item.Item.{Item}
 use Rattle.eligibility.specs.declared.who.Who.{Who}
+use Rattle.realm_actor.specs.declared.row.Held.{Held}
 use Rattle.realm_actor.specs.declared.row.Row.{Row}
+use Rattle.realm_actor.specs.Rows.{RowDue, RowHome}
 use Rattle.realm_actor.specs.OutboxHistory.{Box, Follows, IsHome}
 use Rattle.realm_actor.specs.Settle.{EachParted, Parted}
 use Rattle.realm_actor.specs.Tables.{has_joined}
@@ -40,6 +42,12 @@ pub of_home : (chronicle : TableId) (h : History) (o : Box) → IsHome chronicle
 of_home chronicle h o home picked is = home picked is
 
 module _ {S : Type 0} where
+  pub follows_held : (h : History) (r : Row S) (x : Held S) → r.held ≡ Some x → RowDue h [] r → Follows h [] x.outbox
+  follows_held h r x is due = subst (λ (held : Option (Held S)). MatchOption held ⊤ (λ e. Follows h [] e.outbox)) is due
+
+  pub home_held : (own : TableId) (r : Row S) (x : Held S) → r.held ≡ Some x → RowHome own r → IsHome own x.outbox
+  home_held own r x is home = home x.outbox (ap (option_map (λ (e : Held S). e.outbox)) is)
+
   -- the rows before a place were parted with, the others are as they were
   pub record PartedTo (h : History) (firsts rows : List (Row S)) (i : ℕ) : Type 0 where
     pub same_length : length rows ≡ length firsts

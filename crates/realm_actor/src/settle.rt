@@ -196,6 +196,18 @@ fn hand_over_ended<S: Shut>(realm: &Realm, chronicle: &mut RealmChronicle, rows:
     }
 }
 
+// The same of a Vec.
+fn hand_over_in<S: Shut>(realm: &Realm, chronicle: &mut RealmChronicle, rows: &mut Vec<Row<S>>)
+    requires sound { Sound realm.now rows.old.items }
+    requires told { chronicle.old.history ≡ Some realm.now }
+    requires home { EachHome chronicle.old.chronicle rows.old.items }
+    ensures rows { EachParted realm.now rows.old.items rows.new.items }
+    ensures kept { chronicle.new ≡ chronicle.old }
+{
+    let rows = rows.as_mut_slice();
+    hand_over_ended(realm, chronicle, rows);
+}
+
 // The rows of live sessions stay.
 fn sweep<S: Shut>(realm: &Realm, chronicle: &mut RealmChronicle, rows: &mut Vec<Row<S>>)
     requires sound { Sound realm.now rows.old.items }
@@ -204,8 +216,7 @@ fn sweep<S: Shut>(realm: &Realm, chronicle: &mut RealmChronicle, rows: &mut Vec<
     ensures rows { rows.new.items ≡ filter (λ r. live realm.now r.conn) rows.old.items }
     ensures kept { chronicle.new ≡ chronicle.old }
 {
-    let slots = rows.as_mut_slice();
-    hand_over_ended(realm, chronicle, slots);
+    hand_over_in(realm, chronicle, rows);
     rows.retain(
         |row: &Row<S>| -> bool
             ensures { result ≡ live realm.entry.now row.now.conn }
