@@ -1,5 +1,5 @@
 -- What faults tell of devices.
-use Rattle.std.proofs.Common.{◌≡◌, refl, sym, subst, ℕ, List, Result, Ok, Err}
+use Rattle.std.proofs.Common.{◌≡◌, refl, sym, ap, subst, ℕ, Bool, true, List, Result, Ok, Err}
 use Rattle.std.specs.Prelude.{IfErr}
 use Rattle.rawsocket.specs.Steps.{Fine, Meter, Told, WholeSteps, told_by}
 use Rattle.client.specs.declared.client_message.ClientMessage.{ClientMessage}
@@ -10,13 +10,13 @@ use Rattle.client_session.specs.Hearing.{Terms}
 use Rattle.client_session.specs.Saying.{IsCutShort}
 use Rattle.client_session.specs.Sessions.{opening_read_told, opening_write_told, session_read_told, session_write_told}
 use Rattle.client_session.specs.declared.fault.Fault as link_faults
-use Rattle.client_session.specs.declared.fault.Fault.TheVariants.{NoMemory, ReadFault, TooManyReads}
+use Rattle.client_session.specs.declared.fault.Fault.TheVariants.{NoMemory, Ended, ReadFault, TooManyReads}
 use Rattle.client_session.specs.declared.welcomed.NoSession.{NoSession}
 use Rattle.client_session.specs.declared.welcomed.NoSession.TheVariants as no_session
 use Rattle.client_session.specs.declared.welcomed.Unheard.{Unheard}
 use Rattle.client_session.specs.declared.welcomed.Unheard.TheVariants as unheard
 use Rattle.client_commands.specs.declared.fault.Fault.{Fault}
-use Rattle.client_commands.specs.Faults.{IsOfBroker, IsOfHere, IsOfLink, input_told, of_hearing, of_link, of_message, of_opening, output_told, sink_told, source_told}
+use Rattle.client_commands.specs.Faults.{IsNoEnd, IsOfBroker, IsOfHere, IsOfLink, IsOfNoContents, TellsEnd, input_told, of_hearing, of_link, of_message, of_opening, output_told, sink_told, source_told}
 
 -- a fault of the link tells of it what it tells as a fault of a command
 pub of_link-read : (f : link_faults.Fault) → source_told (of_link f) ≡ read_told f
@@ -43,6 +43,41 @@ of_hearing-aside (unheard.Failed fault) = of_link-aside fault
 pub of_link-is : (f : link_faults.Fault) → IsOfLink (of_link f)
 of_link-is NoMemory = tt
 of_link-is _ = tt
+
+-- nor does it tell of what is to be published
+pub of_link-carried : (f : link_faults.Fault) → IsOfNoContents (of_link f)
+of_link-carried NoMemory = refl
+of_link-carried _ = refl
+
+pub of_opening-carried : (f : NoSession) → IsOfNoContents (of_opening f)
+of_opening-carried (no_session.Aborted reason) = refl
+of_opening-carried no_session.Unexpected = refl
+of_opening-carried (no_session.Failed fault) = of_link-carried fault
+
+pub of_hearing-carried : (f : Unheard) → IsOfNoContents (of_hearing f)
+of_hearing-carried unheard.ForeignEvent = refl
+of_hearing-carried (unheard.Failed fault) = of_link-carried fault
+
+pub of_message-carried : (h : Heard) → IsOfNoContents (of_message h)
+of_message-carried (heard.Abort reason) = refl
+of_message-carried (heard.Error kind request reason) = refl
+of_message-carried (heard.Goodbye reason) = refl
+of_message-carried _ = refl
+
+-- the end of the stream is told as the link tells it
+pub of_link-end : (f : link_faults.Fault) (ended : Bool) → (f ≡ Ended → ended ≡ true) → TellsEnd ended (of_link f)
+of_link-end NoMemory ended w is = absurd (cc)
+of_link-end Ended ended w is = w refl
+of_link-end _ ended w is = absurd (cc)
+
+pub of_opening-end : (f : NoSession) (ended : Bool) → (f ≡ no_session.Failed Ended → ended ≡ true) → TellsEnd ended (of_opening f)
+of_opening-end (no_session.Aborted reason) ended w is = absurd (cc)
+of_opening-end no_session.Unexpected ended w is = absurd (cc)
+of_opening-end (no_session.Failed fault) ended w is = of_link-end fault ended (λ e. w (ap (λ f. no_session.Failed f) e)) is
+
+pub of_hearing-end : (f : Unheard) (ended : Bool) → (f ≡ unheard.Failed Ended → ended ≡ true) → TellsEnd ended (of_hearing f)
+of_hearing-end unheard.ForeignEvent ended w is = absurd (cc)
+of_hearing-end (unheard.Failed fault) ended w is = of_link-end fault ended (λ e. w (ap (λ f. unheard.Failed f) e)) is
 
 pub of_hearing-read : (f : Unheard) → source_told (of_hearing f) ≡ session_read_told f
 of_hearing-read unheard.ForeignEvent = refl
@@ -72,6 +107,16 @@ cut_short-unread t said before now ReadFault w = absurd w.1
 cut_short-unread t said before now TooManyReads w = absurd w.1
 cut_short-unread t said before now _ w = refl
 
+-- a fault that tells of no end
+pub no-end : (fault : Fault) (ended : Bool) → IsNoEnd fault → TellsEnd ended fault
+no-end fault ended none is = absurd (cc (none, is))
+
+-- nor that it ended
+pub cut_short-unended : (t : Terms) (said : ClientMessage) (before now : List ℕ) (f : link_faults.Fault) → IsCutShort t said before now f → IsNoEnd (of_link f)
+cut_short-unended t said before now NoMemory w = refl
+cut_short-unended t said before now Ended w = absurd w.1
+cut_short-unended t said before now _ w = refl
+
 pub of_message-aside : (h : Heard) → IsOfBroker (of_message h)
 of_message-aside (heard.Abort reason) = record { input = refl; output = refl }
 of_message-aside (heard.Error kind request reason) = record { input = refl; output = refl }
@@ -79,10 +124,10 @@ of_message-aside (heard.Goodbye reason) = record { input = refl; output = refl }
 of_message-aside _ = record { input = refl; output = refl }
 
 pub of_message-here : (h : Heard) → IsOfHere (of_message h)
-of_message-here (heard.Abort reason) = record { source = refl; sink = refl }
-of_message-here (heard.Error kind request reason) = record { source = refl; sink = refl }
-of_message-here (heard.Goodbye reason) = record { source = refl; sink = refl }
-of_message-here _ = record { source = refl; sink = refl }
+of_message-here (heard.Abort reason) = record { source = refl; sink = refl; end = refl }
+of_message-here (heard.Error kind request reason) = record { source = refl; sink = refl; end = refl }
+of_message-here (heard.Goodbye reason) = record { source = refl; sink = refl; end = refl }
+of_message-here _ = record { source = refl; sink = refl; end = refl }
 
 -- a fault of the broker tells nothing of the standard input
 pub aside-input : {X : Type 0} (r : Result X Fault) → IfErr r IsOfBroker → told_by input_told r ≡ Fine

@@ -1,5 +1,6 @@
 pub mod CauseLemmas
 pub mod ContinuingLemmas
+pub mod EndsLemmas
 pub mod EntriesLemmas
 pub mod FaultLemmas
 pub mod ListeningLemmas

@@ -1,5 +1,5 @@
 -- What the faults of a command tell of each device.
-use Rattle.std.specs.Prelude.{◌≡◌, ◌+◌, ℕ, ⊤, Bool, true, false}
+use Rattle.std.specs.Prelude.{◌≡◌, ◌+◌, ◌||◌, ℕ, ⊤, Bool, true, false}
 use Rattle.rawsocket.specs.Steps.{Told, Fine, Failed, NoTurn, failures_told}
 use Rattle.client_session.specs.Faults.{read_told, write_told}
 use Rattle.client_session.specs.declared.fault.Fault as link_faults
@@ -11,7 +11,7 @@ use Rattle.client_session.specs.declared.welcomed.Unheard.TheVariants as unheard
 use Rattle.client.specs.declared.heard.Heard.{Heard}
 use Rattle.client.specs.declared.heard.Heard.TheVariants.{Abort, Goodbye, Error}
 use Rattle.client_commands.specs.declared.fault.Fault.{Fault}
-use Rattle.client_commands.specs.declared.fault.Fault.TheVariants.{NoMemory, ReadFault, WriteFault, TooManyTurns, Refused, Connection, Unexpected, ForeignEvent, Closed}
+use Rattle.client_commands.specs.declared.fault.Fault.TheVariants.{NoMemory, ReadFault, WriteFault, Usage, BadLine, TooManyTurns, Refused, Connection, Unexpected, ForeignEvent, Closed}
 
 -- a fault of the link to the broker
 abbrev pub of_link : link_faults.Fault → Fault
@@ -50,6 +50,33 @@ IsOfNoMessage fault = is_of_message fault ≡ false
 -- where a message gave the fault, it is this one
 abbrev pub IsOfMessage : Heard → Fault → Type 0
 IsOfMessage heard fault = is_of_message fault ≡ true → fault ≡ of_message heard
+
+-- a fault that only what is to be published gives
+abbrev pub is_of_contents : Fault → Bool
+is_of_contents Usage = true
+is_of_contents (BadLine number) = true
+is_of_contents _ = false
+
+-- a fault that it doesn't give
+abbrev pub IsOfNoContents : Fault → Type 0
+IsOfNoContents fault = is_of_contents fault ≡ false
+
+-- a fault that a message of the broker gives, or what is to be published
+abbrev pub is_blamed : Fault → Bool
+is_blamed fault = is_of_message fault || is_of_contents fault
+
+-- the broker ended the connection
+abbrev pub is_end : Fault → Bool
+is_end (Connection link.Ended) = true
+is_end _ = false
+
+-- the fault tells nothing of that
+abbrev pub IsNoEnd : Fault → Type 0
+IsNoEnd fault = is_end fault ≡ false
+
+-- where it tells it, the stream told its end
+abbrev pub TellsEnd : Bool → Fault → Type 0
+TellsEnd ended fault = is_end fault ≡ true → ended ≡ true
 
 -- what a fault tells of what is read from the broker
 abbrev pub source_told : Fault → Told
@@ -92,3 +119,4 @@ pub record IsOfBroker (fault : Fault) : Type 0 where
 pub record IsOfHere (fault : Fault) : Type 0 where
   pub source : source_told fault ≡ Fine
   pub sink : sink_told fault ≡ Fine
+  pub end : IsNoEnd fault

@@ -4,3 +4,4 @@ pub mod Faults
 pub mod Notes
 pub mod Acts
 pub mod Lines
+pub mod Ends

@@ -6,7 +6,7 @@ ghost use Rattle.session.specs.Opened.{exchange};
 ghost use Rattle.client_session.specs.Hearing.{HearsNext};
 ghost use Rattle.client_session.specs.Saying.{saying};
 ghost use Rattle.client_commands.specs.Acts.{Continues, standing, terms_of};
-ghost use Rattle.client_commands.specs.Faults.{IsOfBroker, IsOfHere, IsOfLink, IsOfNoMessage, of_message, sink_told, source_told};
+ghost use Rattle.client_commands.specs.Faults.{IsNoEnd, IsOfBroker, IsOfHere, IsOfLink, IsOfNoContents, IsOfNoMessage, TellsEnd, of_message, sink_told, source_told};
 
 use crate::fault::Fault;
 use client_session::{ClientMessage, ClientSession, Heard, Link};
@@ -27,6 +27,8 @@ pub(crate) fn say<O: Sink>(
     ensures unread { told_by source_told result ≡ Fine }
     ensures link { IfErr result IsOfLink }
     ensures unblamed { IfErr result IsOfNoMessage }
+    ensures carried { IfErr result IsOfNoContents }
+    ensures unended { IfErr result IsNoEnd }
     ensures aside { IfErr result IsOfBroker }
     ensures writes { WholeSteps (meter (O.calls sink.old) (O.failures sink.old))
         (meter (O.calls sink.new) (O.failures sink.new)) (told_by sink_told result) }
@@ -50,6 +52,8 @@ pub(crate) fn hear<I: Source, O: Sink>(
     ensures goes_on { Continues (exchange (I.given source.old) (O.taken sink.old))
         (exchange (I.given source.new) (O.taken sink.new)) }
     ensures unblamed { IfErr result IsOfNoMessage }
+    ensures carried { IfErr result IsOfNoContents }
+    ensures gone { IfErr result (TellsEnd (I.is_ended source.new)) }
     ensures aside { IfErr result IsOfBroker }
     ensures terms { terms_of session.new ≡ terms_of session.old }
     ensures reads { WholeSteps (meter (I.calls source.old) (I.failures source.old))
@@ -66,6 +70,7 @@ pub(crate) fn hear<I: Source, O: Sink>(
 /// Why a message that nothing waits for ends a command.
 pub(crate) fn fault_of(heard: Heard) -> Fault
     ensures why { result ≡ of_message heard }
+    ensures carried { IsOfNoContents result }
     ensures of_broker { IsOfBroker result }
     ensures of_here { IsOfHere result }
 {

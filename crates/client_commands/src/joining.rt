@@ -4,7 +4,7 @@ ghost use Rattle.rawsocket.specs.Steps.{told_by};
 ghost use Rattle.session.specs.Opened.{exchange};
 ghost use Rattle.client.specs.declared.client_message.ClientMessage.TheVariants.{Hello as HelloSaid};
 ghost use Rattle.client_commands.specs.Acts.{IsTurnedAway, Joins};
-ghost use Rattle.client_commands.specs.Faults.{AreFailuresTold, IsOfBroker, is_of_message, sink_told, source_told};
+ghost use Rattle.client_commands.specs.Faults.{AreFailuresTold, IsOfBroker, IsOfNoContents, TellsEnd, is_of_message, sink_told, source_told};
 
 use crate::command::Contact;
 use crate::fault::Fault;
@@ -50,6 +50,8 @@ pub(crate) fn join<I: Source, O: Sink>(
         → IsTurnedAway contact.now.serializer contact.now.realm contact.now.authid
         (exchange (I.given source.old) (O.taken sink.old))
         (exchange (I.given source.new) (O.taken sink.new)) fault) }
+    ensures carried { IfErr result IsOfNoContents }
+    ensures gone { IfErr result (TellsEnd (I.is_ended source.new)) }
     ensures aside { IfErr result IsOfBroker }
     ensures reads { AreFailuresTold (I.failures source.old) (I.failures source.new)
         (told_by source_told result) }

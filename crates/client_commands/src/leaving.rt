@@ -5,7 +5,7 @@ ghost use Rattle.rawsocket.specs.Steps.{Fine, told_by};
 ghost use Rattle.session.specs.Opened.{exchange};
 ghost use Rattle.client_session.specs.Saying.{saying};
 ghost use Rattle.client_commands.specs.Acts.{Continues, IsCaused, Leaves, standing, terms_of, writing};
-ghost use Rattle.client_commands.specs.Faults.{AreFailuresTold, IsOfBroker, is_of_message, sink_told, source_told};
+ghost use Rattle.client_commands.specs.Faults.{AreFailuresTold, IsNoEnd, IsOfBroker, IsOfNoContents, TellsEnd, is_of_message, sink_told, source_told};
 
 use crate::fault::Fault;
 use crate::hearing::{fault_of, hear, say};
@@ -42,6 +42,8 @@ pub(crate) fn leave<I: Source, O: Sink>(
         (writing (standing session.old (I.given source.old) (O.taken sink.old))
         (saying session.old.line.serializer ClientMessage.Goodbye))
         (exchange (I.given source.new) (O.taken sink.new))) }
+    ensures carried { IfErr result IsOfNoContents }
+    ensures gone { IfErr result (TellsEnd (I.is_ended source.new)) }
     ensures aside { IfErr result IsOfBroker }
     ensures reads { AreFailuresTold (I.failures source.old) (I.failures source.new)
         (told_by source_told result) }
@@ -80,6 +82,8 @@ pub(crate) fn answer_goodbye<O: Sink>(
     ensures begun { GrowsByBeginning (O.taken sink.old) (O.taken sink.new)
         (saying session.now.line.serializer ClientMessage.Goodbye) }
     ensures closed { is_of_message result ≡ true → result ≡ Fault.Closed reason }
+    ensures carried { IsOfNoContents result }
+    ensures unended { IsNoEnd result }
     ensures unread { source_told result ≡ Fine }
     ensures aside { IsOfBroker result }
     ensures writes { AreFailuresTold (O.failures sink.old) (O.failures sink.new)

@@ -1,9 +1,10 @@
 //! The arguments of publications.
-ghost use Rattle.std.specs.Prelude.{◌≡◌, ◌≢◌, IfOk, IfErr, None, Some, true};
+ghost use Rattle.std.specs.Prelude.{◌≡◌, ◌≢◌, ◌⊎◌, IfOk, IfErr, Err, None, Some, false, true};
 ghost use Rattle.message_tree.specs.View.{view};
-ghost use Rattle.message_tree.specs.Data.{list, item, no_items};
+ghost use Rattle.message_tree.specs.Data.{is_carried, list, item, no_items};
 ghost use Rattle.session.specs.Arguments.{is_args, is_kwargs};
-ghost use Rattle.client_commands.specs.Faults.{IsOfBroker, IsOfHere};
+ghost use Rattle.client_commands.specs.Ends.{AreUncarried, IsUnread, arguments_of};
+ghost use Rattle.client_commands.specs.Faults.{IsOfBroker, IsOfHere, is_blamed};
 ghost use Rattle.client_commands.specs.Lines.{IsArgumentsOfLine};
 
 use crate::fault::Fault;
@@ -17,7 +18,8 @@ const DEEPEST: usize = 99;
 
 /// Whether a message can carry this: a list.
 fn is_list(content: &Content) -> bool
-    ensures { result ≡ true → is_args content.now ≡ true }
+    ensures list { result ≡ true → is_args content.now ≡ true }
+    ensures other { result ≡ false → is_args content.now ≡ true → is_carried content.now ≡ false }
 {
     match content.tree() {
         Tree::List(_) => true,
@@ -27,7 +29,8 @@ fn is_list(content: &Content) -> bool
 
 /// Whether it is a dictionary.
 fn is_dictionary(content: &Content) -> bool
-    ensures { result ≡ true → is_kwargs content.now ≡ true }
+    ensures dictionary { result ≡ true → is_kwargs content.now ≡ true }
+    ensures other { result ≡ false → is_kwargs content.now ≡ true → is_carried content.now ≡ false }
 {
     match content.tree() {
         Tree::Dict(_) => true,
@@ -40,7 +43,9 @@ fn is_dictionary(content: &Content) -> bool
 /// # Errors
 /// [`Fault::Usage`] where no message does, [`Fault::NoMemory`].
 pub(crate) fn args_of(alloc: Global, args: Content, kwargs: &Option<Content>) -> Result<Args, Fault>
-    ensures carried { IfOk result (λ a. a ≡ record { args = Some args; kwargs = kwargs.now }) }
+    ensures carried { IfOk result (λ a. a ≡ arguments_of args kwargs.now) }
+    ensures uncarried { result ≡ Err Fault.Usage → AreUncarried (arguments_of args kwargs.now) }
+    ensures fault { IfErr result (λ f. (f ≡ Fault.NoMemory) ⊎ (f ≡ Fault.Usage)) }
     ensures here { IfErr result IsOfHere }
     ensures aside { IfErr result IsOfBroker }
 {
@@ -70,6 +75,8 @@ pub(crate) fn args_of_line(
     kwargs: &Option<Content>,
 ) -> Result<Args, Fault>
     ensures carried { IfOk result (λ a. IsArgumentsOfLine kwargs.now line.now a) }
+    ensures unread { IfErr result (λ f. is_blamed f ≡ true
+        → (f ≡ Fault.BadLine number) × IsUnread kwargs.now line.now) }
     ensures here { IfErr result IsOfHere }
     ensures aside { IfErr result IsOfBroker }
 {
@@ -80,7 +87,7 @@ pub(crate) fn args_of_line(
     let args = Content::of(Tree::List(vec![in alloc; value]?));
     match args_of(alloc, args, kwargs) {
         Ok(args) => Ok(args),
-        Err(Fault::NoMemory) => Err(Fault::NoMemory),
-        Err(_) => Err(Fault::BadLine(number)),
+        Err(Fault::Usage) => Err(Fault::BadLine(number)),
+        Err(_) => Err(Fault::NoMemory),
     }
 }

@@ -1,12 +1,13 @@
 //! `publish`.
-ghost use Rattle.std.specs.Prelude.{◌≡◌, ◌<◌, ◌++◌, ◌+◌, ℕ, List, [], IfOk, IfErr, OnOk, Some, length, true};
+ghost use Rattle.std.specs.Prelude.{◌≡◌, ◌≢◌, ◌⊎◌, ◌<◌, ◌++◌, ◌+◌, ℕ, List, [], IfOk, IfErr, OnOk, Some, false, length, true};
 ghost use Rattle.rawsocket.specs.Steps.{WholeSteps, failures_told, meter, told_by};
 ghost use Rattle.session.specs.Opened.{exchange};
 ghost use Rattle.client.specs.declared.heard.Heard.TheVariants.{Published as PublishedHeard};
 ghost use Rattle.client_session.specs.Hearing.{Ear};
-ghost use Rattle.client_commands.specs.Acts.{Acknowledges, IsPublished, publication, standing, terms_of};
+ghost use Rattle.client_commands.specs.Acts.{Acknowledges, IsPublished, IsTurnedAway, publication, standing, terms_of};
+ghost use Rattle.client_commands.specs.Ends.{EndsAtLine, EndsInAll, EndsInInput, EndsInLines, EndsInWords, EndsPublishing, HearsAnother, IsUnacknowledged};
 ghost use Rattle.client_commands.specs.Lines.{IsPublishedOf, IsReadToEnd, Publishes, PublishesAll, PublishesInput, PublishesLine};
-ghost use Rattle.client_commands.specs.Faults.{AreFailuresTold, IsOfBroker, input_told, output_told, sink_told, source_told};
+ghost use Rattle.client_commands.specs.Faults.{AreFailuresTold, IsOfBroker, IsOfNoContents, TellsEnd, input_told, is_blamed, is_of_message, output_told, sink_told, source_told};
 
 use crate::command::{Arguments, PublishCommand};
 use crate::fault::Fault;
@@ -32,6 +33,12 @@ fn await_published<I: Source, O: Sink>(
     ensures published { OnOk result (Acknowledges true (terms_of session.old) request
         (standing session.old (I.given source.old) (O.taken sink.old))
         (standing session.new (I.given source.new) (O.taken sink.new))) }
+    ensures another { IfErr result (λ fault. is_of_message fault ≡ true
+        → HearsAnother (terms_of session.old) request
+        (standing session.old (I.given source.old) (O.taken sink.old))
+        (standing session.new (I.given source.new) (O.taken sink.new)) fault) }
+    ensures carried { IfErr result IsOfNoContents }
+    ensures gone { IfErr result (TellsEnd (I.is_ended source.new)) }
     ensures terms { terms_of session.new ≡ terms_of session.old }
     ensures aside { IfErr result IsOfBroker }
     ensures reads { AreFailuresTold (I.failures source.old) (I.failures source.new)
@@ -51,7 +58,8 @@ fn await_published<I: Source, O: Sink>(
 
 /// Whether this is the PUBLISHED of a request.
 fn is_published(heard: &Heard, asked: Id) -> bool
-    ensures { result ≡ true → (publication : ℕ) × (heard.now ≡ PublishedHeard asked publication) }
+    ensures published { result ≡ true → (publication : ℕ) × (heard.now ≡ PublishedHeard asked publication) }
+    ensures other { result ≡ false → (publication : ℕ) → heard.now ≢ PublishedHeard asked publication }
 {
     match heard {
         Heard::Published { request, .. } => request.value() == asked.value(),
@@ -92,6 +100,12 @@ fn publish_as<I: Source, O: Sink>(
     ensures published { OnOk result (IsPublished command.now.wishes command.now.topic (terms_of session.old) request args
         (standing session.old (I.given source.old) (O.taken sink.old))
         (standing session.new (I.given source.new) (O.taken sink.new))) }
+    ensures unacknowledged { IfErr result (λ fault. is_of_message fault ≡ true
+        → IsUnacknowledged command.now.wishes command.now.topic (terms_of session.old) request args
+        (standing session.old (I.given source.old) (O.taken sink.old))
+        (standing session.new (I.given source.new) (O.taken sink.new)) fault) }
+    ensures carried { IfErr result IsOfNoContents }
+    ensures gone { IfErr result (TellsEnd (I.is_ended source.new)) }
     ensures terms { terms_of session.new ≡ terms_of session.old }
     ensures aside { IfErr result IsOfBroker }
     ensures reads { AreFailuresTold (I.failures source.old) (I.failures source.new)
@@ -126,6 +140,12 @@ fn publish_line<I: Source, O: Sink>(
         (standing session.new (I.given source.new) (O.taken sink.new))) }
     ensures rest { OnOk result (progress.new.rest.items ≡ []) }
     ensures count { OnOk result (progress.new.count ≡ progress.old.count + 1) }
+    ensures ends { IfErr result (λ fault. is_blamed fault ≡ true
+        → EndsAtLine command.now.wishes command.now.topic command.now.kwargs (terms_of session.old)
+        (progress.old.count + 1) progress.old.rest.items
+        (standing session.old (I.given source.old) (O.taken sink.old))
+        (standing session.new (I.given source.new) (O.taken sink.new)) fault) }
+    ensures gone { IfErr result (TellsEnd (I.is_ended source.new)) }
     ensures terms { terms_of session.new ≡ terms_of session.old }
     ensures aside { IfErr result IsOfBroker }
     ensures reads { AreFailuresTold (I.failures source.old) (I.failures source.new)
@@ -169,6 +189,14 @@ fn publish_piece<I: Source, O: Sink>(
         → IsPublishedOf command.now.wishes command.now.topic command.now.kwargs (terms_of session.old) before
         (standing session.new (I.given source.new) (O.taken sink.new))
         (input ++ piece.now) progress.new.rest.items progress.new.count) }
+    ensures ends { IfErr result (λ fault. is_blamed fault ≡ true → (before : Ear) (input : List ℕ)
+        → IsPublishedOf command.now.wishes command.now.topic command.now.kwargs (terms_of session.old) before
+        (standing session.old (I.given source.old) (O.taken sink.old))
+        input progress.old.rest.items progress.old.count
+        → EndsInLines command.now.wishes command.now.topic command.now.kwargs (terms_of session.old) before
+        (standing session.new (I.given source.new) (O.taken sink.new))
+        (input ++ piece.now) fault) }
+    ensures gone { IfErr result (TellsEnd (I.is_ended source.new)) }
     ensures terms { terms_of session.new ≡ terms_of session.old }
     ensures aside { IfErr result IsOfBroker }
     ensures reads { AreFailuresTold (I.failures source.old) (I.failures source.new)
@@ -212,6 +240,14 @@ fn publish_last<I: Source, O: Sink>(
         → PublishesInput command.now.wishes command.now.topic command.now.kwargs (terms_of session.old) before
         (standing session.new (I.given source.new) (O.taken sink.new))
         given_before given) }
+    ensures ends { IfErr result (λ fault. is_blamed fault ≡ true → (before : Ear) (input : List ℕ)
+        → IsPublishedOf command.now.wishes command.now.topic command.now.kwargs (terms_of session.old) before
+        (standing session.old (I.given source.old) (O.taken sink.old))
+        input progress.old.rest.items progress.old.count
+        → EndsInLines command.now.wishes command.now.topic command.now.kwargs (terms_of session.old) before
+        (standing session.new (I.given source.new) (O.taken sink.new))
+        input fault) }
+    ensures gone { IfErr result (TellsEnd (I.is_ended source.new)) }
     ensures terms { terms_of session.new ≡ terms_of session.old }
     ensures aside { IfErr result IsOfBroker }
     ensures reads { AreFailuresTold (I.failures source.old) (I.failures source.new)
@@ -244,6 +280,12 @@ fn publish_pieces<I: Source, O: Sink, J: Source>(
         (standing session.new (I.given source.new) (O.taken sink.new))
         (J.given input.old) (J.given input.new)) }
     ensures ended { OnOk result (J.is_ended input.new ≡ true) }
+    ensures ends { IfErr result (λ fault. is_blamed fault ≡ true
+        → EndsInInput command.now.wishes command.now.topic command.now.kwargs (terms_of session.old)
+        (standing session.old (I.given source.old) (O.taken sink.old))
+        (standing session.new (I.given source.new) (O.taken sink.new))
+        (J.given input.old) (J.given input.new) fault) }
+    ensures gone { IfErr result (TellsEnd (I.is_ended source.new)) }
     ensures terms { terms_of session.new ≡ terms_of session.old }
     ensures reads { AreFailuresTold (I.failures source.old) (I.failures source.new)
         (told_by source_told result) }
@@ -288,6 +330,12 @@ fn publish_lines<I: Source, O: Sink, J: Source>(
         (standing session.new (I.given source.new) (O.taken sink.new))
         (J.given input.old) (J.given input.new)) }
     ensures ended { OnOk result (J.is_ended input.new ≡ true) }
+    ensures ends { IfErr result (λ fault. is_blamed fault ≡ true
+        → EndsInInput command.now.wishes command.now.topic command.now.kwargs (terms_of session.old)
+        (standing session.old (I.given source.old) (O.taken sink.old))
+        (standing session.new (I.given source.new) (O.taken sink.new))
+        (J.given input.old) (J.given input.new) fault) }
+    ensures gone { IfErr result (TellsEnd (I.is_ended source.new)) }
     ensures terms { terms_of session.new ≡ terms_of session.old }
     ensures reads { AreFailuresTold (I.failures source.old) (I.failures source.new)
         (told_by source_told result) }
@@ -329,6 +377,11 @@ fn publish_words<I: Source, O: Sink>(
         (record { args = Some words.now; kwargs = command.now.kwargs })
         (standing session.old (I.given source.old) (O.taken sink.old))
         (standing session.new (I.given source.new) (O.taken sink.new))) }
+    ensures ends { IfErr result (λ fault. is_blamed fault ≡ true
+        → EndsInWords command.now.wishes command.now.topic command.now.kwargs (terms_of session.old) words.now
+        (standing session.old (I.given source.old) (O.taken sink.old))
+        (standing session.new (I.given source.new) (O.taken sink.new)) fault) }
+    ensures gone { IfErr result (TellsEnd (I.is_ended source.new)) }
     ensures terms { terms_of session.new ≡ terms_of session.old }
     ensures aside { IfErr result IsOfBroker }
     ensures reads { AreFailuresTold (I.failures source.old) (I.failures source.new)
@@ -364,6 +417,12 @@ fn publish_all<I: Source, O: Sink, J: Source>(
         (standing session.new (I.given source.new) (O.taken sink.new))
         (J.given input.old) (J.given input.new)) }
     ensures ended { OnOk result (IsReadToEnd command.now.arguments (J.is_ended input.new)) }
+    ensures ends { IfErr result (λ fault. is_blamed fault ≡ true
+        → EndsInAll command.now.wishes command.now.topic command.now.kwargs command.now.arguments (terms_of session.old)
+        (standing session.old (I.given source.old) (O.taken sink.old))
+        (standing session.new (I.given source.new) (O.taken sink.new))
+        (J.given input.old) (J.given input.new) fault) }
+    ensures gone { IfErr result (TellsEnd (I.is_ended source.new)) }
     ensures terms { terms_of session.new ≡ terms_of session.old }
     ensures reads { AreFailuresTold (I.failures source.old) (I.failures source.new)
         (told_by source_told result) }
@@ -404,6 +463,16 @@ pub fn publish<I: Source, O: Sink, J: Source>(
         (exchange (I.given source.new) (O.taken sink.new))
         (J.given input.old) (J.given input.new)) }
     ensures ended { OnOk result (IsReadToEnd command.now.arguments (J.is_ended input.new)) }
+    ensures cause { IfErr result (λ fault. is_blamed fault ≡ true
+        → IsTurnedAway command.now.contact.serializer command.now.contact.realm
+        command.now.contact.authid (exchange (I.given source.old) (O.taken sink.old))
+        (exchange (I.given source.new) (O.taken sink.new)) fault
+        ⊎ EndsPublishing command.now.contact.serializer command.now.contact.realm
+        command.now.contact.authid command.now.wishes command.now.topic command.now.arguments
+        command.now.kwargs (exchange (I.given source.old) (O.taken sink.old))
+        (exchange (I.given source.new) (O.taken sink.new))
+        (J.given input.old) (J.given input.new) fault) }
+    ensures gone { IfErr result (TellsEnd (I.is_ended source.new)) }
     ensures reads { AreFailuresTold (I.failures source.old) (I.failures source.new)
         (told_by source_told result) }
     ensures writes { AreFailuresTold (O.failures sink.old) (O.failures sink.new)

@@ -8,7 +8,7 @@ ghost use Rattle.client.specs.Wishes.{subscribe_options};
 ghost use Rattle.client.specs.declared.heard.Heard.TheVariants.{Subscribed as SubscribedHeard};
 ghost use Rattle.client_commands.specs.Acts.{EndsAfterAsking, Follows, IsCaused, IsTurnedAway, Prints, PrintsAfterAsking, Subscribes, asked, granted_with, is_event, line_for, note_for, standing, terms_of};
 ghost use Rattle.client_commands.specs.Notes.{IsNoted, noting};
-ghost use Rattle.client_commands.specs.Faults.{AreFailuresTold, IsOfBroker, IsOfHere, IsOfMessage, IsOfNoMessage, is_of_message, output_told, sink_told, source_told};
+ghost use Rattle.client_commands.specs.Faults.{AreFailuresTold, IsNoEnd, IsOfBroker, IsOfHere, IsOfMessage, IsOfNoMessage, TellsEnd, is_of_message, output_told, sink_told, source_told};
 
 use crate::command::SubscribeCommand;
 use crate::event_lines::event_line;
@@ -57,6 +57,7 @@ fn ask<O: Sink>(
         ++ asked link.now.serializer command.now.wishes command.now.topics.items
         (length command.now.topics.items)) }
     ensures unblamed { IfErr result IsOfNoMessage }
+    ensures unended { IfErr result IsNoEnd }
     ensures unread { told_by source_told result ≡ Fine }
     ensures aside { told_by output_told result ≡ Fine }
     ensures writes { AreFailuresTold (O.failures sink.old) (O.failures sink.new)
@@ -220,6 +221,7 @@ fn follow<I: Source, O: Sink, P: Sink, N: Sink>(
     ensures cause { IfErr result (IsCaused (terms_of session.old)
         (standing session.old (I.given source.old) (O.taken sink.old))
         (exchange (I.given source.new) (O.taken sink.new))) }
+    ensures gone { IfErr result (TellsEnd (I.is_ended source.new)) }
     ensures reads { AreFailuresTold (I.failures source.old) (I.failures source.new)
         (told_by source_told result) }
     ensures writes { AreFailuresTold (O.failures sink.old) (O.failures sink.new)
@@ -313,6 +315,7 @@ pub fn subscribe<I: Source, O: Sink, P: Sink, N: Sink>(
         command.now.contact.authid command.now.wishes command.now.topics.items
         (exchange (I.given source.old) (O.taken sink.old))
         (exchange (I.given source.new) (O.taken sink.new)) fault) }
+    ensures gone { IfErr result (TellsEnd (I.is_ended source.new)) }
     ensures reads { AreFailuresTold (I.failures source.old) (I.failures source.new)
         (told_by source_told result) }
     ensures writes { AreFailuresTold (O.failures sink.old) (O.failures sink.new)

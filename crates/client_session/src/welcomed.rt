@@ -112,6 +112,8 @@ impl ClientSession {
         ensures refused { IfErr result (IsUnwelcome (terms link.serializer link.limit)
             (heard_at link (I.given source.old) (O.taken sink.old))
             (I.given source.new) (O.taken sink.new)) }
+        ensures ended { result ≡ Err (NoSession.Failed Fault.Ended)
+            → I.is_ended source.new ≡ true }
         ensures reads { WholeSteps (meter (I.calls source.old) (I.failures source.old))
             (meter (I.calls source.new) (I.failures source.new))
             (told_by opening_read_told result) }
@@ -164,6 +166,7 @@ impl ClientSession {
         ensures id { self.new.id ≡ self.old.id }
         ensures serializer { self.new.line.serializer ≡ self.old.line.serializer }
         ensures limit { self.new.line.limit ≡ self.old.line.limit }
+        ensures ended { result ≡ Err (Unheard.Failed Fault.Ended) → I.is_ended source.new ≡ true }
         ensures reads { WholeSteps (meter (I.calls source.old) (I.failures source.old))
             (meter (I.calls source.new) (I.failures source.new))
             (told_by session_read_told result) }

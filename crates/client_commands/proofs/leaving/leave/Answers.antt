@@ -6,6 +6,7 @@ use Rattle.client_commands.specs.Acts.{standing, terms_of, writing}
 use Rattle.client_commands.specs.Faults.{AreFailuresTold}
 use Rattle.client_commands.proofs.CauseLemmas.{ends-by}
 use Rattle.client_commands.proofs.ContinuingLemmas.{continues-begun, continues-said, continues-then}
+use Rattle.client_commands.proofs.FaultLemmas.{no-end}
 use Rattle.client_commands.proofs.ListeningLemmas.{listens-more, listens-none}
 use Rattle.client_commands.proofs.leaving.leave.Goals as goal
 
@@ -53,6 +54,8 @@ returns-then-not-may_come g c = record {
       (standing c.messages.session (g.I.Source.given c.messages.source) (g.O.Sink.taken c.messages.sink))
       (standing c.hear.new.session (g.I.Source.given c.hear.new.source) (g.O.Sink.taken c.hear.new.sink)) c.messages.invariant.passed c.in-Ok.heard c.fault_of.result
       c.messages.invariant.terms c.messages.invariant.listens c.in-Ok.ensures.next c.fault_of.ensures.why;
+  carried = c.fault_of.ensures.carried;
+  gone = no-end c.fault_of.result (g.I.Source.is_ended c.hear.new.source) c.fault_of.ensures.of_here.end;
   aside = c.fault_of.ensures.of_broker;
   reads =
       subst (λ (t : Told). AreFailuresTold (g.I.Source.failures c.args.source.now) (g.I.Source.failures c.hear.new.source) t) (sym c.fault_of.ensures.of_here.source)

@@ -1,6 +1,11 @@
-use Rattle.std.proofs.Common.{[], ◌∷◌, ◌++◌, ◌+◌, ◌-◌, ◌∙◌, arith, drop, length, take}
+use Rattle.std.proofs.Common.{◌≡◌, ◌<◌, false, [], ◌∷◌, ◌++◌, ◌+◌, ◌-◌, ◌∙◌, append-nil, arith, drop, inl, inr, length, refl, rules, subst, sym, take}
+use Rattle.std.proofs.lemmas.Bool.Decides.{nat_tests}
 use Rattle.client_commands.specs.Acts.{standing, terms_of}
-use Rattle.client_commands.proofs.PublishingLemmas.{piece-step, published-step, rest-after}
+use Rattle.client_commands.specs.Ends.{EndsAtLine}
+use Rattle.client_commands.specs.Lines.{has_line_feed}
+use Rattle.client_commands.specs.declared.fault.Fault.TheVariants.{BadLine}
+use Rattle.client_commands.proofs.EndsLemmas.{cut-at, ends-at}
+use Rattle.client_commands.proofs.PublishingLemmas.{piece-step, published-kept, published-rest, published-step, rest-after}
 use Rattle.client_commands.proofs.publishing.publish_piece.Goals as goal
 
 pub lines-preserved : goal.lines-preserved
@@ -22,3 +27,38 @@ lines-preserved g c =
       reads = omega (arith, c.in_default-publish_line.ensures.reads, c.lines.invariant.reads);
       writes = omega (arith, c.in_default-publish_line.ensures.writes, c.lines.invariant.writes);
     }
+
+pub returns-in-Err-clause-ends : goal.returns-in-Err-clause-ends
+returns-in-Err-clause-ends g c =
+    let command = c.args.command.now in
+    let t = terms_of c.args.session.now in
+    let left = c.lines.left.now in
+    let front = take c.in-Some.at left in
+    let behind = drop (c.in-Some.at + 1) left in
+    let done = c.lines.invariant.done in
+    let rest = c.lines.progress.rest.items in
+    let count = c.lines.progress.count in
+    let mid = standing c.lines.session (g.I.Source.given c.lines.source) (g.O.Sink.taken c.lines.sink) in
+    let now = standing c.publish_line.new.session (g.I.Source.given c.publish_line.new.source) (g.O.Sink.taken c.publish_line.new.sink) in
+    λ is before input p.
+    ends-at command.wishes command.topic command.kwargs t before (terms_of c.lines.session) mid now ((input ++ done) ++ front) (10 ∷ behind) (rest ++ front) (input ++ c.args.piece.now) count c.in-Err.fault
+    c.lines.invariant.terms (cut-at input c.args.piece.now done left front (10 ∷ behind) c.lines.invariant.piece c.in-Some.ensures.at) (inr (behind, refl))
+    (published-rest command.wishes command.topic command.kwargs t before mid (input ++ done) rest front count c.in-Some.ensures.clean (c.lines.invariant.published before input p))
+    (subst (λ xs. EndsAtLine command.wishes command.topic command.kwargs (terms_of c.lines.session) (count + 1) xs mid now c.in-Err.fault) c.in-Ok.ensures.items (c.in-Err.ensures.ends is))
+
+pub returns-then-len-gt-LONGEST-clause-ends : goal.returns-then-len-gt-LONGEST-clause-ends
+returns-then-len-gt-LONGEST-clause-ends g c =
+    let command = c.args.command.now in
+    let t = terms_of c.args.session.now in
+    let left = c.lines.left.now in
+    let piece = c.args.piece.now in
+    let kept = c.extend_from_slice-2.new.self.items in
+    let count = c.lines.progress.count in
+    let mid = standing c.lines.session (g.I.Source.given c.lines.source) (g.O.Sink.taken c.lines.sink) in
+    let clean : has_line_feed left ≡ false = search rules in
+    let long : 1048576 < length kept = grind (arith, nat_tests) in
+    λ _ before input p.
+    ends-at command.wishes command.topic command.kwargs t before t mid mid (input ++ piece) [] kept (input ++ piece) count (BadLine (count + 1))
+    refl (sym (append-nil (input ++ piece))) (inl refl)
+    (published-kept command.wishes command.topic command.kwargs t before mid input c.lines.invariant.done piece c.lines.progress.rest.items left kept count clean c.in-Ok-extend_from_slice.ensures.items c.lines.invariant.piece (c.lines.invariant.published before input p))
+    (inl (refl, refl, inl long))

@@ -105,6 +105,7 @@ returns g c =
       cause = λ is. inr (ends-after command.contact.serializer c.link.result.now.serializer command.contact.realm command.contact.authid command.wishes command.topics.items (exchange (g.I.Source.given c.args.source.now) (g.O.Sink.taken c.args.sink.now))
           (exchange (g.I.Source.given c.follow.new.source) (g.O.Sink.taken c.follow.new.sink)) c.in-Ok.session (g.I.Source.given c.join.new.source) (g.O.Sink.taken c.join.new.sink) (g.O.Sink.taken c.ask.new.sink) c.in-Err-follow.fault
           c.in-Ok.ensures.joined (ap (λ l. l.serializer) c.link.ensures) c.in_default.ensures.asked (inl (c.in-Err-follow.ensures.cause is)));
+      gone = c.in-Err-follow.ensures.gone;
       reads = omega (arith, c.in-Ok.ensures.reads, c.in-Err-follow.ensures.reads);
       writes = omega (arith, c.in-Ok.ensures.writes, c.in_default.ensures.writes, c.in-Err-follow.ensures.writes);
       lines = c.in-Err-follow.ensures.lines;
