@@ -3,6 +3,7 @@ pub mod AcceptLoop
 pub mod Accepting
 pub mod Acting
 pub mod CountedWords
+pub mod Finding
 pub mod Balance
 pub mod Moving
 pub mod Numbering
@@ -13,6 +14,7 @@ pub mod RealmSteps
 pub mod RosterSteps
 pub mod RunSteps
 pub mod Saying
+pub mod SeatSteps
 pub mod ServeSteps
 pub mod TableSteps
 pub mod TableStanding

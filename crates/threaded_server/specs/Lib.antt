@@ -9,6 +9,7 @@ pub mod Posters
 pub mod Posts
 pub mod Realms
 pub mod Roster
+pub mod Seating
 pub mod Served
 pub mod Slots
 pub mod Starting
