@@ -4,6 +4,7 @@ pub mod Accepting
 pub mod Acting
 pub mod CountedWords
 pub mod Finding
+pub mod GoingOn
 pub mod Balance
 pub mod Moving
 pub mod Numbering

@@ -5,6 +5,7 @@ pub mod Closing
 pub mod Conns
 pub mod Lending
 pub mod Overs
+pub mod OwnStreams
 pub mod Posters
 pub mod Posts
 pub mod Realms
