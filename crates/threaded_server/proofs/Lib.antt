@@ -3,6 +3,8 @@ pub mod AcceptLoop
 pub mod Accepting
 pub mod Acting
 pub mod CountedWords
+pub mod Finding
+pub mod GoingOn
 pub mod Balance
 pub mod Moving
 pub mod Numbering
@@ -13,6 +15,7 @@ pub mod RealmSteps
 pub mod RosterSteps
 pub mod RunSteps
 pub mod Saying
+pub mod SeatSteps
 pub mod ServeSteps
 pub mod TableSteps
 pub mod TableStanding

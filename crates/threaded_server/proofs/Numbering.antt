@@ -44,6 +44,17 @@ split_seat given place less = omega (arith, less)
 split_given : (given place : ℕ) → place < 256 → (given * 256 + place + 1 - 1) / 256 ≡ given
 split_given given place less = omega (arith, less)
 
+-- of which seat a number is that is taken
+pub place_given : (old now : Table) (n : ℕ) → (t : Takes old n now) → seat_of n - 1 ≡ t.place
+place_given old now n t = ap (λ (m : ℕ). seat_of m - 1) (free_is old t.place n t.free) ∙ again (split_seat (get_or old.given t.place 0) t.place t.within)
+  where
+    again : (get_or old.given t.place 0 * 256 + t.place + 1 - 1) % 256 ≡ t.place → (get_or old.given t.place 0 * 256 + t.place + 1 - 1) % 256 + 1 - 1 ≡ t.place
+    again e = omega (arith, e)
+
+-- and which of its numbers
+pub turn_given : (old now : Table) (n : ℕ) → (t : Takes old n now) → (n - 1) / 256 ≡ get_or old.given t.place 0
+turn_given old now n t = ap (λ (m : ℕ). (m - 1) / 256) (free_is old t.place n t.free) ∙ split_given (get_or old.given t.place 0) t.place t.within
+
 -- a number that is taken is given from then on, wasn't before, and what was given is
 pub record Fresh (old now : Table) (n : ℕ) : Type 0 where
   pub given : IsGiven now n
@@ -63,20 +74,14 @@ taken_fresh old now n all t = record {
     count : ℕ
     count = get_or old.given t.place 0
 
-    is : n ≡ count * 256 + t.place + 1
-    is = free_is old t.place n t.free
-
     within : t.place < length old.given
     within = subst (λ (m : ℕ). t.place < m) (sym all) t.within
 
     seat : seat_of n - 1 ≡ t.place
-    seat = ap (λ (m : ℕ). seat_of m - 1) is ∙ again (split_seat count t.place t.within)
-      where
-        again : (count * 256 + t.place + 1 - 1) % 256 ≡ t.place → (count * 256 + t.place + 1 - 1) % 256 + 1 - 1 ≡ t.place
-        again e = omega (arith, e)
+    seat = place_given old now n t
 
     turn : (n - 1) / 256 ≡ count
-    turn = ap (λ (m : ℕ). (m - 1) / 256) is ∙ split_given count t.place t.within
+    turn = turn_given old now n t
 
     by_place : (m : ℕ) → IsGiven old m → (t.place ≡ seat_of m - 1) ⊎ (t.place ≢ seat_of m - 1) → (m - 1) / 256 < get_or (set old.given t.place (count + 1)) (seat_of m - 1) 0
     by_place m given (inl same) =

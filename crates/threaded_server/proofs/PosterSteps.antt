@@ -43,10 +43,17 @@ module _ {S : Type 0} where
 
   -- what a place gave
   pub took_at : {V : Type 0} (items : V → List (Option (Poster S))) (slots : List (Option V)) (place : ℕ) (o left : Option V) → slice_get slots place ≡ Some o → left ≡ None
-      → MatchOption o (map (option_map items) (set slots place left) ≡ map (option_map items) slots)
+      → MatchOption o (option_flatten (slice_get (map (option_map items) slots) place) ≡ None)
       (λ v. (slice_get (map (option_map items) slots) place ≡ Some (Some (items v))) × (map (option_map items) (set slots place left) ≡ set (map (option_map items) slots) place None))
-  took_at items slots place None left at e = ap (map (option_map items)) (ap (set slots place) e ∙ put_back slots place None at)
+  took_at items slots place None left at e = ap option_flatten (map_get (option_map items) slots place None at)
   took_at items slots place (Some v) left at e = (map_get (option_map items) slots place (Some v) at, ap (λ x. map (option_map items) (set slots place x)) e ∙ map-set (option_map items) slots place None)
+
+  -- or there is no such place
+  pub took_nowhere : {V : Type 0} (items : V → List (Option (Poster S))) (slots : List (Option V)) (place : ℕ) (o : Option V) → o ≡ None → slice_get (map (option_map items) slots) place ≡ None
+      → MatchOption o (option_flatten (slice_get (map (option_map items) slots) place) ≡ None)
+      (λ v. (slice_get (map (option_map items) slots) place ≡ Some (Some (items v))) × (map (option_map items) slots ≡ set (map (option_map items) slots) place None))
+  took_nowhere items slots place None e nowhere = ap option_flatten nowhere
+  took_nowhere items slots place (Some v) e nowhere = absurd (none-some v (sym e))
 
   -- nothing stands anywhere yet
   pub none_stand : (whole : ℕ) (slots : List (Option (List (Option (Poster S))))) (places : List (Place S)) → slots ≡ replicate 256 (Some (replicate whole None)) → Stand places slots

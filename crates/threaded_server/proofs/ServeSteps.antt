@@ -78,7 +78,7 @@ module _ {I O S : Type 0} where
     refused_are = omega arith;
     lent_are = sym (append-nil was.lent);
     returned_are = sym (append-nil was.returned);
-    went = record { each = IsPermutation-refl []; went = All-nil (λ over. ∥ Went see names over ∥₁) };
+    went = record { each = IsPermutation-refl []; went = All-nil (λ over. ∥ Went see names over ∥₁); found = λ i over at. absurd (none-some over at) };
     runs = [];
     each_ran = All-nil (λ run. IsRun grants run);
     apart = λ i j n at there. absurd (none-some n at);

@@ -1,30 +1,31 @@
 -- What stands of the table of connections, while these come and go.
-use Rattle.std.proofs.Common.{◌≡◌, ◌<◌, ◌+◌, ◌-◌, ℕ, List, [], ◌∷◌, ◌++◌, Option, None, Some, All, IfSome, length, length-append, length-set, option_map, replicate, set, slice_get, refl, sym, ap, ◌∙◌, subst, arith}
-use Rattle.std.proofs.Math.Logic.{∥∥₁_map}
+use Rattle.std.proofs.Common.{◌≡◌, ◌≢◌, ◌⊎◌, ◌<◌, ◌+◌, ◌-◌, ℕ, List, [], ◌∷◌, ◌++◌, Option, None, Some, All, IfSome, length, length-append, length-set, option_map, replicate, set, slice_get, refl, sym, ap, ◌∙◌, subst, arith, inl, inr}
+use Rattle.std.proofs.Math.Logic.{∥∥₁_elim, ∥∥₁_map}
 use Rattle.std.proofs.lemmas.List.{length-map, map-set}
 use Rattle.std.proofs.lemmas.List.Elements.{All-nil, All-push, All-set}
 use Rattle.std.proofs.lemmas.Option.{get_or_from_slice_get, none-some, same_Some, slice_get-get_or, slice_get_within}
 use Rattle.std.specs.Arc.{arc_value}
-use Rattle.std.specs.Option.{ForSome}
+use Rattle.std.specs.Option.{ForSome, option_flatten}
 use Rattle.std.specs.declared.snapshot.Snapshot.{Snapshot}
 use Rattle.realm_inbox.specs.EndViews.{posted}
 use Rattle.realm_inbox.specs.Ends.{Place}
+use Rattle.realm_inbox.specs.declared.act.Act.{Act}
 use Rattle.realm_inbox.specs.declared.ends.Poster.{Poster}
 use Rattle.threaded_server.proofs.Places.{get_last, map_get}
 use Rattle.threaded_server.proofs.PostSteps.{posters_say, posts_elsewhere, posts_still}
 use Rattle.threaded_server.proofs.PosterSteps.{gains_stand, none_stand, relabelled_at, relabelled_own, said_relabelled, stand_on, stand_put, stand_taken}
 use Rattle.threaded_server.proofs.RealmSteps.{at_longer, back_at, back_of_seat, more_longer, one_kept, overs_longer, seat_kept, seen_at_home, takes_longer}
 use Rattle.threaded_server.proofs.Saying.{all_said, none_said, one_said, seat_back, seat_left, seat_taken}
-use Rattle.threaded_server.specs.Overs.{seen_of}
+use Rattle.threaded_server.specs.Overs.{AddsUntouched, seen_of}
 use Rattle.threaded_server.specs.Posters.{AllGain, AreAt, AreOf, AreOfSeat, IsTaken, Stand, lists_at}
-use Rattle.threaded_server.specs.Posts.{AllSay, Say, posts_at, posts_of}
+use Rattle.threaded_server.specs.Posts.{AllSay, AreIn, Say, posts_at, posts_of}
 use Rattle.threaded_server.specs.Realms.{IsAtHome, Shown, TakesIn, inbox_in, places_of, with_seen}
 use Rattle.threaded_server.specs.Roster.{Leaves}
 use Rattle.threaded_server.specs.Streams.{Reads, Sight}
 use Rattle.threaded_server.specs.Ties.{HasGrants, OverKept}
 use Rattle.threaded_server.specs.declared.entry.Connection.{Connection}
 use Rattle.threaded_server.specs.declared.over.Over.{Over}
-use Rattle.threaded_server.specs.declared.over.Over.TheVariants.{Seated}
+use Rattle.threaded_server.specs.declared.over.Over.TheVariants.{Seated, Untouched}
 use Rattle.threaded_server.specs.declared.plan.Plan.{Plan}
 use Rattle.threaded_server.specs.declared.reader_thread.Ended.{Ended}
 use Rattle.threaded_server.specs.declared.reader_thread.Reader.{Reader}
@@ -74,6 +75,18 @@ module _ {I O S : Type 0} where
     pub say : ∥ Said plan realms slots entries overs ∥₁
     pub kept : ∥ All (λ o. OverKept realms o) overs ∥₁
     pub grants : All (λ r. HasGrants plan r) realms
+
+  -- where nobody is at a seat its posters are there
+  pub posters_there : (plan : Plan) (realms : List (Shown S)) (conn : ℕ) (slots : List (Option (List (Option (Poster S))))) (entries : List (Option (Connection I O S))) (overs : List (Over I O S)) → slice_get entries (seat_of conn - 1) ≡ Some None
+      → ∥ Said plan realms slots entries overs ∥₁ → option_flatten (slice_get slots (seat_of conn - 1)) ≢ None
+  posters_there plan realms conn slots entries overs free say e = ∥∥₁_elim say (λ x y. absurd x) (λ s. by_table (s (seat_of conn - 1) (omega arith)))
+    where
+      said : ℕ → ℕ → List (ℕ × Act S)
+      said = λ realm number. posts_at realm number overs
+
+      by_table : AreIn posted (length plan.realms.items) (length realms) (seat_of conn - 1) said slots (lists_at entries) ⊎ AreIn posted (length plan.realms.items) (length realms) (seat_of conn - 1) said (lists_at entries) slots → ⊥
+      by_table (inl a) = none-some a.posters (sym e ∙ ap option_flatten a.at)
+      by_table (inr a) = none-some a.posters (same_Some None (Some a.posters) (sym (map_get (option_map (λ (entry : Connection I O S). entry.began.value.posters.items)) entries (seat_of conn - 1) None free) ∙ a.at))
 
   -- nothing yet
   pub none_yet : (plan : Plan) (realms : List (Shown S)) (slots : List (Option (List (Option (Poster S))))) (entries : List (Option (Connection I O S))) (overs : List (Over I O S)) → realms ≡ []
@@ -168,6 +181,11 @@ module _ {I O S : Type 0} where
     grants = subst (λ (p : Snapshot Plan). All (λ r. HasGrants p.value r) realms) (sym e) h.grants;
   }
 
+  -- as one that is let go of
+  pub untouched_standing : (plan next : Snapshot Plan) (realms : List (Shown S)) (slots : List (Option (List (Option (Poster S))))) (entries same : List (Option (Connection I O S))) (overs now : List (Over I O S)) (halves : I × O) → next ≡ plan → same ≡ entries
+      → AddsUntouched overs now halves → Standing plan.value realms slots entries overs → Standing next.value realms slots same now
+  untouched_standing plan next realms slots entries same overs now halves e f a h = over_standing plan next realms slots entries same overs now (Untouched a.shown) e f a.added tt (λ realm number. refl) h
+
   -- nobody was at a place that nobody leaves
   pub nobody_left : (plan next : Snapshot Plan) (realms : List (Shown S)) (slots : List (Option (List (Option (Poster S))))) (entries left : List (Option (Connection I O S))) (overs same : List (Over I O S)) → next ≡ plan → left ≡ entries
       → same ≡ overs → Standing plan.value realms slots entries overs → Standing next.value realms slots left same
@@ -189,17 +207,17 @@ module _ {I O S : Type 0} (see : Sight I O) where
       )
 
   -- a connection's place, where one leaves it
-  pub entry_stood : (places : List (Place S)) (entries : List (Option (Connection I O S))) (place : ℕ) (ended : Ended I O S) (overs now : List (Over I O S)) → (l : Leaves see (slice_get entries place) ended overs now) → Stand places (lists_at entries)
+  pub entry_stood : (places : List (Place S)) (entries : List (Option (Connection I O S))) (place conn : ℕ) (ended : Ended I O S) (overs now : List (Over I O S)) → (l : Leaves see (slice_get entries place) conn ended overs now) → Stand places (lists_at entries)
       → AreAt places l.entry.began.value.posters.items × AreOfSeat (place + 1) l.entry.began.value.posters.items
-  entry_stood places entries place ended overs now l h = h place l.entry.began.value.posters.items (listed entries place l.entry l.held)
+  entry_stood places entries place conn ended overs now l h = h place l.entry.began.value.posters.items (listed entries place l.entry l.held)
     where
       listed : (xs : List (Option (Connection I O S))) (k : ℕ) (entry : Connection I O S) → slice_get xs k ≡ Some (Some entry) → slice_get (lists_at xs) k ≡ Some (Some entry.began.value.posters.items)
       listed xs k entry e = map_get (option_map (λ (x : Connection I O S). x.began.value.posters.items)) xs k (Some entry) e
 
   -- a connection leaves, and what its reader gave back was taken in
-  pub left_standing : (plan next : Snapshot Plan) (realms after : List (Shown S)) (slots put : List (Option (List (Option (Poster S))))) (entries left : List (Option (Connection I O S))) (overs now : List (Over I O S)) (place : ℕ) (ended : Ended I O S) → next ≡ plan → left ≡ set entries place None
-      → (l : Leaves see (slice_get entries place) ended overs now) → AreOf l.entry.began.value.conn l.entry.began.value.posters.items → TakesIn realms (seen_of ended.course) after → put ≡ set slots place (Some ended.posters.items) → Standing plan.value realms slots entries overs → Standing next.value after put left now
-  left_standing plan next realms after slots put entries left overs now place ended e f l own t g h =
+  pub left_standing : (plan next : Snapshot Plan) (realms after : List (Shown S)) (slots put : List (Option (List (Option (Poster S))))) (entries left : List (Option (Connection I O S))) (overs now : List (Over I O S)) (place conn : ℕ) (ended : Ended I O S) → next ≡ plan → left ≡ set entries place None
+      → (l : Leaves see (slice_get entries place) conn ended overs now) → AreOf l.entry.began.value.conn l.entry.began.value.posters.items → TakesIn realms (seen_of ended.course) after → put ≡ set slots place (Some ended.posters.items) → Standing plan.value realms slots entries overs → Standing next.value after put left now
+  left_standing plan next realms after slots put entries left overs now place conn ended e f l own t g h =
       let longer = takes_longer realms after (seen_of ended.course) t in
       let began = l.entry.began in
       let were = began.value.posters.items in
@@ -208,7 +226,7 @@ module _ {I O S : Type 0} (see : Sight I O) where
       let says = λ (realm number : ℕ). posts_at realm number now in
       let held : slice_get (lists_at entries) place ≡ Some (Some were) = map_get (option_map (λ (x : Connection I O S). x.began.value.posters.items)) entries place (Some l.entry) l.held in
       let without : lists_at left ≡ set (lists_at entries) place None = ap lists_at f ∙ map-set (option_map (λ (x : Connection I O S). x.began.value.posters.items)) entries place None in
-      let stood = entry_stood (places_of realms) entries place ended overs now l h.served in
+      let stood = entry_stood (places_of realms) entries place conn ended overs now l h.served in
       let back = posters_back realms after (place + 1) began.value ended t l.reads stood.0 stood.1 in
       record {
         free = subst (λ l. Stand (places_of after) l) (sym g) (stand_put (places_of after) slots place ended.posters.items back.0 back.1 (stand_on realms after slots longer h.free));

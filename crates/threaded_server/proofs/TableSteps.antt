@@ -2,7 +2,7 @@
 use Rattle.std.proofs.Common.{◌≡◌, List, [], ◌∷◌, ◌++◌, sym, ap, ◌∙◌}
 use Rattle.std.specs.declared.snapshot.Snapshot.{Snapshot}
 use Rattle.threaded_server.proofs.RosterSteps.{seated_after}
-use Rattle.threaded_server.specs.Overs.{Adds, after_of, sink_of}
+use Rattle.threaded_server.specs.Overs.{Adds, AddsUntouched, after_of, sink_of}
 use Rattle.threaded_server.specs.declared.closed.Closed.{Closed}
 use Rattle.threaded_server.specs.declared.over.Over.{Over}
 use Rattle.threaded_server.specs.declared.over.Over.TheVariants.{Seated, TurnedAway, Untouched}
@@ -18,9 +18,8 @@ pub lent_on : {A : Type 0} (old between new : List A) (h k : A) → new ≡ betw
 lent_on old between new h k e f g = e ∙ ap (λ x. between ++ x ∷ []) f ∙ ap (λ xs. xs ++ k ∷ []) g
 
 module _ {I O S : Type 0} where
-  pub untouched_adds : (before now : List (Over I O S)) (halves : I × O) (shown : Snapshot (I × O)) (over : Over I O S) (source : I) (sink : O) → now ≡ before ++ over ∷ [] → over ≡ Untouched shown → shown.value ≡ halves → source ≡ halves.0 → sink ≡ halves.1
-      → Adds before now (source, sink)
-  untouched_adds before now halves shown over source sink added e f g h = record { over = over; added = added; after = ap after_of e ∙ f ∙ sym (both source halves.0 sink halves.1 g h) }
+  pub untouched_adds : (before now : List (Over I O S)) (halves : I × O) (source : I) (sink : O) → AddsUntouched before now halves → source ≡ halves.0 → sink ≡ halves.1 → Adds before now (source, sink)
+  untouched_adds before now halves source sink a g h = record { over = Untouched a.shown; added = a.added; after = a.shows ∙ sym (both source halves.0 sink halves.1 g h) }
 
   pub turned_adds : (before now : List (Over I O S)) (halves : Snapshot (I × O)) (from : Snapshot I) (to : Snapshot O) (over : Over I O S) (x source : I) (y sink : O) → now ≡ before ++ over ∷ [] → over ≡ TurnedAway halves from to → from.value ≡ x → to.value ≡ y → source ≡ x → sink ≡ y
       → Adds before now (source, sink)

@@ -5,10 +5,12 @@ pub mod Closing
 pub mod Conns
 pub mod Lending
 pub mod Overs
+pub mod OwnStreams
 pub mod Posters
 pub mod Posts
 pub mod Realms
 pub mod Roster
+pub mod Seating
 pub mod Served
 pub mod Slots
 pub mod Starting

@@ -1,6 +1,7 @@
 -- What became of the streams that were lent.
-use Rattle.std.specs.Prelude.{◌≡◌, ◌⊎◌, ◌<◌, ◌+◌, ⊤, ℕ, List, [], ◌∷◌, ◌++◌, Option, None, Some, All, IsPermutation, length, map, option_map}
+use Rattle.std.specs.Prelude.{◌≡◌, ◌⊎◌, ◌≤◌, ◌<◌, ◌+◌, ⊤, ℕ, List, [], ◌∷◌, ◌++◌, Option, None, Some, All, IsPermutation, length, map, option_map, slice_get}
 use Rattle.std.specs.Arc.{arc_value}
+use Rattle.std.specs.declared.snapshot.Snapshot.{Snapshot}
 use Rattle.rawsocket.specs.Devices.{GrowsByBeginning}
 use Rattle.rawsocket.specs.Handshakes.{refusing}
 use Rattle.session.specs.Opened.{AreUsedUp}
@@ -51,6 +52,12 @@ module _ {I O S : Type 0} where
     pub added : now ≡ before ++ over ∷ []
     pub after : after_of over ≡ halves
 
+  -- one is, from which nothing was read, and to which nothing was written
+  pub record AddsUntouched (before now : List (Over I O S)) (halves : I × O) : Type 0 where
+    pub shown : Snapshot (I × O)
+    pub shows : shown.value ≡ halves
+    pub added : now ≡ before ++ Untouched shown ∷ []
+
   -- none is, or one more
   abbrev pub GoesOver : List (Over I O S) → List (Over I O S) → Option (Gone I O) → Type 0
   GoesOver before now None = now ≡ before
@@ -84,6 +91,24 @@ pub record IsTurnedAway {I O : Type 0} (see : Sight I O) (before after : I × O)
   pub unread : after.0 ≡ before.0
   pub told : TellsRefusal see.taken see.writes see.write_failures before.1 after.1
 
+-- When a stream with these halves was lent, so many streams were over, and all seats were taken: of those that were lent before it 256 or more weren't over yet.
+-- Or 2^56 - 1 or more were lent before it: so many numbers below 2^64 has a seat at least, and one that gave its last is taken for good
+pub record FoundNoSeat {A : Type 0} (lent : List A) (over : ℕ) (halves : A) : Type 0 where
+  pub before : ℕ
+  pub here : slice_get lent before ≡ Some halves
+  pub taken : (over + 256 ≤ before) ⊎ (72057594037927935 ≤ before)
+
+module _ {I O S : Type 0} where
+  -- the stream that was over after so many others was told that no seat is free only where none was
+  abbrev pub Found : List (I × O) → ℕ → Over I O S → Type 0
+  Found lent over (Seated reader ended) = ⊤
+  Found lent over (TurnedAway halves source sink) = FoundNoSeat lent over halves.value
+  Found lent over (Untouched halves) = ⊤
+
+  -- and so was each
+  abbrev pub AllFound : List (I × O) → List (Over I O S) → Type 0
+  AllFound lent streams = (i : ℕ) (over : Over I O S) → slice_get streams i ≡ Some over → Found lent i over
+
 module _ {I O S : Type 0} (see : Sight I O) (names : List (List ℕ)) where
   -- a stream that had a seat went by what its reader gives back, which serves these realms
   abbrev pub Went : Over I O S → Type 0
@@ -91,7 +116,8 @@ module _ {I O S : Type 0} (see : Sight I O) (names : List (List ℕ)) where
   Went (TurnedAway halves source sink) = IsTurnedAway see halves.value (source.value, sink.value)
   Went (Untouched halves) = ⊤
 
-  -- Each stream that was lent was let go of: these are they, in the order of that
+  -- Each stream that was lent was let go of: these are they, in the order of that. None was told that no seat is free while one was
   pub record AllWent (lent : List (I × O)) (streams : List (Over I O S)) : Type 0 where
     pub each : IsPermutation lent (map before_of streams)
     pub went : All (λ over. ∥ Went over ∥₁) streams
+    pub found : AllFound lent streams

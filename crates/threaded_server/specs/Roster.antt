@@ -1,5 +1,5 @@
 -- The connections that are served.
-use Rattle.std.specs.Prelude.{◌≡◌, List, [], ◌∷◌, ◌++◌, Option, Some}
+use Rattle.std.specs.Prelude.{◌≡◌, ℕ, List, [], ◌∷◌, ◌++◌, Option, Some}
 use Rattle.std.specs.Arc.{arc_value}
 use Rattle.std.specs.declared.snapshot.Snapshot.{Snapshot}
 use Rattle.threaded_server.specs.Streams.{Reads, Sight}
@@ -18,10 +18,11 @@ module _ {I O S : Type 0} where
   abbrev pub IsOfPlan : Plan → Connection I O S → Type 0
   IsOfPlan plan entry = arc_value entry.began.value.plan ≡ plan
 
-  -- the connection at a place leaves it: its reader gave back what it should, and its stream is over by that
-  pub record Leaves (see : Sight I O) (place : Option (Option (Connection I O S))) (ended : Ended I O S) (before now : List (Over I O S)) : Type 0 where
+  -- the connection of this number, which is at a place, leaves it: its reader gave back what it should, and its stream is over by that
+  pub record Leaves (see : Sight I O) (place : Option (Option (Connection I O S))) (conn : ℕ) (ended : Ended I O S) (before now : List (Over I O S)) : Type 0 where
     pub entry : Connection I O S
     pub held : place ≡ Some (Some entry)
+    pub number : conn ≡ entry.began.value.conn
     pub reads : Reads see entry.began.value ended
     pub left : Snapshot (Ended I O S)
     pub left_is : left.value ≡ ended

@@ -28,7 +28,7 @@ module _ {I O S : Type 0} where
     pub moves : Moves (came_in serves.given) was lending had has
 
 -- Between two states of an acceptor: each stream that came was lent, or couldn't be taken apart; each that was lent was let go of and came back, as its reader left it, or it was told
--- that no seat is free, or nothing was read or written; and what came back is these, in the order of that. No two connections had one number. Each realm that served a session ran, from an empty history with these
+-- that no seat is free, while none was, or nothing was read or written; and what came back is these, in the order of that. No two connections had one number. Each realm that served a session ran, from an empty history with these
 -- grants on; what it received of a seat begins what the streams posted there; and what the writer of a session took begins what the one history of the realm that its HELLO names
 -- owes its connection
 pub record Served {I O : Type 0} (S : Type 0) (see : Sight I O) (names : List (List ℕ)) (grants : Grants) (before now : List Answer) (was lending : Lending I O) : Type 0 where

@@ -1,17 +1,19 @@
 //! The connections that are served, and their seats.
 ghost use Rattle.std.specs.Coded.{codes};
-ghost use Rattle.std.specs.Prelude.{◌≡◌, ◌<◌, ◌+◌, [], ◌∷◌, ◌++◌, All, None, Some, IfOk, IfSome, OnOk, length, option_map, set};
+ghost use Rattle.std.specs.Prelude.{◌≡◌, ◌<◌, ◌+◌, ℕ, [], ◌∷◌, ◌++◌, All, None, Some, IfOk, IfSome, OnOk, length, set};
+ghost use Rattle.connection.specs.Seats.{free_at, given_back};
 ghost use Rattle.ghost_state.specs.GhostList.{items_of};
 ghost use Rattle.message_tree.specs.Code.{data_code, entries_code};
 ghost use Rattle.realm.specs.Grants.{pairs_of};
 ghost use Rattle.realm.specs.body.HistoryCode.{history_code};
 ghost use Rattle.std.specs.Arc.{arc_value};
 ghost use Rattle.realm_inbox.specs.EndViews.{AreNewSeats, inbox_of, posted};
-ghost use Rattle.threaded_server.specs.Conns.{AreApart, IsNew, Numbered, conns_of};
+ghost use Rattle.threaded_server.specs.Conns.{AreApart, Numbered, conns_of};
 ghost use Rattle.threaded_server.specs.Overs.{AllWent, GoesOver, TellsRefusal, seen_of, sink_of};
 ghost use Rattle.threaded_server.specs.Posters.{Stand, lists_at, lists_of};
 ghost use Rattle.threaded_server.specs.Posts.{AllSay, OnlyPosted, posts_at};
 ghost use Rattle.threaded_server.specs.Realms.{IsAtHome, TakesIn, places_of, realms_of, shown};
+ghost use Rattle.threaded_server.specs.Seating.{AreSeated};
 ghost use Rattle.threaded_server.specs.Streams.{sight};
 ghost use Rattle.threaded_server.specs.Table.{IsUnused};
 ghost use Rattle.threaded_server.specs.TrailCode.{trail_code};
@@ -73,6 +75,7 @@ pub struct ConnectionTable<
     ghost served: { Stand (places_of (realms_of realms)) (lists_at roster.entries.items) } by { Prim.hlevel (codes, history_code, data_code, entries_code, trail_code) },
     ghost say: { ∥ AllSay posted (length roster.over.plan.value.realms.items) (length (realms_of realms)) (λ realm number. posts_at realm number (items_of roster.over.streams)) (lists_of posters) (lists_at roster.entries.items) ∥₁ },
     ghost numbered: { Numbered seats roster.entries.items (items_of roster.over.streams) },
+    ghost seated: { AreSeated seats roster.entries.items (items_of roster.lent) },
     ghost kept: { ∥ All (λ over. OverKept (realms_of realms) over) (items_of roster.over.streams) ∥₁ },
     ghost grants: { All (λ realm. HasGrants roster.over.plan.value realm) (realms_of realms) },
 }
@@ -136,16 +139,8 @@ impl<
     {
         let (conn, ended) = self.roster.join(rt, place)?;
         let (gone, _) = take_in(rt, &mut self.realms, &mut self.posters, place, ended);
-        self.vacate(conn);
+        vacate(&self.marks, &mut self.seats, conn);
         Some(gone)
-    }
-
-    // The connection's seat is free again, whose posters are back.
-    fn vacate(&mut self, conn: Conn)
-        ensures roster { self.new.roster ≡ self.old.roster }
-    {
-        self.marks.leaves(conn);
-        self.seats.give_back(conn);
     }
 
     /// How many realms there are.
@@ -248,34 +243,8 @@ impl<
             return Some(self.turn_away(parts));
         };
         tell_accepted(&rt, &self.plan.log, conn, &peer);
-        let (gone, reason) = self.seat(rt, conn, parts, fate)?;
-        tell_closed(&rt, &self.plan.log, conn, reason);
-        Some(gone)
-    }
-
-    // Gives a stream the seat of the connection, and starts its reader. Where that can't be, the seat is free again.
-    fn seat<R: Threads + Wait + Copy + Send + 'static>(
-        &mut self,
-        rt: R,
-        conn: Conn,
-        parts: Parts<I, O, S>,
-        fate: Arc<Fate>,
-    ) -> Option<(Gone<I, O>, Reason)>
-        requires new { IsNew self.old.seats (items_of self.old.roster.over.streams) conn }
-        ensures plan { self.new.roster.over.plan ≡ self.old.roster.over.plan }
-        ensures lent { items_of self.new.roster.lent ≡ items_of self.old.roster.lent
-            ++ (parts.source, parts.sink) ∷ [] }
-        ensures over { GoesOver (items_of self.old.roster.over.streams)
-            (items_of self.new.roster.over.streams)
-            (option_map (λ r. r.0) result) }
-    {
         let place = place_of(conn);
-        if !self.roster.is_free(place) {
-            return Some(self.refuse(conn, parts));
-        }
-        let Some(posters) = self.posters.take(conn) else {
-            return Some(self.refuse(conn, parts));
-        };
+        let posters = self.posters.take(conn);
         self.marks.sits(conn);
         let newcomer = Newcomer {
             conn,
@@ -291,28 +260,19 @@ impl<
             Started::Ended(halves, began, ended) => {
                 let over = Over::Seated(began, Snapshot::of(&ended));
                 self.roster.pass(halves, Snapshot::of(&over));
-                let back = take_in(&rt, &mut self.realms, &mut self.posters, place, ended);
-                self.vacate(conn);
-                Some(back)
+                let (gone, why) = take_in(&rt, &mut self.realms, &mut self.posters, place, ended);
+                vacate(&self.marks, &mut self.seats, conn);
+                tell_closed(&rt, &self.plan.log, conn, why);
+                Some(gone)
             }
             Started::Refused(halves, posters) => {
                 self.posters.put(place, posters);
-                self.vacate(conn);
-                Some((self.let_go(halves), Reason::NoMemory))
+                let gone = self.roster.let_go(halves);
+                vacate(&self.marks, &mut self.seats, conn);
+                tell_closed(&rt, &self.plan.log, conn, Reason::NoMemory);
+                Some(gone)
             }
         }
-    }
-
-    // The connection gets no seat, as if memory were refused for it.
-    fn refuse(&mut self, conn: Conn, parts: Parts<I, O, S>) -> (Gone<I, O>, Reason)
-        ensures plan { self.new.roster.over.plan ≡ self.old.roster.over.plan }
-        ensures lent { items_of self.new.roster.lent ≡ items_of self.old.roster.lent
-            ++ (parts.source, parts.sink) ∷ [] }
-        ensures over { GoesOver (items_of self.old.roster.over.streams)
-            (items_of self.new.roster.over.streams) (Some result.0) }
-    {
-        self.vacate(conn);
-        (self.let_go((parts.source, parts.sink)), Reason::NoMemory)
     }
 
     /// A stream is let go of, from which nothing was read, and to which nothing was written: memory was refused for it.
@@ -323,17 +283,12 @@ impl<
         ensures over { GoesOver (items_of self.old.roster.over.streams)
             (items_of self.new.roster.over.streams) (Some result) }
     {
-        let over = Over::Untouched(Snapshot::of(&halves));
-        self.roster.pass(Snapshot::of(&halves), Snapshot::of(&over));
-        let (source, sink) = halves;
-        Gone {
-            source: Closed::of(source),
-            sink: Closed::of(sink),
-        }
+        self.roster.let_go(halves)
     }
 
     // Tells the client of a stream that no seat is free, and lets go of it.
     fn turn_away(&mut self, parts: Parts<I, O, S>) -> Gone<I, O>
+        requires full { (place : ℕ) → place < 256 → free_at self.old.seats place ≡ None }
         ensures plan { self.new.roster.over.plan ≡ self.old.roster.over.plan }
         ensures lent { items_of self.new.roster.lent ≡ items_of self.old.roster.lent
             ++ (parts.source, parts.sink) ∷ [] }
@@ -386,6 +341,14 @@ fn take_in<
     realms.take_in(rt, seen);
     posters.put(place, back);
     (Gone { source, sink }, reason)
+}
+
+// A connection's seat is free again, whose posters are back.
+fn vacate(marks: &SeatTable, seats: &mut Seats, conn: Conn)
+    ensures { seats.new ≡ given_back seats.old conn }
+{
+    marks.leaves(conn);
+    seats.give_back(conn);
 }
 
 // Tells a client that no seat is free.

@@ -23,4 +23,5 @@ pub struct Connection<
     pub began: Snapshot<Reader<I, O, S>>,
     pub reader: PromisedHandle<Ended<I, O, S>, Doing<Reader<I, O, S>>>,
     pub ghost same: { reader.promise.0.value ≡ began.value },
+    pub ghost number: { conn ≡ began.value.conn },
 }

@@ -6,8 +6,9 @@
 //! `realm_inbox` and `outbox_queue`; what each of these calls does is proved there. [`TcpAcceptor`] accepts over TCP.
 //!
 //! Contracts say here by which of its acceptor's answers `serve_on` ends, and what became of each stream that the acceptor gave: it came
-//! back, and what was read of it, posted for it and written to it is what its reader's and its writer's contracts say. What a session's
-//! writer took begins what the history owes its connection that the actor of its realm made. Each call is made only where its own
+//! back, and what was read of it, posted for it and written to it is what its reader's and its writer's contracts say; and only where no
+//! seat is free is a client told so. What a session's writer took begins what the history owes its connection that the actor of its realm
+//! made. [`laws`] says that no stream comes back in place of another. Each call is made only where its own
 //! contract allows it: a connection's posts are made at its own seat, with its own outbox, which is open and new; each actor runs on a
 //! new inbox. That an actor received what was posted, that all that is owed was written, and which thread starts, ends or is waited
 //! for, is shown by runs alone. Nothing is promised of time: a peer that takes nothing holds up its own writer, and the end of
@@ -31,6 +32,7 @@ mod grants;
 mod handover;
 mod herald;
 mod id_words;
+pub mod laws;
 mod log;
 mod over;
 mod overs;

@@ -66,21 +66,23 @@ impl<S: Shut + 'static> PosterTable<S> {
         }
     }
 
-    /// The posters of a connection, whose seat is free no longer. None where it isn't free.
-    pub fn take(&mut self, conn: Conn) -> Option<Posters<S>>
-        requires { ForSome (slice_get (lists_of self.old) (seat_of conn - 1))
+    /// The posters of a connection, whose seat is free no longer.
+    pub fn take(&mut self, conn: Conn) -> Posters<S>
+        requires there { option_flatten (slice_get (lists_of self.old) (seat_of conn - 1)) ≢ None }
+        requires seat { ForSome (slice_get (lists_of self.old) (seat_of conn - 1))
             (λ slot. ForSome slot (λ posters. AreOfSeat (seat_of conn) posters)) }
-        ensures { MatchOption result (lists_of self.new ≡ lists_of self.old)
-            (λ posters. IsTaken conn (lists_of self.old) posters.items (lists_of self.new)) }
+        ensures { IsTaken conn (lists_of self.old) result.items (lists_of self.new) }
     {
-        let mut posters = self.take_at(place_of(conn))?;
+        let Some(mut posters) = self.take_at(place_of(conn)) else {
+            unreachable!()
+        };
         relabel(&mut posters, conn);
-        Some(posters)
+        posters
     }
 
     // Those of the seat at this place, which is free no longer. None where it isn't free.
     fn take_at(&mut self, place: usize) -> Option<Posters<S>>
-        ensures { MatchOption result (lists_of self.new ≡ lists_of self.old)
+        ensures { MatchOption result (option_flatten (slice_get (lists_of self.old) place) ≡ None)
             (λ posters. (slice_get (lists_of self.old) place ≡ Some (Some posters.items))
             × (lists_of self.new ≡ set (lists_of self.old) place None)) }
     {

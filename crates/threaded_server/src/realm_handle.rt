@@ -99,9 +99,11 @@ impl<S: Shut + Send + 'static> RealmHandle<S> {
             mut door,
             began,
             actor,
-            told: _,
+            told,
             seen,
         } = self;
+        // Nobody takes what the actor still tells: without this end it doesn't wait to tell it.
+        drop(told);
         let _ = door.stop(rt);
         let _ = door.stop(rt);
         let mut acted = actor.join(rt);

@@ -1,14 +1,15 @@
 //! Who is served, and what became of the others.
-ghost use Rattle.std.specs.Prelude.{◌≡◌, [], ◌∷◌, ◌++◌, true, None, Some, List, length, map, set, slice_get, All, IfOk, MatchOption, IsPermutation};
+ghost use Rattle.std.specs.Prelude.{◌≡◌, [], ◌∷◌, ◌++◌, None, Some, List, length, map, set, slice_get, All, IfOk, MatchOption, IsPermutation};
 ghost use Rattle.std.specs.Option.{ForSome};
 ghost use Rattle.ghost_state.specs.GhostList.{items_of};
-ghost use Rattle.threaded_server.specs.Overs.{AllWent, Went, after_of, before_of};
+ghost use Rattle.threaded_server.specs.Overs.{AddsUntouched, AllFound, AllWent, Found, Went, after_of, before_of};
 ghost use Rattle.threaded_server.specs.Roster.{IsOfPlan, Leaves, halves_of};
 ghost use Rattle.threaded_server.specs.Slots.{Balances, in_slots};
 ghost use Rattle.threaded_server.specs.Streams.{Sight, sight};
 
+use crate::closed::Closed;
 use crate::entry::Connection;
-use crate::over::Over;
+use crate::over::{Gone, Over};
 use crate::overs::Overs;
 use crate::plan::Plan;
 use crate::reader_thread::Ended;
@@ -34,6 +35,7 @@ pub struct Roster<
     over: Overs<I, O, S>,
     ghost own: { All (λ slot. ForSome slot (λ entry. IsOfPlan over.plan.value entry)) entries.items },
     ghost balance: { ∥ Balances (items_of lent) (map before_of (items_of over.streams)) (map halves_of (in_slots entries.items)) ∥₁ },
+    ghost found: { ∥ AllFound (items_of lent) (items_of over.streams) ∥₁ },
 }
 
 impl<
@@ -61,16 +63,6 @@ impl<
         ensures { result ≡ length self.now.entries.items }
     {
         self.entries.len()
-    }
-
-    /// Whether nobody is at this place.
-    pub fn is_free(&self, place: usize) -> bool
-        ensures { result ≡ true → slice_get self.now.entries.items place ≡ Some None }
-    {
-        match self.entries.get(place) {
-            Some(None) => true,
-            _ => false,
-        }
     }
 
     /// Whether the connection at this place is over, but for the end of its thread.
@@ -107,6 +99,8 @@ impl<
         requires went { Went
             (sight I.given I.is_ended I.calls I.failures O.taken O.calls O.failures)
             self.old.over.plan.value.realms.items over.value }
+        requires found { Found (items_of self.old.lent ++ halves.value ∷ [])
+            (length (items_of self.old.over.streams)) over.value }
         ensures plan { self.new.over.plan ≡ self.old.over.plan }
         ensures lent { items_of self.new.lent ≡ items_of self.old.lent ++ halves.value ∷ [] }
         ensures over { items_of self.new.over.streams
@@ -115,6 +109,25 @@ impl<
     {
         self.lent.add(halves);
         self.over.add(over);
+    }
+
+    /// A stream that was lent is let go of, from which nothing was read, and to which nothing was written.
+    pub fn let_go(&mut self, halves: (I, O)) -> Gone<I, O>
+        ensures plan { self.new.over.plan ≡ self.old.over.plan }
+        ensures lent { items_of self.new.lent ≡ items_of self.old.lent ++ halves ∷ [] }
+        ensures over { AddsUntouched (items_of self.old.over.streams)
+            (items_of self.new.over.streams) halves }
+        ensures entries { self.new.entries ≡ self.old.entries }
+        ensures source { result.source.last.value ≡ halves.0 }
+        ensures sink { result.sink.last.value ≡ halves.1 }
+    {
+        let over = Over::Untouched(Snapshot::of(&halves));
+        self.pass(Snapshot::of(&halves), Snapshot::of(&over));
+        let (source, sink) = halves;
+        Gone {
+            source: Closed::of(source),
+            sink: Closed::of(sink),
+        }
     }
 
     /// Waits for the reader of the connection at this place, if there is one, and gives back what that gives.
@@ -129,7 +142,7 @@ impl<
             ≡ items_of self.old.over.streams)
             × (self.new.entries.items ≡ self.old.entries.items))
             (λ r. Leaves (sight I.given I.is_ended I.calls I.failures O.taken O.calls O.failures)
-            (slice_get self.old.entries.items place) r.1 (items_of self.old.over.streams)
+            (slice_get self.old.entries.items place) r.0 r.1 (items_of self.old.over.streams)
             (items_of self.new.over.streams)) }
         ensures entries { self.new.entries.items ≡ set self.old.entries.items place None }
     {

@@ -1,6 +1,8 @@
 use Rattle.std.proofs.Common.{rules, ◌<◌, ◌≡◌, [], ◌∷◌, ◌++◌, length, refl, sym, ap, ◌∙◌, subst, None, Some, set, slice_get}
+use Rattle.std.proofs.Math.Logic.{∥∥₁_map}
 use Rattle.std.proofs.lemmas.Option.{slice_get_read}
 use Rattle.ghost_state.specs.GhostList.{items_of}
+use Rattle.threaded_server.proofs.Finding.{seated_found}
 use Rattle.threaded_server.proofs.Places.{put_back}
 use Rattle.threaded_server.proofs.RosterSteps.{leave_balances, left_of_plan, seated_before, still_balances}
 use Rattle.threaded_server.specs.Streams.{Reads, sight}
@@ -16,6 +18,7 @@ invariant_of-self-in-None g c =
     record {
       own = left_of_plan roster.over.plan roster.over.plan slots c.args.place c.take.new.self refl c.take.ensures.after roster.own;
       balance = still_balances (items_of roster.lent) (items_of roster.over.streams) slots c.args.place c.take.new.self held c.take.ensures.after roster.balance;
+      found = roster.found;
     }
 
 pub invariant_of-self-2 : goal.invariant_of-self-2
@@ -30,6 +33,7 @@ invariant_of-self-2 g c =
       own = left_of_plan roster.over.plan c.add.new.self.plan slots c.args.place c.take.new.self c.add.ensures.plan c.take.ensures.after roster.own;
       balance = leave_balances (items_of roster.lent) (items_of roster.over.streams) (items_of c.add.new.self.streams) slots c.args.place entry c.take.new.self c.of-2.result.value held c.take.ensures.after c.add.ensures.streams
           (seated_before entry.began c.of.result c.of-2.result.value c.of-2.ensures) roster.balance;
+      found = ∥∥₁_map roster.found (seated_found (items_of roster.lent) (items_of roster.over.streams) (items_of c.add.new.self.streams) c.of-2.result.value entry.began c.of.result c.add.ensures.streams c.of-2.ensures);
     }
 
 pub returns-clause-over : goal.returns-clause-over
@@ -40,6 +44,7 @@ returns-clause-over g c =
     record {
       entry = c.in-Some.entry;
       held = at ∙ ap Some (sym c.in-Some.ensures.value);
+      number = c.in-Some.entry.number;
       reads = subst (λ reader. Reads (sight g.I.Source.given g.I.Source.is_ended g.I.Source.calls g.I.Source.failures g.O.Sink.taken g.O.Sink.calls g.O.Sink.failures) reader c.join-ended.result) c.in-Some.entry.same c.join-ended.ensures;
       left = c.of.result;
       left_is = c.of.ensures;
