@@ -1,5 +1,5 @@
 -- Why `publish` ends by a fault: by a message that it heard, or by what no message carries.
-use Rattle.std.specs.Prelude.{◌≡◌, ◌≢◌, ◌+◌, ◌<◌, ◌⊎◌, ℕ, true, List, [], ◌∷◌, ◌++◌, length, Some, Ok, IsUtf8}
+use Rattle.std.specs.Prelude.{◌≡◌, ◌≢◌, ◌+◌, ◌<◌, ◌⊎◌, ℕ, Bool, true, List, [], ◌∷◌, ◌++◌, length, Some, Ok, IsUtf8}
 use Rattle.std.specs.declared.option.Option.{Option}
 use Rattle.message_tree.specs.Data.{Data}
 use Rattle.rawsocket.specs.declared.handshake.Serializer.{Serializer}
@@ -63,26 +63,26 @@ abbrev pub EndsAtLine : PublishWishes → List ℕ → Option Data → Terms →
 EndsAtLine wishes topic kwargs t request line before now fault =
     ((fault ≡ BadLine request) × (now ≡ before) × IsBadLine kwargs request line) ⊎ IsLineUnacknowledged wishes topic kwargs t request line before now fault
 
--- the line is whole, or all that was read of it
-abbrev pub StandsBehind : List ℕ → Type 0
-StandsBehind octets = (octets ≡ []) ⊎ ((more : List ℕ) × (octets ≡ 10 ∷ more))
+-- the line is whole: LF stands behind it, or the input is over; or it is longer than 2 ^ 20 octets, however it goes on
+abbrev pub IsWhole : Bool → List ℕ → List ℕ → Type 0
+IsWhole over line behind = ((more : List ℕ) × (behind ≡ 10 ∷ more)) ⊎ ((behind ≡ []) × ((over ≡ true) ⊎ (1048576 < length line)))
 
 -- of what was read of an input whole lines were published, and the next one ends a command
-pub record EndsInLines (wishes : PublishWishes) (topic : List ℕ) (kwargs : Option Data) (t : Terms) (before now : Ear) (input : List ℕ) (fault : Fault) : Type 0 where
+pub record EndsInLines (wishes : PublishWishes) (topic : List ℕ) (kwargs : Option Data) (t : Terms) (before now : Ear) (input : List ℕ) (over : Bool) (fault : Fault) : Type 0 where
   pub lines : List (List ℕ)
   pub line : List ℕ
   pub behind : List ℕ
   pub split : input ≡ ended lines ++ (line ++ behind)
   pub clean : HaveNoLineFeed (line ∷ lines)
-  pub stands : StandsBehind behind
+  pub whole : IsWhole over line behind
   pub last : Ear
   pub publishes : PublishesLines wishes topic kwargs t before last lines
   pub ends : EndsAtLine wishes topic kwargs t (length lines + 1) line last now fault
 
-pub record EndsInInput (wishes : PublishWishes) (topic : List ℕ) (kwargs : Option Data) (t : Terms) (before now : Ear) (given_before given : List ℕ) (fault : Fault) : Type 0 where
+pub record EndsInInput (wishes : PublishWishes) (topic : List ℕ) (kwargs : Option Data) (t : Terms) (before now : Ear) (given_before given : List ℕ) (over : Bool) (fault : Fault) : Type 0 where
   pub input : List ℕ
   pub read : given ≡ given_before ++ input
-  pub ends : EndsInLines wishes topic kwargs t before now input fault
+  pub ends : EndsInLines wishes topic kwargs t before now input over fault
 
 -- words end a command: no message carries them, or they aren't acknowledged
 abbrev pub EndsInWords : PublishWishes → List ℕ → Option Data → Terms → Data → Ear → Ear → Fault → Type 0
@@ -90,23 +90,23 @@ EndsInWords wishes topic kwargs t words before now fault =
     ((fault ≡ Usage) × (now ≡ before) × AreUncarried (arguments_of words kwargs)) ⊎ IsUnacknowledged wishes topic t 1 (arguments_of words kwargs) before now fault
 
 -- what is to be published ends a command
-abbrev pub EndsInAll : PublishWishes → List ℕ → Option Data → commands.Arguments → Terms → Ear → Ear → List ℕ → List ℕ → Fault → Type 0
-EndsInAll wishes topic kwargs (Words words) t before now given_before given fault = EndsInWords wishes topic kwargs t words before now fault × (given ≡ given_before)
-EndsInAll wishes topic kwargs Lines t before now given_before given fault = EndsInInput wishes topic kwargs t before now given_before given fault
+abbrev pub EndsInAll : PublishWishes → List ℕ → Option Data → commands.Arguments → Terms → Ear → Ear → List ℕ → List ℕ → Bool → Fault → Type 0
+EndsInAll wishes topic kwargs (Words words) t before now given_before given over fault = EndsInWords wishes topic kwargs t words before now fault × (given ≡ given_before)
+EndsInAll wishes topic kwargs Lines t before now given_before given over fault = EndsInInput wishes topic kwargs t before now given_before given over fault
 
 -- all was published, or all lines before one that can't be
-abbrev pub IsOver : PublishWishes → List ℕ → Option Data → commands.Arguments → Terms → Ear → Ear → List ℕ → List ℕ → Type 0
-IsOver wishes topic kwargs arguments t before now given_before given =
+abbrev pub IsOver : PublishWishes → List ℕ → Option Data → commands.Arguments → Terms → Ear → Ear → List ℕ → List ℕ → Bool → Type 0
+IsOver wishes topic kwargs arguments t before now given_before given over =
     PublishesAll wishes topic kwargs arguments t before now given_before given
-    ⊎ ((number : ℕ) × EndsInAll wishes topic kwargs arguments t before now given_before given (BadLine number))
+    ⊎ ((number : ℕ) × EndsInAll wishes topic kwargs arguments t before now given_before given over (BadLine number))
 
 -- why `publish` ends that had joined: while it published, or behind GOODBYE
-pub record EndsPublishing (s : Serializer) (realm : List ℕ) (authid : Option (List ℕ)) (wishes : PublishWishes) (topic : List ℕ) (arguments : commands.Arguments) (kwargs : Option Data) (before last : Exchange) (given_before given : List ℕ) (fault : Fault) : Type 0 where
+pub record EndsPublishing (s : Serializer) (realm : List ℕ) (authid : Option (List ℕ)) (wishes : PublishWishes) (topic : List ℕ) (arguments : commands.Arguments) (kwargs : Option Data) (before last : Exchange) (given_before given : List ℕ) (over : Bool) (fault : Fault) : Type 0 where
   pub joined : Exchange
   pub session : Welcomed
   pub joins : Joins s realm authid before joined session
   pub now : Ear
   pub ends :
-      (EndsInAll wishes topic kwargs arguments (terms_of session) (standing session joined.given joined.taken) now given_before given fault × Continues (exchange_of now) last)
-      ⊎ (IsOver wishes topic kwargs arguments (terms_of session) (standing session joined.given joined.taken) now given_before given
+      (EndsInAll wishes topic kwargs arguments (terms_of session) (standing session joined.given joined.taken) now given_before given over fault × Continues (exchange_of now) last)
+      ⊎ (IsOver wishes topic kwargs arguments (terms_of session) (standing session joined.given joined.taken) now given_before given over
       × EndsByMessage (terms_of session) (writing now (saying session.line.serializer GoodbyeSaid)) last fault)

@@ -195,7 +195,7 @@ fn publish_piece<I: Source, O: Sink>(
         input progress.old.rest.items progress.old.count
         → EndsInLines command.now.wishes command.now.topic command.now.kwargs (terms_of session.old) before
         (standing session.new (I.given source.new) (O.taken sink.new))
-        (input ++ piece.now) fault) }
+        (input ++ piece.now) false fault) }
     ensures gone { IfErr result (TellsEnd (I.is_ended source.new)) }
     ensures terms { terms_of session.new ≡ terms_of session.old }
     ensures aside { IfErr result IsOfBroker }
@@ -246,7 +246,7 @@ fn publish_last<I: Source, O: Sink>(
         input progress.old.rest.items progress.old.count
         → EndsInLines command.now.wishes command.now.topic command.now.kwargs (terms_of session.old) before
         (standing session.new (I.given source.new) (O.taken sink.new))
-        input fault) }
+        input true fault) }
     ensures gone { IfErr result (TellsEnd (I.is_ended source.new)) }
     ensures terms { terms_of session.new ≡ terms_of session.old }
     ensures aside { IfErr result IsOfBroker }
@@ -284,7 +284,7 @@ fn publish_pieces<I: Source, O: Sink, J: Source>(
         → EndsInInput command.now.wishes command.now.topic command.now.kwargs (terms_of session.old)
         (standing session.old (I.given source.old) (O.taken sink.old))
         (standing session.new (I.given source.new) (O.taken sink.new))
-        (J.given input.old) (J.given input.new) fault) }
+        (J.given input.old) (J.given input.new) (J.is_ended input.new) fault) }
     ensures gone { IfErr result (TellsEnd (I.is_ended source.new)) }
     ensures terms { terms_of session.new ≡ terms_of session.old }
     ensures reads { AreFailuresTold (I.failures source.old) (I.failures source.new)
@@ -334,7 +334,7 @@ fn publish_lines<I: Source, O: Sink, J: Source>(
         → EndsInInput command.now.wishes command.now.topic command.now.kwargs (terms_of session.old)
         (standing session.old (I.given source.old) (O.taken sink.old))
         (standing session.new (I.given source.new) (O.taken sink.new))
-        (J.given input.old) (J.given input.new) fault) }
+        (J.given input.old) (J.given input.new) (J.is_ended input.new) fault) }
     ensures gone { IfErr result (TellsEnd (I.is_ended source.new)) }
     ensures terms { terms_of session.new ≡ terms_of session.old }
     ensures reads { AreFailuresTold (I.failures source.old) (I.failures source.new)
@@ -421,7 +421,7 @@ fn publish_all<I: Source, O: Sink, J: Source>(
         → EndsInAll command.now.wishes command.now.topic command.now.kwargs command.now.arguments (terms_of session.old)
         (standing session.old (I.given source.old) (O.taken sink.old))
         (standing session.new (I.given source.new) (O.taken sink.new))
-        (J.given input.old) (J.given input.new) fault) }
+        (J.given input.old) (J.given input.new) (J.is_ended input.new) fault) }
     ensures gone { IfErr result (TellsEnd (I.is_ended source.new)) }
     ensures terms { terms_of session.new ≡ terms_of session.old }
     ensures reads { AreFailuresTold (I.failures source.old) (I.failures source.new)
@@ -471,7 +471,7 @@ pub fn publish<I: Source, O: Sink, J: Source>(
         command.now.contact.authid command.now.wishes command.now.topic command.now.arguments
         command.now.kwargs (exchange (I.given source.old) (O.taken sink.old))
         (exchange (I.given source.new) (O.taken sink.new))
-        (J.given input.old) (J.given input.new) fault) }
+        (J.given input.old) (J.given input.new) (J.is_ended input.new) fault) }
     ensures gone { IfErr result (TellsEnd (I.is_ended source.new)) }
     ensures reads { AreFailuresTold (I.failures source.old) (I.failures source.new)
         (told_by source_told result) }

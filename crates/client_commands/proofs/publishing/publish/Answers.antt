@@ -44,7 +44,7 @@ returns-in-Ok-publish_all-clause-cause g c =
     let published = standing c.publish_all.new.session (g.I.Source.given c.publish_all.new.source) (g.O.Sink.taken c.publish_all.new.sink) in
     both-err c.leave.result _ _ _
     (λ fault caused carried. λ is. inr (ends-leaving command.contact.serializer command.contact.realm command.contact.authid command.wishes command.topic command.arguments command.kwargs (exchange (g.I.Source.given c.args.source.now) (g.O.Sink.taken c.args.sink.now))
-    c.in-Ok.session (g.I.Source.given c.join.new.source) (g.O.Sink.taken c.join.new.sink) (g.J.Source.given c.args.input.now) (g.J.Source.given c.publish_all.new.input) (terms_of c.publish_all.new.session) published
+    c.in-Ok.session (g.I.Source.given c.join.new.source) (g.O.Sink.taken c.join.new.sink) (g.J.Source.given c.args.input.now) (g.J.Source.given c.publish_all.new.input) (g.J.Source.is_ended c.publish_all.new.input) (terms_of c.publish_all.new.session) published
     (exchange (g.I.Source.given c.leave.new.source) (g.O.Sink.taken c.leave.new.sink)) fault c.in-Ok.ensures.joined c.publish_all.ensures.terms (inl c.in-Ok-publish_all.ensures.published) (caused (by-message fault carried is))))
     c.leave.ensures.cause c.leave.ensures.carried
 
@@ -53,13 +53,14 @@ returns-in-Ok-leave-clause-cause g c =
     let command = c.args.command.now in
     let given_before = g.J.Source.given c.args.input.now in
     let given_now = g.J.Source.given c.publish_all.new.input in
+    let over = g.J.Source.is_ended c.publish_all.new.input in
     let joined = standing c.in-Ok.session (g.I.Source.given c.join.new.source) (g.O.Sink.taken c.join.new.sink) in
     let published = standing c.publish_all.new.session (g.I.Source.given c.publish_all.new.source) (g.O.Sink.taken c.publish_all.new.sink) in
     let bad : c.in-Err-BadLine.field-0 ≡ BadLine c.in-Err-BadLine.line = c.in-Err-BadLine.field-0-is in
     λ _. inr (ends-publishing command.contact.serializer command.contact.realm command.contact.authid command.wishes command.topic command.arguments command.kwargs (exchange (g.I.Source.given c.args.source.now) (g.O.Sink.taken c.args.sink.now))
-    c.in-Ok.session (g.I.Source.given c.join.new.source) (g.O.Sink.taken c.join.new.sink) given_before given_now published
+    c.in-Ok.session (g.I.Source.given c.join.new.source) (g.O.Sink.taken c.join.new.sink) given_before given_now over published
     (exchange (g.I.Source.given c.leave-in-Err-BadLine.new.source) (g.O.Sink.taken c.leave-in-Err-BadLine.new.sink)) (BadLine c.in-Err-BadLine.line) c.in-Ok.ensures.joined
-    (subst (λ (f : Fault). EndsInAll command.wishes command.topic command.kwargs command.arguments (terms_of c.in-Ok.session) joined published given_before given_now f) bad (c.in-Err-BadLine.ensures.ends (ap is_blamed bad)))
+    (subst (λ (f : Fault). EndsInAll command.wishes command.topic command.kwargs command.arguments (terms_of c.in-Ok.session) joined published given_before given_now over f) bad (c.in-Err-BadLine.ensures.ends (ap is_blamed bad)))
     c.leave-in-Err-BadLine.ensures.goes_on)
 
 pub returns-in-Err-BadLine-clause-cause : goal.returns-in-Err-BadLine-clause-cause
@@ -67,13 +68,14 @@ returns-in-Err-BadLine-clause-cause g c =
     let command = c.args.command.now in
     let given_before = g.J.Source.given c.args.input.now in
     let given_now = g.J.Source.given c.publish_all.new.input in
+    let over = g.J.Source.is_ended c.publish_all.new.input in
     let joined = standing c.in-Ok.session (g.I.Source.given c.join.new.source) (g.O.Sink.taken c.join.new.sink) in
     let published = standing c.publish_all.new.session (g.I.Source.given c.publish_all.new.source) (g.O.Sink.taken c.publish_all.new.sink) in
     let bad : c.in-Err-BadLine.field-0 ≡ BadLine c.in-Err-BadLine.line = c.in-Err-BadLine.field-0-is in
     λ is. inr (ends-leaving command.contact.serializer command.contact.realm command.contact.authid command.wishes command.topic command.arguments command.kwargs (exchange (g.I.Source.given c.args.source.now) (g.O.Sink.taken c.args.sink.now))
-    c.in-Ok.session (g.I.Source.given c.join.new.source) (g.O.Sink.taken c.join.new.sink) given_before given_now (terms_of c.publish_all.new.session) published
+    c.in-Ok.session (g.I.Source.given c.join.new.source) (g.O.Sink.taken c.join.new.sink) given_before given_now over (terms_of c.publish_all.new.session) published
     (exchange (g.I.Source.given c.leave-in-Err-BadLine.new.source) (g.O.Sink.taken c.leave-in-Err-BadLine.new.sink)) c.in-Err-leave.fault c.in-Ok.ensures.joined c.publish_all.ensures.terms
-    (inr (c.in-Err-BadLine.line, subst (λ (f : Fault). EndsInAll command.wishes command.topic command.kwargs command.arguments (terms_of c.in-Ok.session) joined published given_before given_now f) bad (c.in-Err-BadLine.ensures.ends (ap is_blamed bad))))
+    (inr (c.in-Err-BadLine.line, subst (λ (f : Fault). EndsInAll command.wishes command.topic command.kwargs command.arguments (terms_of c.in-Ok.session) joined published given_before given_now over f) bad (c.in-Err-BadLine.ensures.ends (ap is_blamed bad))))
     (c.in-Err-leave.ensures.cause (by-message c.in-Err-leave.fault c.in-Err-leave.ensures.carried is)))
 
 pub returns-in-Err-Closed-clause-cause : goal.returns-in-Err-Closed-clause-cause
@@ -81,6 +83,7 @@ returns-in-Err-Closed-clause-cause g c =
     let command = c.args.command.now in
     let given_before = g.J.Source.given c.args.input.now in
     let given_now = g.J.Source.given c.publish_all.new.input in
+    let over = g.J.Source.is_ended c.publish_all.new.input in
     let joined = standing c.in-Ok.session (g.I.Source.given c.join.new.source) (g.O.Sink.taken c.join.new.sink) in
     let published = standing c.publish_all.new.session (g.I.Source.given c.publish_all.new.source) (g.O.Sink.taken c.publish_all.new.sink) in
     let last = exchange (g.I.Source.given c.publish_all.new.source) (g.O.Sink.taken c.answer_goodbye.new.sink) in
@@ -88,8 +91,8 @@ returns-in-Err-Closed-clause-cause g c =
     λ is.
     let told : c.answer_goodbye.result ≡ Closed c.in-Err-Closed.reason = c.answer_goodbye.ensures.closed (by-message c.answer_goodbye.result c.answer_goodbye.ensures.carried is) in
     inr (ends-publishing command.contact.serializer command.contact.realm command.contact.authid command.wishes command.topic command.arguments command.kwargs (exchange (g.I.Source.given c.args.source.now) (g.O.Sink.taken c.args.sink.now))
-    c.in-Ok.session (g.I.Source.given c.join.new.source) (g.O.Sink.taken c.join.new.sink) given_before given_now published last c.answer_goodbye.result c.in-Ok.ensures.joined
-    (subst (λ (f : Fault). EndsInAll command.wishes command.topic command.kwargs command.arguments (terms_of c.in-Ok.session) joined published given_before given_now f) (cc (closed, told)) (c.in-Err-Closed.ensures.ends (ap is_blamed closed)))
+    c.in-Ok.session (g.I.Source.given c.join.new.source) (g.O.Sink.taken c.join.new.sink) given_before given_now over published last c.answer_goodbye.result c.in-Ok.ensures.joined
+    (subst (λ (f : Fault). EndsInAll command.wishes command.topic command.kwargs command.arguments (terms_of c.in-Ok.session) joined published given_before given_now over f) (cc (closed, told)) (c.in-Err-Closed.ensures.ends (ap is_blamed closed)))
     (continues-begun (g.I.Source.given c.publish_all.new.source) (g.O.Sink.taken c.publish_all.new.sink) (saying c.publish_all.new.session.line.serializer Goodbye) (g.O.Sink.taken c.answer_goodbye.new.sink) c.answer_goodbye.ensures.begun))
 
 pub returns-clause-cause : goal.returns-clause-cause
@@ -97,10 +100,11 @@ returns-clause-cause g c =
     let command = c.args.command.now in
     let given_before = g.J.Source.given c.args.input.now in
     let given_now = g.J.Source.given c.publish_all.new.input in
+    let over = g.J.Source.is_ended c.publish_all.new.input in
     let joined = standing c.in-Ok.session (g.I.Source.given c.join.new.source) (g.O.Sink.taken c.join.new.sink) in
     let published = standing c.publish_all.new.session (g.I.Source.given c.publish_all.new.source) (g.O.Sink.taken c.publish_all.new.sink) in
     let last = exchange (g.I.Source.given c.publish_all.new.source) (g.O.Sink.taken c.publish_all.new.sink) in
     λ is.
     inr (ends-publishing command.contact.serializer command.contact.realm command.contact.authid command.wishes command.topic command.arguments command.kwargs (exchange (g.I.Source.given c.args.source.now) (g.O.Sink.taken c.args.sink.now))
-    c.in-Ok.session (g.I.Source.given c.join.new.source) (g.O.Sink.taken c.join.new.sink) given_before given_now published last c.in-Err-publish_all.fault c.in-Ok.ensures.joined
+    c.in-Ok.session (g.I.Source.given c.join.new.source) (g.O.Sink.taken c.join.new.sink) given_before given_now over published last c.in-Err-publish_all.fault c.in-Ok.ensures.joined
     (c.in-Err-publish_all.ensures.ends is) (continues-still last))

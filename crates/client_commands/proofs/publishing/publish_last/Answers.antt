@@ -1,4 +1,4 @@
-use Rattle.std.proofs.Common.{◌≡◌, ◌<◌, [], length, arith, refl, sym, inl, append-nil}
+use Rattle.std.proofs.Common.{◌≡◌, ◌<◌, [], length, arith, refl, sym, inl, inr, true, append-nil}
 use Rattle.std.proofs.lemmas.List.{nil_from_length}
 use Rattle.std.proofs.lemmas.Bool.Decides.{nat_tests}
 use Rattle.std.proofs.lemmas.Result.{IfErr-weaker, on_ok_weaker}
@@ -36,5 +36,5 @@ returns-clause-ends g c =
     let now = standing c.publish_line.new.session (g.I.Source.given c.publish_line.new.source) (g.O.Sink.taken c.publish_line.new.sink) in
     let t = terms_of c.args.session.now in
     IfErr-weaker c.publish_line.result _ _
-    (λ fault ends. λ is before input p. ends-at command.wishes command.topic command.kwargs t before t mid now input [] rest input c.args.progress.now.count fault refl (sym (append-nil input)) (inl refl) p (ends is))
+    (λ fault ends. λ is before input p. ends-at command.wishes command.topic command.kwargs t before t mid now input [] rest input c.args.progress.now.count true fault refl (sym (append-nil input)) (inr (refl, inl refl)) p (ends is))
     c.publish_line.ensures.ends

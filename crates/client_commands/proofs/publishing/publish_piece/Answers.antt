@@ -41,8 +41,8 @@ returns-in-Err-clause-ends g c =
     let mid = standing c.lines.session (g.I.Source.given c.lines.source) (g.O.Sink.taken c.lines.sink) in
     let now = standing c.publish_line.new.session (g.I.Source.given c.publish_line.new.source) (g.O.Sink.taken c.publish_line.new.sink) in
     λ is before input p.
-    ends-at command.wishes command.topic command.kwargs t before (terms_of c.lines.session) mid now ((input ++ done) ++ front) (10 ∷ behind) (rest ++ front) (input ++ c.args.piece.now) count c.in-Err.fault
-    c.lines.invariant.terms (cut-at input c.args.piece.now done left front (10 ∷ behind) c.lines.invariant.piece c.in-Some.ensures.at) (inr (behind, refl))
+    ends-at command.wishes command.topic command.kwargs t before (terms_of c.lines.session) mid now ((input ++ done) ++ front) (10 ∷ behind) (rest ++ front) (input ++ c.args.piece.now) count false c.in-Err.fault
+    c.lines.invariant.terms (cut-at input c.args.piece.now done left front (10 ∷ behind) c.lines.invariant.piece c.in-Some.ensures.at) (inl (behind, refl))
     (published-rest command.wishes command.topic command.kwargs t before mid (input ++ done) rest front count c.in-Some.ensures.clean (c.lines.invariant.published before input p))
     (subst (λ xs. EndsAtLine command.wishes command.topic command.kwargs (terms_of c.lines.session) (count + 1) xs mid now c.in-Err.fault) c.in-Ok.ensures.items (c.in-Err.ensures.ends is))
 
@@ -58,7 +58,7 @@ returns-then-len-gt-LONGEST-clause-ends g c =
     let clean : has_line_feed left ≡ false = search rules in
     let long : 1048576 < length kept = grind (arith, nat_tests) in
     λ _ before input p.
-    ends-at command.wishes command.topic command.kwargs t before t mid mid (input ++ piece) [] kept (input ++ piece) count (BadLine (count + 1))
-    refl (sym (append-nil (input ++ piece))) (inl refl)
+    ends-at command.wishes command.topic command.kwargs t before t mid mid (input ++ piece) [] kept (input ++ piece) count false (BadLine (count + 1))
+    refl (sym (append-nil (input ++ piece))) (inr (refl, inr long))
     (published-kept command.wishes command.topic command.kwargs t before mid input c.lines.invariant.done piece c.lines.progress.rest.items left kept count clean c.in-Ok-extend_from_slice.ensures.items c.lines.invariant.piece (c.lines.invariant.published before input p))
     (inl (refl, refl, inl long))

@@ -1,6 +1,7 @@
 use Rattle.std.proofs.Common.{[], ◌++◌, ◌∙◌, append-nil, append_assoc, ap, arith, refl, sym, take}
 use Rattle.rawsocket.proofs.Lemmas.{all_turns, then_steps}
 use Rattle.client_commands.specs.Acts.{standing, terms_of}
+use Rattle.client_commands.proofs.EndsLemmas.{ends-in-piece}
 use Rattle.client_commands.proofs.PublishingLemmas.{published-more, published-none}
 use Rattle.client_commands.proofs.publishing.publish_pieces.Goals as goal
 
@@ -39,4 +40,20 @@ pieces-preserved g c =
       reads = omega (arith, c.in_default-publish_piece.ensures.reads, c.pieces.invariant.reads);
       writes = omega (arith, c.in_default-publish_piece.ensures.writes, c.pieces.invariant.writes);
       steps = then_steps c.pieces.invariant.steps c.in-Ok.ensures.steps;
+    }
+
+pub returns-in-Err-publish_piece-clause-ends : goal.returns-in-Err-publish_piece-clause-ends
+returns-in-Err-publish_piece-clause-ends g c =
+    let command = c.args.command.now in
+    let first = standing c.args.session.now (g.I.Source.given c.args.source.now) (g.O.Sink.taken c.args.sink.now) in
+    let mid = standing c.pieces.session (g.I.Source.given c.pieces.source) (g.O.Sink.taken c.pieces.sink) in
+    let now = standing c.publish_piece.new.session (g.I.Source.given c.publish_piece.new.source) (g.O.Sink.taken c.publish_piece.new.sink) in
+    let so_far = c.pieces.invariant.read_so_far in
+    let piece = take c.in-Ok.count c.read_piece.new.buffer in
+    λ is. record {
+      input = so_far ++ piece;
+      read = c.in-Ok.ensures.given ∙ ap (λ xs. xs ++ piece) c.pieces.invariant.read ∙ append_assoc (g.J.Source.given c.args.input.now) so_far piece;
+      ends =
+          ends-in-piece command.wishes command.topic command.kwargs (terms_of c.args.session.now) first (terms_of c.pieces.session) mid now so_far piece c.pieces.progress.rest.items c.pieces.progress.count
+          (g.J.Source.is_ended c.read_piece.new.source) c.in-Err-publish_piece.fault c.pieces.invariant.terms (c.in-Err-publish_piece.ensures.ends is) c.pieces.invariant.published;
     }
