@@ -1,10 +1,13 @@
-use Rattle.std.proofs.Common.{◌≢◌, refl, ap, ◌∙◌, subst, set}
+use Rattle.std.proofs.Common.{◌≢◌, refl, sym, ap, ◌∙◌, subst, set}
 use Rattle.std.proofs.lemmas.Result.{IfOk-weaker, IfErr-weaker}
-use Rattle.realm_actor.specs.Rows.{Each, StandsAt}
+use Rattle.realm_actor.specs.Rows.{Ascending, Each, StandsAt}
 use Rattle.realm_actor.specs.Settle.{IsOther}
 use Rattle.realm_actor.proofs.RowRemoval.{at_place, holds_at, set_same}
 use Rattle.realm_actor.proofs.settle.settle_row.Goals as goal
 use Rattle.realm_actor.proofs.LastCutLemmas.{holds_nowhere}
+
+pub find_number-requires : goal.find_number-requires
+find_number-requires g c = subst (λ l. Ascending l) (sym c.as_slice.ensures.value) c.requires.ascending
 
 pub unreachable-requires : goal.unreachable-requires
 unreachable-requires g c =
