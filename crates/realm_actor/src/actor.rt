@@ -184,7 +184,8 @@ impl<S: Shut, W: IdSource> Actor<S, W> {
         self.state.wake();
     }
 
-    /// Forgets the sessions that aren't live: their outboxes are dropped, if they are held.
+    /// Forgets the sessions that aren't live: their outboxes are handed over to their writers, if they are held
+    /// ([`outbox_queue::Outbox::hand_over`]).
     pub fn sweep(&mut self)
         ensures sweeps { Sweeps self.old self.new }
         ensures chronicle { self.new.chronicle ≡ self.old.chronicle }
