@@ -208,7 +208,7 @@ all_owed : (own : Option History) (all : List (Kept History)) (o : Option (Kept 
     → TookAll owed_kept over_kept drain → TookAllOwed own drain
 all_owed own all o drain begins kept is legal took =
     let new : IfSome (or_else took.last.history drain.seen) (λ k. Reaches Begins (Some k.history) own) =
-        subst (λ (x : Option (Kept History)). IfSome x (λ k. Reaches Begins (Some k.history) own)) (is ∙ ap (λ (l : Option (Last Item (Kept History))). or_else (came_with l) drain.seen) took.came) (reached own all o begins kept) in
+    subst (λ (x : Option (Kept History)). IfSome x (λ k. Reaches Begins (Some k.history) own)) (is ∙ ap (λ (l : Option (Last Item (Kept History))). or_else (came_with l) drain.seen) took.came) (reached own all o begins kept) in
     record {
       last = took.last;
       came = took.came;
