@@ -13,7 +13,7 @@ use Rattle.realm_actor.specs.ActorView.{Acting}
 use Rattle.realm_actor.specs.Settle.{Sweeps}
 use Rattle.realm_actor.specs.ReceivedAhead.{NoneBehindStop, TakesNext}
 use Rattle.realm_actor.proofs.ReceivedAhead.{in_order_append}
-use Rattle.realm_actor.specs.Run.{Handles, Runs, none, one_more, Ran, left, stopped, is_stop, stands_at, IsNextOf, SameAtSeats}
+use Rattle.realm_actor.specs.Run.{EndsInStop, Handles, Runs, none, one_more, Ran, left, stopped, is_stop, stands_at, IsNextOf, SameAtSeats}
 use Rattle.realm_actor.specs.HistoryGrowth.{said_of}
 
 module _ {S : Type 0} where
@@ -90,13 +90,20 @@ module _ {S : Type 0} where
       let all : g.came ++ ahead ≡ g.came = ap (λ x. g.came ++ x) none_ahead ∙ append-nil g.came in
       (g.came, is ∙ g.more ∙ ap (λ x. front ++ x) all, subst (λ x. InOrder front x) all g.in_order, left g.runs s)
 
+  -- and where its last post is a stop
+  abbrev pub EndsByStop : Acting S → Acting S → List (Post S) → List (Post S) → Type 0
+  EndsByStop start now front got = (ends : Ends start now front got) × EndsInStop ends.0
+
   pub ends_stopped : (start b c d : Acting S) (front got got' ahead later : List (Post S)) (result : Outcome) (p : Post S) → is_stop p ≡ true → Progress start b front got ahead → Sweeps b c
-      → TakesNext got got' ahead later p → Handles result p c d → Ends start d front got'
+      → TakesNext got got' ahead later p → Handles result p c d → EndsByStop start d front got'
   ends_stopped start b c d front got got' ahead later result (Act l) other g s t handles = absurd (true≢false (sym other))
   ends_stopped start b c d front got got' ahead later result (Stop halt) other g s t handles =
       let all : (g.came ++ Stop halt ∷ []) ++ later ≡ g.came ++ Stop halt ∷ [] = ap (λ x. (g.came ++ Stop halt ∷ []) ++ x) (t.last g.last) ∙ append-nil (g.came ++ Stop halt ∷ []) in (
-        g.came ++ Stop halt ∷ [],
-        now_received start b front got got' ahead later (Stop halt) g t ∙ ap (λ x. front ++ x) all,
-        subst (λ x. InOrder front x) all (now_in_order start b front got got' ahead later (Stop halt) g t),
-        stopped halt g.runs s handles,
+        (
+          g.came ++ Stop halt ∷ [],
+          now_received start b front got got' ahead later (Stop halt) g t ∙ ap (λ x. front ++ x) all,
+          subst (λ x. InOrder front x) all (now_in_order start b front got got' ahead later (Stop halt) g t),
+          stopped halt g.runs s handles,
+        ),
+        (g.came, halt, refl),
       )

@@ -57,6 +57,10 @@ module _ {S : Type 0} where
   is_stop (post.Act l) = false
   is_stop (post.Stop halt) = true
 
+  -- the last of these posts is a stop
+  abbrev pub EndsInStop : List (Post S) → Type 0
+  EndsInStop came = (front : List (Post S)) × (halt : Halt) × (came ≡ front ++ post.Stop halt ∷ [])
+
   -- the acts are, seat by seat, what these posts are there
   abbrev pub SameAtSeats : List (ℕ × Act S) → List (Post S) → Type 0
   SameAtSeats acts ps = (k : ℕ) → stands_at k acts ≡ at_seat k ps

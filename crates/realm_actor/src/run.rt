@@ -1,12 +1,12 @@
 //! How an actor runs.
-ghost use Rattle.std.specs.Prelude.{◌≡◌, ℕ, ◌++◌, [], ◌∷◌, true, false, List, MatchOption};
+ghost use Rattle.std.specs.Prelude.{◌≡◌, ℕ, ◌++◌, [], ◌∷◌, true, false, None, List, IfSome, MatchOption};
 ghost use Rattle.realm.specs.History.{Begins};
 ghost use Rattle.realm_inbox.specs.declared.letter.Post.{Post as APost};
-ghost use Rattle.realm_inbox.specs.Seats.{InOrder, EachHomed};
+ghost use Rattle.realm_inbox.specs.Seats.{InOrder, IsNext, IsHomed, EachHomed};
 ghost use Rattle.realm_inbox.specs.EndViews.{received, home_of, inbox_of};
 ghost use Rattle.realm_actor.specs.ReceivedAhead.{AreHomed, IsAt, NoneBehindStop, TakesNext};
 ghost use Rattle.realm_actor.specs.PostedOrder.{KeepsOrderSince, acts_for};
-ghost use Rattle.realm_actor.specs.Run.{KeepsHeld, Ran, SameAtSeats, is_stop};
+ghost use Rattle.realm_actor.specs.Run.{EndsInStop, KeepsHeld, Ran, SameAtSeats, is_stop};
 
 use crate::actor::Actor;
 use realm_inbox::{IdSource, Inbox, Post, Shut};
@@ -68,12 +68,13 @@ impl<S: Shut, W: IdSource> Actor<S, W> {
         ensures chronicle { result.chronicle ≡ self.chronicle }
         ensures same { inbox_of inbox.new ≡ inbox_of inbox.old }
     {
-        self.run_before(rt, alloc, inbox, &mut Nobody)
+        self.run_on(rt, alloc, inbox, &mut Nobody, true)
     }
 
-    /// The same as [`Actor::run`], while somebody looks on.
-    pub fn run_before<R: Wait, O: Onlooker>(
-        mut self,
+    /// The same as [`Actor::run`], while somebody looks on, and a stop alone ends it: whoever calls it keeps a door of the inbox until
+    /// one is posted. Where each sender is gone before, it looks again and again.
+    pub fn run_to_stop<R: Wait, O: Onlooker>(
+        self,
         rt: &R,
         alloc: Global,
         inbox: &mut Inbox<S>,
@@ -82,7 +83,32 @@ impl<S: Shut, W: IdSource> Actor<S, W> {
         requires in_turn { SameAtSeats self.handled (received inbox.old) }
         requires home { IsAt self.chronicle (home_of inbox.old) }
         ensures ran { (came : List (APost S)) × (received inbox.new ≡ received inbox.old ++ came)
-            × InOrder (received inbox.old) came × Ran self came result }
+            × InOrder (received inbox.old) came × Ran self came result × EndsInStop came }
+        ensures begins { Begins self.history result.history }
+        ensures in_turn { SameAtSeats result.handled (received inbox.new) }
+        ensures order { (c : ℕ) → KeepsOrderSince self.history c (acts_for c result.handled)
+            result.history }
+        ensures held { KeepsHeld self result }
+        ensures chronicle { result.chronicle ≡ self.chronicle }
+        ensures same { inbox_of inbox.new ≡ inbox_of inbox.old }
+    {
+        self.run_on(rt, alloc, inbox, onlooker, false)
+    }
+
+    // Runs until a stop was handled, or, where it may leave, each sender is gone.
+    fn run_on<R: Wait, O: Onlooker>(
+        mut self,
+        rt: &R,
+        alloc: Global,
+        inbox: &mut Inbox<S>,
+        onlooker: &mut O,
+        may_leave: bool,
+    ) -> Actor<S, W>
+        requires in_turn { SameAtSeats self.handled (received inbox.old) }
+        requires home { IsAt self.chronicle (home_of inbox.old) }
+        ensures ran { (came : List (APost S)) × (received inbox.new ≡ received inbox.old ++ came)
+            × InOrder (received inbox.old) came × Ran self came result
+            × (may_leave ≡ false → EndsInStop came) }
         ensures begins { Begins self.history result.history }
         ensures in_turn { SameAtSeats result.handled (received inbox.new) }
         ensures order { (c : ℕ) → KeepsOrderSince self.history c (acts_for c result.handled)
@@ -96,7 +122,7 @@ impl<S: Shut, W: IdSource> Actor<S, W> {
         let mut unwoken = 0;
         for _ in rt.forever() {
             self.sweep();
-            let Some(post) = self.next_post(rt, inbox, &mut ahead, &mut unwoken) else {
+            let Some(post) = self.next_post(rt, inbox, &mut ahead, &mut unwoken, may_leave) else {
                 return self;
             };
             let ends = is_stop(&post);
@@ -110,14 +136,16 @@ impl<S: Shut, W: IdSource> Actor<S, W> {
         unreachable!()
     }
 
-    // The next post. Where none is there, or many were handled since, the writers are woken first.
+    // The next post. Where none is there, or many were handled since, the writers are woken first. `None` only where the run may leave.
     fn next_post<R: Wait>(
         &self,
         rt: &R,
         inbox: &mut Inbox<S>,
         ahead: &mut VecDeque<Post<S>>,
         unwoken: &mut u64,
+        may_leave: bool,
     ) -> Option<Post<S>>
+        ensures stays { result ≡ None → may_leave ≡ true }
         ensures next { MatchOption result ((received inbox.new ≡ received inbox.old)
             × (ahead.old.items ≡ []) × (ahead.new.items ≡ []))
             (TakesNext (received inbox.old) (received inbox.new) ahead.old.items ahead.new.items) }
@@ -130,7 +158,7 @@ impl<S: Shut, W: IdSource> Actor<S, W> {
         if let Some(post) = ready {
             return Some(post);
         }
-        inbox.receive(rt)
+        wait_for_post(rt, inbox, may_leave)
     }
 
     // Wakes the writers if the actor is to wait, or has handled many posts since they were woken.
@@ -141,6 +169,32 @@ impl<S: Shut, W: IdSource> Actor<S, W> {
         }
         *unwoken += 1;
     }
+}
+
+// Waits for a post. Where each sender is gone it is `None`, if the run may leave then; if it may not, it waits on.
+fn wait_for_post<S: Shut, R: Wait>(
+    rt: &R,
+    inbox: &mut Inbox<S>,
+    may_leave: bool,
+) -> Option<Post<S>>
+    ensures stays { result ≡ None → may_leave ≡ true }
+    ensures given { MatchOption result (received inbox.new ≡ received inbox.old)
+        (λ p. received inbox.new ≡ received inbox.old ++ p ∷ []) }
+    ensures in_turn { IfSome result (λ p. IsNext (received inbox.old) p) }
+    ensures home { IfSome result (λ p. IsHomed (home_of inbox.old) p) }
+    ensures same { inbox_of inbox.new ≡ inbox_of inbox.old }
+{
+    for _ in rt.forever() {
+        match inbox.receive(rt) {
+            Some(post) => return Some(post),
+            None => {
+                if may_leave {
+                    return None;
+                }
+            }
+        }
+    }
+    unreachable!()
 }
 
 // A post that is there: the first of those that were received ahead; where none is left, more are received, and posters that wait

@@ -6,7 +6,7 @@ use Rattle.realm.specs.Grants.{pairs_of}
 use Rattle.realm.specs.History.{begun}
 use Rattle.realm.specs.Sessions.{IsHistory}
 use Rattle.realm_actor.specs.ActorView.{Acting}
-use Rattle.realm_actor.specs.Run.{Ran}
+use Rattle.realm_actor.specs.Run.{EndsInStop, Ran}
 use Rattle.realm_inbox.specs.EndViews.{received, inbox_of}
 use Rattle.realm_inbox.specs.Seats.{InOrder}
 use Rattle.realm_inbox.specs.declared.letter.Post.{Post}
@@ -18,13 +18,14 @@ module _ {S : Type 0} where
   abbrev pub first_of : ActorThread S → Acting S
   first_of w = record { chronicle = w.chronicle.chronicle; history = begun (pairs_of w.config.grants.items); rows = []; words = w.words.given; last_cut = []; handled = [] }
 
-  -- the actor ran on what its own inbox gave first, up to its end, and its chronicle has the history that this made, in which each entry may come after those before it; what the
+  -- the actor ran on what its own inbox gave first, up to a stop and no further, and its chronicle has the history that this made, in which each entry may come after those before it; what the
   -- inbox gave then was turned away
   pub record RanOn (w : ActorThread S) (done : Acted S) (actor : Acting S) : Type 0 where
     pub came : List (Post S)
     pub received : IsPrefix came (received done.inbox)
     pub in_order : InOrder [] came
     pub ran : Ran (first_of w) came actor
+    pub ends : EndsInStop came
     pub history : done.chronicle.history ≡ Some actor.history
     pub legal : IsHistory actor.history
 

@@ -92,7 +92,7 @@ impl<R: Wait + Copy, S: Shut + Send + 'static> Work<R> for ActorThread<S> {
             realm,
             is_told: false,
         };
-        let mut actor = actor.run_before(&rt, alloc, &mut inbox, &mut onlooker);
+        let mut actor = actor.run_to_stop(&rt, alloc, &mut inbox, &mut onlooker);
         mark_held(&actor, &marks);
         actor.shows();
         let ended = Snapshot::of(&actor);

@@ -1,6 +1,7 @@
 //! Why the program ends with a fault.
-ghost use Rattle.std.specs.Prelude.{◌≡◌, []};
-ghost use Rattle.broker_server.specs.declared.fault.Fault.TheVariants.{ConnectFault, ListenFault};
+ghost use Rattle.std.specs.Prelude.{◌≡◌, ◌≢◌, []};
+ghost use Rattle.std.specs.IoError.{error_kind};
+ghost use Rattle.broker_server.specs.declared.fault.Fault.TheVariants.{ConnectFault, ListenFault, NoMemory, Usage};
 ghost use Rattle.broker_server.specs.Commands.{fault_of_client};
 
 use broker_server::{Fault, explain, help, shown_line};
@@ -41,7 +42,10 @@ impl Failure {
     }
 
     /// The words couldn't be had: one isn't UTF-8, or there is no memory for them.
-    pub fn to_have_words(alloc: Global, error: &io::Error) -> Failure {
+    pub fn to_have_words(alloc: Global, error: &io::Error) -> Failure
+        ensures unreadable { error_kind error.now ≡ ErrorKind.InvalidData → result.fault ≡ Usage }
+        ensures unheld { error_kind error.now ≢ ErrorKind.InvalidData → result.fault ≡ NoMemory }
+    {
         match error.kind() {
             ErrorKind::InvalidData => {
                 let reason = format!(in alloc; "{UNREADABLE}");

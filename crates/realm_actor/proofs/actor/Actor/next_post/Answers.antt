@@ -13,8 +13,8 @@ returns-in-Some-clause-next g c =
 
 pub returns-clause-next : goal.returns-clause-next
 returns-clause-next g c =
-    next_given c.ready_post-ready.result c.receive.result (received c.args.inbox.now) (received c.ready_post-ready.new.inbox) (received c.receive.new.self) c.args.ahead.now.items c.ready_post-ready.new.ahead.items
-    c.ready_post-ready.ensures.next c.in_default.is c.receive.ensures.given c.receive.ensures.in_turn
+    next_given c.ready_post-ready.result c.wait_for_post.result (received c.args.inbox.now) (received c.ready_post-ready.new.inbox) (received c.wait_for_post.new.inbox) c.args.ahead.now.items c.ready_post-ready.new.ahead.items
+    c.ready_post-ready.ensures.next c.in_default.is c.wait_for_post.ensures.given c.wait_for_post.ensures.in_turn
 
 pub returns-in-Some-clause-home : goal.returns-in-Some-clause-home
 returns-in-Some-clause-home g c = λ before. subst (λ r. AreHomed (home_of c.args.inbox.now) r c.ready_post-ready.new.ahead.items) c.in-Some.is (c.ready_post-ready.ensures.home before)
@@ -22,8 +22,8 @@ returns-in-Some-clause-home g c = λ before. subst (λ r. AreHomed (home_of c.ar
 pub returns-clause-home : goal.returns-clause-home
 returns-clause-home g c = λ before.
     let home = home_of c.args.inbox.now in
-    homed_given home c.receive.result c.ready_post-ready.new.ahead.items (subst (λ r. AreHomed home r c.ready_post-ready.new.ahead.items) c.in_default.is (c.ready_post-ready.ensures.home before))
-    (subst (λ h. IfSome c.receive.result (λ p. IsHomed h p)) (ap (λ p. p.2) c.ready_post-ready.ensures.same) c.receive.ensures.home)
+    homed_given home c.wait_for_post.result c.ready_post-ready.new.ahead.items (subst (λ r. AreHomed home r c.ready_post-ready.new.ahead.items) c.in_default.is (c.ready_post-ready.ensures.home before))
+    (subst (λ h. IfSome c.wait_for_post.result (λ p. IsHomed h p)) (ap (λ p. p.2) c.ready_post-ready.ensures.same) c.wait_for_post.ensures.home)
 
 pub returns-clause-same : goal.returns-clause-same
-returns-clause-same g c = c.receive.ensures.same.0 ∙ c.ready_post-ready.ensures.same
+returns-clause-same g c = c.wait_for_post.ensures.same ∙ c.ready_post-ready.ensures.same

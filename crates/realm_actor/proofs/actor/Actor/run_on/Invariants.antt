@@ -2,7 +2,7 @@ use Rattle.std.proofs.Common.{◌≡◌}
 use Rattle.realm_inbox.specs.EndViews.{received, home_of, inbox_of}
 use Rattle.realm_inbox.specs.Seats.{EachHomed}
 use Rattle.realm_actor.proofs.RunLemmas.{Progress}
-use Rattle.realm_actor.proofs.actor.Actor.run_before.Given as goal
+use Rattle.realm_actor.proofs.actor.Actor.run_on.Given as goal
 
 abbrev pub invariant-loop : goal.invariant-loop
 invariant-loop g l = record {

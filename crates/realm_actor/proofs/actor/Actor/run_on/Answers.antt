@@ -1,4 +1,4 @@
-use Rattle.std.proofs.Common.{refl, sym, ap, ◌∙◌, subst}
+use Rattle.std.proofs.Common.{true≢false, refl, sym, ap, ◌∙◌, subst}
 use Rattle.realm_inbox.specs.EndViews.{received, home_of}
 use Rattle.realm_inbox.specs.Seats.{IsHomed, EachHomed}
 use Rattle.realm_actor.specs.ReceivedAhead.{IsAt}
@@ -7,7 +7,7 @@ use Rattle.realm_actor.proofs.RunLemmas.{progress_none, progress_on, ends_left, 
 use Rattle.realm_actor.proofs.RunHistory.{ran_begins}
 use Rattle.realm_actor.proofs.LiveThroughRun.{ran_holds}
 use Rattle.realm_actor.proofs.MadeHistory.{run_order, run_same}
-use Rattle.realm_actor.proofs.actor.Actor.run_before.Goals as goal
+use Rattle.realm_actor.proofs.actor.Actor.run_on.Goals as goal
 
 pub loop-init : goal.loop-init
 loop-init g c = record {
@@ -28,9 +28,10 @@ take-requires g c =
 pub returns-in_default : goal.returns-in_default
 returns-in_default g c =
     let none = c.in_default.ensures.next in
+    let leaves = c.in_default.ensures.stays refl in
     let e = ends_left c.args.self c.loop.self c.sweep.new.self (received c.args.inbox.now) (received c.loop.inbox) (received c.next_post.new.inbox) c.loop.ahead.items c.loop.invariant.progress c.sweep.ensures.sweeps none.0 none.1 in
     record {
-      ran = e;
+      ran = (e.0, e.1, e.2, e.3, λ stays. absurd (true≢false (sym leaves ∙ stays)));
       begins = ran_begins e.3;
       in_turn = run_same c.args.self c.sweep.new.self (received c.args.inbox.now) (received c.next_post.new.inbox) c.requires.in_turn e;
       order = run_order c.args.self c.sweep.new.self e.0 c.shows.ensures.made e.3;
@@ -50,10 +51,11 @@ loop-preserved g c = let i = c.loop.invariant in record {
 
 pub returns-then-ends : goal.returns-then-ends
 returns-then-ends g c =
-    let e = ends_stopped c.args.self c.loop.self c.sweep.new.self c.take.new.self (received c.args.inbox.now) (received c.loop.inbox) (received c.next_post.new.inbox) c.loop.ahead.items c.next_post.new.ahead.items c.take.result c.in-Some-next_post.post
+    let s = ends_stopped c.args.self c.loop.self c.sweep.new.self c.take.new.self (received c.args.inbox.now) (received c.loop.inbox) (received c.next_post.new.inbox) c.loop.ahead.items c.next_post.new.ahead.items c.take.result c.in-Some-next_post.post
     (sym c.is_stop-ends.ensures ∙ c.if-ends.true) c.loop.invariant.progress c.sweep.ensures.sweeps c.in-Some-next_post.ensures.next c.take.ensures.handles in
+    let e = s.0 in
     record {
-      ran = e;
+      ran = (e.0, e.1, e.2, e.3, λ _. s.1);
       begins = ran_begins e.3;
       in_turn = run_same c.args.self c.take.new.self (received c.args.inbox.now) (received c.next_post.new.inbox) c.requires.in_turn e;
       order = run_order c.args.self c.take.new.self e.0 c.shows.ensures.made e.3;
