@@ -3,7 +3,7 @@ use Rattle.std.proofs.Common.{◌≡◌, ◌+◌, ◌<◌, ◌≤◌, ℕ, List,
 use Rattle.threaded_server.specs.Answers.{in_a_row, GoesOn, Serves}
 use Rattle.threaded_server.specs.declared.answer.Answer.{Answer}
 use Rattle.threaded_server.specs.declared.answer.Answer.TheVariants.{Came, Stopped, Failed}
-use Rattle.threaded_server.specs.declared.fault.Fault.TheVariants.{NoMemory, ListenFault}
+use Rattle.broker_config.specs.declared.fault.Fault.TheVariants.{NoMemory, ListenFault}
 
 pub row_came : (n : ℕ) (all : List Answer) → in_a_row n (all ++ Came ∷ []) ≡ 0
 row_came n [] = refl

@@ -7,7 +7,7 @@ use Rattle.threaded_server.specs.Overs.{Books, Moves}
 use Rattle.threaded_server.specs.Served.{LentUntil, came_in}
 use Rattle.threaded_server.specs.declared.answer.Answer.{Answer}
 use Rattle.threaded_server.specs.declared.answer.Answer.TheVariants.{Came, Stopped, Failed}
-use Rattle.threaded_server.specs.declared.fault.Fault.TheVariants.{NoMemory, ListenFault}
+use Rattle.broker_config.specs.declared.fault.Fault.TheVariants.{NoMemory, ListenFault}
 
 -- how many came, with one answer more
 came_more : (given : List Answer) → came_in (given ++ Came ∷ []) ≡ came_in given + 1

@@ -16,7 +16,7 @@ use Rattle.threaded_server.specs.Streams.{Sight}
 use Rattle.threaded_server.specs.Ties.{IsRun, OverTied}
 use Rattle.threaded_server.specs.declared.answer.Answer.{Answer}
 use Rattle.threaded_server.specs.declared.answer.Answer.TheVariants.{Came, Failed}
-use Rattle.threaded_server.specs.declared.fault.Fault.{Fault}
+use Rattle.broker_config.specs.declared.fault.Fault.{Fault}
 use Rattle.threaded_server.specs.declared.over.Over.{Over}
 use Rattle.threaded_server.specs.declared.realm_run.RealmRun.{RealmRun}
 

@@ -4,8 +4,8 @@ use Rattle.threaded_server.specs.declared.acceptor.Accepted.{Accepted}
 use Rattle.threaded_server.specs.declared.acceptor.Accepted.TheVariants as accepted
 use Rattle.threaded_server.specs.declared.answer.Answer.{Answer}
 use Rattle.threaded_server.specs.declared.answer.Answer.TheVariants.{Came, Stopped, Failed}
-use Rattle.threaded_server.specs.declared.fault.Fault.{Fault}
-use Rattle.threaded_server.specs.declared.fault.Fault.TheVariants.{NoMemory, ListenFault}
+use Rattle.broker_config.specs.declared.fault.Fault.{Fault}
+use Rattle.broker_config.specs.declared.fault.Fault.TheVariants.{NoMemory, ListenFault}
 
 module _ {T : Type 0} where
   -- an answer without its stream

@@ -1,7 +1,7 @@
 -- The words that a realm draws: counted, or at random.
 use Rattle.std.specs.Prelude.{◌≡◌, ⊤, ℕ, zero, suc, ◌+◌, ◌%◌, ◌^◌, List, [], ◌∷◌, ◌++◌, Bool, true, false, length}
-use Rattle.threaded_server.specs.declared.config.Ids.{Ids}
-use Rattle.threaded_server.specs.declared.config.Ids.TheVariants as ids
+use Rattle.broker_config.specs.declared.config.Ids.{Ids}
+use Rattle.broker_config.specs.declared.config.Ids.TheVariants as ids
 use Rattle.threaded_server.specs.declared.id_words.Origin.{Origin}
 use Rattle.threaded_server.specs.declared.id_words.Origin.TheVariants.{Random, Count}
 

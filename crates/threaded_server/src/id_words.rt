@@ -2,7 +2,7 @@
 ghost use Rattle.std.specs.Prelude.{◌≡◌, ◌++◌, ◌∷◌, [], true, length, IfOk};
 ghost use Rattle.threaded_server.specs.Words.{CountsOn, Draws, is_counting, are_counted, counted};
 
-use crate::config::Ids;
+use broker_config::Ids;
 use rand::make_rng;
 use rand::rngs::StdRng;
 use rand_core::Rng;

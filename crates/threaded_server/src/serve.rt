@@ -13,17 +13,15 @@ ghost use Rattle.threaded_server.specs.declared.fate.Marked.{Marked};
 
 use crate::acceptor::{Accepted, Acceptor, Parts};
 use crate::actor_thread::ActorThread;
-use crate::config::Config;
 use crate::connection_table::{Arrival, ConnectionTable};
 use crate::fate::Marked;
-use crate::fault::Fault;
-use crate::grants::copy_grants;
 use crate::id_words::IdWords;
 use crate::log::Log;
 use crate::over::Gone;
 use crate::plan::Plan;
 use crate::realm_handle::RealmHandle;
 use crate::told::{tell_failed, tell_refused, tell_stopping};
+use broker_config::{Config, Fault, copy_grants};
 use connection::InUse;
 use crossbeam_channel::bounded;
 use notices::Refusal;

@@ -1,6 +1,6 @@
 //! What is told of connections, and of the broker.
-use crate::fault::Fault;
 use crate::log::Log;
+use broker_config::Fault;
 use notices::{
     Reason, Refusal, Stopping, accept_failed, accepted, closed, refused, retained_full, stopping,
 };

@@ -15,7 +15,7 @@ pub enum Fault {
 
 impl From<AllocError> for Fault {
     ghost use Rattle.std.specs.Prelude.{◌≡◌};
-    ghost use Rattle.threaded_server.specs.declared.fault.Fault.TheVariants.{NoMemory};
+    ghost use Rattle.broker_config.specs.declared.fault.Fault.TheVariants.{NoMemory};
 
     ghost from_gives = { λ _ fault. fault ≡ NoMemory };
 
