@@ -172,11 +172,7 @@ impl<S: Shut, W: IdSource> Actor<S, W> {
 }
 
 // Waits for a post. Where each sender is gone it is `None`, if the run may leave then; if it may not, it waits on.
-fn wait_for_post<S: Shut, R: Wait>(
-    rt: &R,
-    inbox: &mut Inbox<S>,
-    may_leave: bool,
-) -> Option<Post<S>>
+fn wait_for_post<S: Shut, R: Wait>(rt: &R, inbox: &mut Inbox<S>, may_leave: bool) -> Option<Post<S>>
     ensures stays { result ≡ None → may_leave ≡ true }
     ensures given { MatchOption result (received inbox.new ≡ received inbox.old)
         (λ p. received inbox.new ≡ received inbox.old ++ p ∷ []) }

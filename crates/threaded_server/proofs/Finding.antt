@@ -7,8 +7,8 @@ use Rattle.threaded_server.proofs.Places.{get_last, get_more, get_push_cases}
 use Rattle.threaded_server.specs.Overs.{AllFound, Found, FoundNoSeat}
 use Rattle.threaded_server.specs.declared.over.Over.{Over}
 use Rattle.threaded_server.specs.declared.over.Over.TheVariants.{Seated, TurnedAway, Untouched}
-use Rattle.threaded_server.specs.declared.reader_thread.Ended.{Ended}
-use Rattle.threaded_server.specs.declared.reader_thread.Reader.{Reader}
+use Rattle.broker_threads.specs.declared.reader_thread.Ended.{Ended}
+use Rattle.broker_threads.specs.declared.reader_thread.Reader.{Reader}
 
 module _ {I O S : Type 0} where
   more_found : (lent : List (I × O)) (halves : I × O) (i : ℕ) (over : Over I O S) → Found lent i over → Found (lent ++ halves ∷ []) i over

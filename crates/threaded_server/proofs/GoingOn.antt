@@ -9,14 +9,15 @@ use Rattle.rawsocket.specs.Handshakes.{refusing}
 use Rattle.realm.specs.Grants.{Grants}
 use Rattle.threaded_server.specs.Lending.{Lending}
 use Rattle.threaded_server.specs.OwnStreams.{GoesOn, StreamsAreOwn, StreamsGoOn}
-use Rattle.threaded_server.specs.Overs.{TellsRefusal, Went, after_of, before_of, sink_of}
+use Rattle.broker_threads.specs.Courses.{sink_of}
+use Rattle.threaded_server.specs.Overs.{TellsRefusal, Went, after_of, before_of}
 use Rattle.threaded_server.specs.Served.{Served}
-use Rattle.threaded_server.specs.Streams.{GoesBy, Sight, Stream, stream}
-use Rattle.threaded_server.specs.Talks.{Converses, passage, start_of}
+use Rattle.broker_threads.specs.Streams.{GoesBy, Sight, Stream, stream}
+use Rattle.broker_threads.specs.Talks.{Converses, passage, start_of}
 use Rattle.threaded_server.specs.declared.answer.Answer.{Answer}
-use Rattle.threaded_server.specs.declared.closed.Closed.{Closed}
-use Rattle.threaded_server.specs.declared.course.Course.{Course}
-use Rattle.threaded_server.specs.declared.course.Course.TheVariants as course
+use Rattle.broker_threads.specs.declared.closed.Closed.{Closed}
+use Rattle.broker_threads.specs.declared.course.Course.{Course}
+use Rattle.broker_threads.specs.declared.course.Course.TheVariants as course
 use Rattle.threaded_server.specs.declared.over.Over.{Over}
 use Rattle.threaded_server.specs.declared.over.Over.TheVariants.{Seated, TurnedAway, Untouched}
 use Rattle.realm_inbox.specs.declared.ends.Poster.{Poster}

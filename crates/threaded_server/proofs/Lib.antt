@@ -1,8 +1,5 @@
-pub mod SendLemmas
 pub mod AcceptLoop
 pub mod Accepting
-pub mod Acting
-pub mod CountedWords
 pub mod Finding
 pub mod GoingOn
 pub mod Balance
@@ -19,5 +16,3 @@ pub mod SeatSteps
 pub mod ServeSteps
 pub mod TableSteps
 pub mod TableStanding
-pub mod Talking
-mod StreamEnds

@@ -12,8 +12,8 @@ use Rattle.threaded_server.specs.Posters.{AreOf}
 use Rattle.threaded_server.specs.declared.entry.Connection.{Connection}
 use Rattle.threaded_server.specs.declared.over.Over.{Over}
 use Rattle.threaded_server.specs.declared.over.Over.TheVariants.{Seated}
-use Rattle.threaded_server.specs.declared.reader_thread.Ended.{Ended}
-use Rattle.threaded_server.specs.declared.reader_thread.Reader.{Reader}
+use Rattle.broker_threads.specs.declared.reader_thread.Ended.{Ended}
+use Rattle.broker_threads.specs.declared.reader_thread.Reader.{Reader}
 use Rattle.wamp_ids.specs.Numbers.{seat_of}
 
 -- one number more, which isn't there

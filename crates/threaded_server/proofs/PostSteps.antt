@@ -18,16 +18,16 @@ use Rattle.realm_inbox.specs.declared.joining.Joining.{Joining}
 use Rattle.threaded_server.proofs.Places.{found_there, get_before_set}
 use Rattle.threaded_server.specs.Posters.{AreOfSeat}
 use Rattle.threaded_server.specs.Posts.{Say, posts_at, posts_between, posts_of, since}
-use Rattle.threaded_server.specs.Streams.{GoesBy, IsServed, Reads, Sight, Stream}
-use Rattle.threaded_server.specs.Talks.{Converses, Passage, passage, start_of}
-use Rattle.threaded_server.specs.declared.closed.Closed.{Closed}
-use Rattle.threaded_server.specs.declared.course.Course.{Course}
-use Rattle.threaded_server.specs.declared.course.Course.TheVariants.{Untouched, NotOpened, OpenedAlone, Served}
+use Rattle.broker_threads.specs.Streams.{GoesBy, IsServed, Reads, Sight, Stream}
+use Rattle.broker_threads.specs.Talks.{Converses, Passage, passage, start_of}
+use Rattle.broker_threads.specs.declared.closed.Closed.{Closed}
+use Rattle.broker_threads.specs.declared.course.Course.{Course}
+use Rattle.broker_threads.specs.declared.course.Course.TheVariants.{Untouched, NotOpened, OpenedAlone, Served}
 use Rattle.threaded_server.specs.declared.over.Over.{Over}
 use Rattle.threaded_server.specs.declared.over.Over.TheVariants as over
-use Rattle.threaded_server.specs.declared.reader_thread.Ended.{Ended}
-use Rattle.threaded_server.specs.declared.reader_thread.Reader.{Reader}
-use Rattle.threaded_server.specs.declared.writer_thread.Written.{Written}
+use Rattle.broker_threads.specs.declared.reader_thread.Ended.{Ended}
+use Rattle.broker_threads.specs.declared.reader_thread.Reader.{Reader}
+use Rattle.broker_threads.specs.declared.writer_thread.Written.{Written}
 use Rattle.wamp_ids.specs.Numbers.{seat_of}
 
 module _ {S : Type 0} where

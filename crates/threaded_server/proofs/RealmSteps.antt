@@ -15,22 +15,22 @@ use Rattle.realm_inbox.specs.declared.ends.Poster.{Poster}
 use Rattle.realm_inbox.specs.declared.joining.Joining.{Joining}
 use Rattle.threaded_server.proofs.Places.{get_before_set, get_more, get_of_map, get_set, get_set_cases, map_get}
 use Rattle.threaded_server.specs.Posters.{AreAt, AreOf, AreOfSeat}
-use Rattle.threaded_server.specs.Overs.{seen_of}
+use Rattle.broker_threads.specs.Courses.{seen_of}
 use Rattle.threaded_server.specs.Realms.{IsAtHome, Keeps, Shown, TakesIn, inbox_in, places_of, with_seen}
-use Rattle.threaded_server.specs.Streams.{GoesBy, IsServed, Reads, Sight, Stream}
-use Rattle.threaded_server.specs.Talks.{Converses, Passage, passage, start_of}
+use Rattle.broker_threads.specs.Streams.{GoesBy, IsServed, Reads, Sight, Stream}
+use Rattle.broker_threads.specs.Talks.{Converses, Passage, passage, start_of}
 use Rattle.connection.specs.Reader.{Start}
 use Rattle.threaded_server.specs.Ties.{CourseKept, IsKept, IsKeptIn, OverKept}
-use Rattle.threaded_server.specs.Writes.{owed_kept}
-use Rattle.threaded_server.specs.declared.closed.Closed.{Closed}
-use Rattle.threaded_server.specs.declared.course.Course.{Course}
-use Rattle.threaded_server.specs.declared.course.Course.TheVariants.{Untouched, NotOpened, OpenedAlone, Served}
+use Rattle.broker_threads.specs.Writes.{owed_kept}
+use Rattle.broker_threads.specs.declared.closed.Closed.{Closed}
+use Rattle.broker_threads.specs.declared.course.Course.{Course}
+use Rattle.broker_threads.specs.declared.course.Course.TheVariants.{Untouched, NotOpened, OpenedAlone, Served}
 use Rattle.threaded_server.specs.declared.over.Over.{Over}
 use Rattle.threaded_server.specs.declared.over.Over.TheVariants as over
-use Rattle.threaded_server.specs.declared.reader_thread.Ended.{Ended}
-use Rattle.threaded_server.specs.declared.reader_thread.Reader.{Reader}
-use Rattle.threaded_server.specs.declared.writer_thread.Seen.{Seen}
-use Rattle.threaded_server.specs.declared.writer_thread.Written.{Written}
+use Rattle.broker_threads.specs.declared.reader_thread.Ended.{Ended}
+use Rattle.broker_threads.specs.declared.reader_thread.Reader.{Reader}
+use Rattle.broker_threads.specs.declared.writer_thread.Seen.{Seen}
+use Rattle.broker_threads.specs.declared.writer_thread.Written.{Written}
 use Rattle.wamp_ids.specs.Numbers.{seat_of}
 
 module _ {S : Type 0} where

@@ -4,17 +4,18 @@ use Rattle.std.proofs.lemmas.List.{map-append}
 use Rattle.std.proofs.lemmas.List.Elements.{All-set}
 use Rattle.std.specs.Option.{ForSome}
 use Rattle.std.specs.declared.snapshot.Snapshot.{Snapshot}
-use Rattle.threaded_server.proofs.Places.{put_back}
+use Rattle.broker_threads.proofs.Lemmas.{put_back}
 use Rattle.threaded_server.proofs.Balance.{all_none_came_, all_none_in_slots, all_went_, gone_, passed_, seated_}
-use Rattle.threaded_server.specs.Overs.{after_of, before_of, sink_of}
+use Rattle.broker_threads.specs.Courses.{sink_of}
+use Rattle.threaded_server.specs.Overs.{after_of, before_of}
 use Rattle.threaded_server.specs.Roster.{IsOfPlan, halves_of}
 use Rattle.threaded_server.specs.Slots.{Balances, in_slots}
 use Rattle.threaded_server.specs.declared.entry.Connection.{Connection}
 use Rattle.threaded_server.specs.declared.over.Over.{Over}
 use Rattle.threaded_server.specs.declared.over.Over.TheVariants.{Seated}
-use Rattle.threaded_server.specs.declared.plan.Plan.{Plan}
-use Rattle.threaded_server.specs.declared.reader_thread.Ended.{Ended}
-use Rattle.threaded_server.specs.declared.reader_thread.Reader.{Reader}
+use Rattle.broker_threads.specs.declared.plan.Plan.{Plan}
+use Rattle.broker_threads.specs.declared.reader_thread.Ended.{Ended}
+use Rattle.broker_threads.specs.declared.reader_thread.Reader.{Reader}
 
 module _ {I O S : Type 0} where
   -- all that are served are served by this plan

@@ -21,24 +21,25 @@ use Rattle.realm_inbox.specs.declared.ends.Inbox.{Inbox}
 use Rattle.realm_inbox.specs.declared.ends.Poster.{Poster}
 use Rattle.session.specs.declared.messages.item.Item.{Item}
 use Rattle.std.specs.declared.snapshot.Snapshot.{Snapshot}
-use Rattle.threaded_server.proofs.Places.{get_of_map, get_push_cases, get_seam, map_get, none_left}
+use Rattle.broker_threads.proofs.Lemmas.{none_left}
+use Rattle.threaded_server.proofs.Places.{get_of_map, get_push_cases, get_seam, map_get}
 use Rattle.threaded_server.proofs.PosterSteps.{found_poster, found_stands}
-use Rattle.threaded_server.specs.Acts.{Acts, ActsBy}
+use Rattle.broker_threads.specs.Acts.{Acts, ActsBy}
 use Rattle.threaded_server.specs.Posters.{IsOfInbox, Stand, lists_at, poster_at}
 use Rattle.threaded_server.specs.Posts.{AllSay, AreIn, OnlyPosted, posts_at}
 use Rattle.threaded_server.specs.Realms.{AllWerePosted, EachRuns, RunsTo, Shown, inbox_in, places_of, shown}
 use Rattle.threaded_server.specs.Ties.{AreAllOwed, CourseKept, CourseTied, IsKept, IsKeptIn, IsRun, IsTied, OverKept, OverTied, TookAllOwed}
-use Rattle.threaded_server.specs.Writes.{over_kept, owed_kept}
-use Rattle.threaded_server.specs.declared.actor_thread.Acted.{Acted}
-use Rattle.threaded_server.specs.declared.actor_thread.ActorThread.{ActorThread}
+use Rattle.broker_threads.specs.Writes.{over_kept, owed_kept}
+use Rattle.broker_threads.specs.declared.actor_thread.Acted.{Acted}
+use Rattle.broker_threads.specs.declared.actor_thread.ActorThread.{ActorThread}
 use Rattle.threaded_server.specs.declared.realm_handle.RealmHandle.{RealmHandle}
-use Rattle.threaded_server.specs.declared.course.Course.{Course}
-use Rattle.threaded_server.specs.declared.course.Course.TheVariants.{Untouched, NotOpened, OpenedAlone, Served}
+use Rattle.broker_threads.specs.declared.course.Course.{Course}
+use Rattle.broker_threads.specs.declared.course.Course.TheVariants.{Untouched, NotOpened, OpenedAlone, Served}
 use Rattle.threaded_server.specs.declared.entry.Connection.{Connection}
 use Rattle.threaded_server.specs.declared.over.Over.{Over}
 use Rattle.threaded_server.specs.declared.over.Over.TheVariants as over
 use Rattle.threaded_server.specs.declared.realm_run.RealmRun.{RealmRun}
-use Rattle.threaded_server.specs.declared.writer_thread.Written.{Written}
+use Rattle.broker_threads.specs.declared.writer_thread.Written.{Written}
 
 module _ {S : Type 0} where
   -- one realm more ran

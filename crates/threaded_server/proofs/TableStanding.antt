@@ -16,20 +16,21 @@ use Rattle.threaded_server.proofs.PostSteps.{posters_say, posts_elsewhere, posts
 use Rattle.threaded_server.proofs.PosterSteps.{gains_stand, none_stand, relabelled_at, relabelled_own, said_relabelled, stand_on, stand_put, stand_taken}
 use Rattle.threaded_server.proofs.RealmSteps.{at_longer, back_at, back_of_seat, more_longer, one_kept, overs_longer, seat_kept, seen_at_home, takes_longer}
 use Rattle.threaded_server.proofs.Saying.{all_said, none_said, one_said, seat_back, seat_left, seat_taken}
-use Rattle.threaded_server.specs.Overs.{AddsUntouched, seen_of}
+use Rattle.broker_threads.specs.Courses.{seen_of}
+use Rattle.threaded_server.specs.Overs.{AddsUntouched}
 use Rattle.threaded_server.specs.Posters.{AllGain, AreAt, AreOf, AreOfSeat, IsTaken, Stand, lists_at}
 use Rattle.threaded_server.specs.Posts.{AllSay, AreIn, Say, posts_at, posts_of}
 use Rattle.threaded_server.specs.Realms.{IsAtHome, Shown, TakesIn, inbox_in, places_of, with_seen}
 use Rattle.threaded_server.specs.Roster.{Leaves}
-use Rattle.threaded_server.specs.Streams.{Reads, Sight}
+use Rattle.broker_threads.specs.Streams.{Reads, Sight}
 use Rattle.threaded_server.specs.Ties.{HasGrants, OverKept}
 use Rattle.threaded_server.specs.declared.entry.Connection.{Connection}
 use Rattle.threaded_server.specs.declared.over.Over.{Over}
 use Rattle.threaded_server.specs.declared.over.Over.TheVariants.{Seated, Untouched}
-use Rattle.threaded_server.specs.declared.plan.Plan.{Plan}
-use Rattle.threaded_server.specs.declared.reader_thread.Ended.{Ended}
-use Rattle.threaded_server.specs.declared.reader_thread.Reader.{Reader}
-use Rattle.threaded_server.specs.declared.writer_thread.Seen.{Seen}
+use Rattle.broker_threads.specs.declared.plan.Plan.{Plan}
+use Rattle.broker_threads.specs.declared.reader_thread.Ended.{Ended}
+use Rattle.broker_threads.specs.declared.reader_thread.Reader.{Reader}
+use Rattle.broker_threads.specs.declared.writer_thread.Seen.{Seen}
 use Rattle.wamp_ids.specs.Numbers.{seat_of}
 
 -- one of which all are

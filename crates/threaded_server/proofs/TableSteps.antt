@@ -2,12 +2,13 @@
 use Rattle.std.proofs.Common.{◌≡◌, List, [], ◌∷◌, ◌++◌, sym, ap, ◌∙◌}
 use Rattle.std.specs.declared.snapshot.Snapshot.{Snapshot}
 use Rattle.threaded_server.proofs.RosterSteps.{seated_after}
-use Rattle.threaded_server.specs.Overs.{Adds, AddsUntouched, after_of, sink_of}
-use Rattle.threaded_server.specs.declared.closed.Closed.{Closed}
+use Rattle.broker_threads.specs.Courses.{sink_of}
+use Rattle.threaded_server.specs.Overs.{Adds, AddsUntouched, after_of}
+use Rattle.broker_threads.specs.declared.closed.Closed.{Closed}
 use Rattle.threaded_server.specs.declared.over.Over.{Over}
 use Rattle.threaded_server.specs.declared.over.Over.TheVariants.{Seated, TurnedAway, Untouched}
-use Rattle.threaded_server.specs.declared.reader_thread.Ended.{Ended}
-use Rattle.threaded_server.specs.declared.reader_thread.Reader.{Reader}
+use Rattle.broker_threads.specs.declared.reader_thread.Ended.{Ended}
+use Rattle.broker_threads.specs.declared.reader_thread.Reader.{Reader}
 
 -- two halves, each known by itself
 both : {I O : Type 0} (source x : I) (sink y : O) → source ≡ x → sink ≡ y → let halves : I × O = (source, sink) in halves ≡ (x, y)

@@ -6,7 +6,7 @@ use Rattle.threaded_server.specs.Posters.{AreOf}
 use Rattle.threaded_server.specs.declared.entry.Connection.{Connection}
 use Rattle.threaded_server.specs.declared.over.Over.{Over}
 use Rattle.threaded_server.specs.declared.over.Over.TheVariants.{Seated, TurnedAway, Untouched}
-use Rattle.threaded_server.specs.declared.reader_thread.Reader.{Reader}
+use Rattle.broker_threads.specs.declared.reader_thread.Reader.{Reader}
 use Rattle.wamp_ids.specs.Numbers.{seat_of}
 
 module _ {I O S : Type 0} where

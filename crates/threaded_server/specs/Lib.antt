@@ -1,7 +1,4 @@
-pub mod Acts
 pub mod Answers
-pub mod Begun
-pub mod Closing
 pub mod Conns
 pub mod Lending
 pub mod Overs
@@ -14,10 +11,6 @@ pub mod Seating
 pub mod Served
 pub mod Slots
 pub mod Starting
-pub mod Streams
 pub mod Table
-pub mod Talks
 pub mod Ties
 pub mod TrailCode
-pub mod Words
-pub mod Writes

@@ -5,7 +5,7 @@ use Rattle.realm.specs.Grants.{Grants}
 use Rattle.threaded_server.specs.Lending.{Lending}
 use Rattle.threaded_server.specs.Overs.{after_of, before_of}
 use Rattle.threaded_server.specs.Served.{Served}
-use Rattle.threaded_server.specs.Streams.{Sight}
+use Rattle.broker_threads.specs.Streams.{Sight}
 use Rattle.threaded_server.specs.declared.answer.Answer.{Answer}
 use Rattle.threaded_server.specs.declared.over.Over.{Over}
 

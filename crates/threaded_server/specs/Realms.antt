@@ -9,13 +9,13 @@ use Rattle.realm_inbox.specs.EndViews.{inbox_of, posted, received}
 use Rattle.realm_inbox.specs.Ends.{Place}
 use Rattle.realm_inbox.specs.Seats.{at_seat}
 use Rattle.realm_inbox.specs.declared.ends.Poster.{Poster}
-use Rattle.threaded_server.specs.Acts.{Acts}
+use Rattle.broker_threads.specs.Acts.{Acts}
 use Rattle.threaded_server.specs.Posters.{poster_at}
-use Rattle.threaded_server.specs.declared.actor_thread.ActorThread.{ActorThread}
+use Rattle.broker_threads.specs.declared.actor_thread.ActorThread.{ActorThread}
 use Rattle.threaded_server.specs.declared.realm_handle.RealmHandle.{RealmHandle}
 use Rattle.threaded_server.specs.declared.realm_run.RealmRun.{RealmRun}
 use Rattle.threaded_server.specs.declared.realms.Realms.{Realms}
-use Rattle.threaded_server.specs.declared.writer_thread.Seen.{Seen}
+use Rattle.broker_threads.specs.declared.writer_thread.Seen.{Seen}
 
 -- of a realm: what its actor's thread was given, and what the writers of its sessions saw last of its history, where they are over
 pub record Shown (S : Type 0) : Type 0 where

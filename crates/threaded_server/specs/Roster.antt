@@ -2,12 +2,12 @@
 use Rattle.std.specs.Prelude.{◌≡◌, ℕ, List, [], ◌∷◌, ◌++◌, Option, Some}
 use Rattle.std.specs.Arc.{arc_value}
 use Rattle.std.specs.declared.snapshot.Snapshot.{Snapshot}
-use Rattle.threaded_server.specs.Streams.{Reads, Sight}
+use Rattle.broker_threads.specs.Streams.{Reads, Sight}
 use Rattle.threaded_server.specs.declared.entry.Connection.{Connection}
 use Rattle.threaded_server.specs.declared.over.Over.{Over}
 use Rattle.threaded_server.specs.declared.over.Over.TheVariants.{Seated}
-use Rattle.threaded_server.specs.declared.plan.Plan.{Plan}
-use Rattle.threaded_server.specs.declared.reader_thread.Ended.{Ended}
+use Rattle.broker_threads.specs.declared.plan.Plan.{Plan}
+use Rattle.broker_threads.specs.declared.reader_thread.Ended.{Ended}
 
 module _ {I O S : Type 0} where
   -- the halves of the stream of a connection, as it was lent

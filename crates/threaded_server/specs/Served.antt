@@ -6,7 +6,7 @@ use Rattle.threaded_server.specs.Conns.{AreApart, conns_of}
 use Rattle.threaded_server.specs.Lending.{Lending}
 use Rattle.threaded_server.specs.Overs.{AllWent, Books, Moves, after_of}
 use Rattle.threaded_server.specs.Posts.{OnlyPosted}
-use Rattle.threaded_server.specs.Streams.{Sight}
+use Rattle.broker_threads.specs.Streams.{Sight}
 use Rattle.threaded_server.specs.Ties.{IsRun, OverTied}
 use Rattle.threaded_server.specs.declared.answer.Answer.{Answer}
 use Rattle.threaded_server.specs.declared.answer.Answer.TheVariants.{Came, Stopped, Failed}

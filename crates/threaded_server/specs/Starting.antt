@@ -2,11 +2,11 @@
 use Rattle.std.specs.Prelude.{◌≡◌, ℕ, List, Option}
 use Rattle.std.specs.Arc.{arc_value}
 use Rattle.realm_inbox.specs.declared.ends.Poster.{Poster}
-use Rattle.threaded_server.specs.Streams.{Reads, Sight}
+use Rattle.broker_threads.specs.Streams.{Reads, Sight}
 use Rattle.threaded_server.specs.declared.starting.Started.{Started}
 use Rattle.threaded_server.specs.declared.starting.Started.TheVariants as started
-use Rattle.threaded_server.specs.declared.plan.Plan.{Plan}
-use Rattle.threaded_server.specs.declared.reader_thread.Reader.{Reader}
+use Rattle.broker_threads.specs.declared.plan.Plan.{Plan}
+use Rattle.broker_threads.specs.declared.reader_thread.Reader.{Reader}
 
 module _ {I O S : Type 0} (see : Sight I O) where
   -- a reader runs in a thread of its own, or gave back what it had

@@ -8,17 +8,17 @@ use Rattle.realm.specs.History.{History}
 use Rattle.realm.specs.Yield.{owed}
 use Rattle.realm_inbox.specs.EndViews.{inbox_of, inbox_of_poster}
 use Rattle.realm_inbox.specs.declared.ends.Poster.{Poster}
-use Rattle.threaded_server.specs.Acts.{Acts}
+use Rattle.broker_threads.specs.Acts.{Acts}
 use Rattle.threaded_server.specs.Realms.{Shown, inbox_in}
 use Rattle.session.specs.declared.messages.item.Item.{Item}
-use Rattle.threaded_server.specs.Writes.{over_kept, owed_kept}
-use Rattle.threaded_server.specs.declared.course.Course.{Course}
-use Rattle.threaded_server.specs.declared.course.Course.TheVariants as course
+use Rattle.broker_threads.specs.Writes.{over_kept, owed_kept}
+use Rattle.broker_threads.specs.declared.course.Course.{Course}
+use Rattle.broker_threads.specs.declared.course.Course.TheVariants as course
 use Rattle.threaded_server.specs.declared.over.Over.{Over}
 use Rattle.threaded_server.specs.declared.over.Over.TheVariants.{Seated, TurnedAway, Untouched}
-use Rattle.threaded_server.specs.declared.plan.Plan.{Plan}
+use Rattle.broker_threads.specs.declared.plan.Plan.{Plan}
 use Rattle.threaded_server.specs.declared.realm_run.RealmRun.{RealmRun}
-use Rattle.threaded_server.specs.declared.writer_thread.Written.{Written}
+use Rattle.broker_threads.specs.declared.writer_thread.Written.{Written}
 
 -- what was seen last, if anything was, is kept
 abbrev pub IsKeptIn : List (Kept History) → Option (Kept History) → Type 0

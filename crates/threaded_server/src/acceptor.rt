@@ -4,7 +4,7 @@ ghost use Rattle.threaded_server.specs.Answers.{answer_of};
 ghost use Rattle.threaded_server.specs.Lending.{with_lent, with_refused, with_returned};
 
 use crate::answer::Answer;
-use crate::closed::Closed;
+use broker_threads::Closed;
 use rawsocket::devices::{Sink, Source};
 use realm_inbox::Shut;
 use std::alloc::{AllocError, Global};

@@ -3,7 +3,7 @@ ghost use Rattle.std.specs.Prelude.{◌≡◌, [], ◌∷◌, ◌++◌};
 ghost use Rattle.threaded_server.specs.Lending.{lending_of, none_lent, with_lent, with_refused, with_returned};
 
 use crate::acceptor::Parts;
-use crate::closed::Closed;
+use broker_threads::Closed;
 use ghost_state::{GhostCount, GhostList};
 use std::snapshot::Snapshot;
 

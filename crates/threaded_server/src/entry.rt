@@ -1,9 +1,9 @@
 //! A connection that is served.
 ghost use Rattle.std.specs.Prelude.{◌≡◌};
 
-use crate::handover::Shared;
-use crate::reader_thread::{Ended, Reader};
-use crate::work::Doing;
+use broker_threads::handover::Shared;
+use broker_threads::work::Doing;
+use broker_threads::{Ended, Reader};
 use rawsocket::devices::{Sink, Source};
 use realm_inbox::Shut;
 use std::snapshot::Snapshot;

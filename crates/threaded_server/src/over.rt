@@ -1,6 +1,5 @@
 //! Streams that are over.
-use crate::closed::Closed;
-use crate::reader_thread::{Ended, Reader};
+use broker_threads::{Closed, Ended, Reader};
 use realm_inbox::Shut;
 use std::snapshot::Snapshot;
 

@@ -2,10 +2,10 @@
 ghost use Rattle.std.specs.Prelude.{◌≡◌, [], ◌∷◌, ◌++◌, All};
 ghost use Rattle.ghost_state.specs.GhostList.{items_of};
 ghost use Rattle.threaded_server.specs.Overs.{Went};
-ghost use Rattle.threaded_server.specs.Streams.{sight};
+ghost use Rattle.broker_threads.specs.Streams.{sight};
 
 use crate::over::Over;
-use crate::plan::Plan;
+use broker_threads::Plan;
 use ghost_state::GhostList;
 use rawsocket::devices::{Sink, Source};
 use realm_inbox::Shut;

@@ -8,7 +8,7 @@ ghost use Rattle.realm_inbox.specs.Seats.{at_seat};
 ghost use Rattle.threaded_server.specs.Posters.{AllGain, AreOfSeat, GivesUp, IsOfInbox, IsTaken, Puts, Relabels, RelabelsAt, lists_of, poster_at, seen_at};
 ghost use Rattle.wamp_ids.specs.Numbers.{seat_of};
 
-use crate::handover::{Posters, put_poster, take_poster};
+use broker_threads::handover::{Posters, put_poster, take_poster};
 use realm_inbox::{Inbox, Poster, Seat, Shut};
 use std::alloc::{AllocError, Global};
 use wamp_ids::{Conn, SEATS, seat};

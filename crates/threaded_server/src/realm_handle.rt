@@ -3,9 +3,9 @@ ghost use Rattle.std.specs.Prelude.{◌≡◌, ◌++◌, ◌∷◌, [], Some, Al
 ghost use Rattle.realm.specs.History.{Begins};
 ghost use Rattle.chronicle.specs.Recorded.{Reaches};
 
-use crate::actor_thread::{Acted, ActorThread};
 use crate::realm_run::RealmRun;
-use crate::work::{Doing, start};
+use broker_threads::work::{Doing, start};
+use broker_threads::{Acted, ActorThread};
 use crossbeam_channel::Receiver;
 use outbox_queue::check_seen;
 use realm_inbox::{Door, Inbox, RealmChronicle, RealmHistory, Shut};

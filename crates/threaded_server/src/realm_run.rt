@@ -1,5 +1,5 @@
 //! What a realm's actor was given, and what it gave back.
-use crate::actor_thread::{Acted, ActorThread};
+use broker_threads::{Acted, ActorThread};
 use realm_inbox::Shut;
 use std::snapshot::Snapshot;
 

@@ -7,7 +7,7 @@ ghost use Rattle.threaded_server.specs.Realms.{AllWerePosted, EachRuns, IsAtHome
 use crate::poster_table::PosterTable;
 use crate::realm_handle::RealmHandle;
 use crate::realm_run::RealmRun;
-use crate::writer_thread::Seen;
+use broker_threads::Seen;
 use ghost_state::GhostList;
 use realm_inbox::Shut;
 use std::alloc::{AllocError, Global};

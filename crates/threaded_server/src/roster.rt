@@ -5,14 +5,12 @@ ghost use Rattle.ghost_state.specs.GhostList.{items_of};
 ghost use Rattle.threaded_server.specs.Overs.{AddsUntouched, AllFound, AllWent, Found, Went, after_of, before_of};
 ghost use Rattle.threaded_server.specs.Roster.{IsOfPlan, Leaves, halves_of};
 ghost use Rattle.threaded_server.specs.Slots.{Balances, in_slots};
-ghost use Rattle.threaded_server.specs.Streams.{Sight, sight};
+ghost use Rattle.broker_threads.specs.Streams.{Sight, sight};
 
-use crate::closed::Closed;
 use crate::entry::Connection;
 use crate::over::{Gone, Over};
 use crate::overs::Overs;
-use crate::plan::Plan;
-use crate::reader_thread::Ended;
+use broker_threads::{Closed, Ended, Plan};
 use ghost_state::GhostList;
 use rawsocket::devices::{Sink, Source};
 use realm_inbox::Shut;

@@ -2,15 +2,13 @@
 ghost use Rattle.std.specs.Prelude.{◌≡◌, IfSome, MatchResult};
 ghost use Rattle.std.specs.Arc.{arc_value};
 ghost use Rattle.threaded_server.specs.Starting.{Runs, Starts};
-ghost use Rattle.threaded_server.specs.Streams.{Reads, sight};
+ghost use Rattle.broker_threads.specs.Streams.{Reads, sight};
 
 use crate::acceptor::Parts;
 use crate::entry::Connection;
-use crate::fate::Fate;
-use crate::handover::{Posters, Shared};
-use crate::plan::Plan;
-use crate::reader_thread::{Ended, Reader};
-use crate::work::Doing;
+use broker_threads::handover::{Posters, Shared};
+use broker_threads::work::Doing;
+use broker_threads::{Ended, Fate, Plan, Reader};
 use rawsocket::devices::{Sink, Source};
 use realm_inbox::Shut;
 use std::alloc::Global;

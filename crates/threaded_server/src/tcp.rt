@@ -4,7 +4,7 @@ ghost use Rattle.std.specs.Prelude.{◌≡◌, ◌++◌, ◌∷◌, []};
 use crate::acceptor::{Accepted, Acceptor, Parts};
 use crate::account::Account;
 use crate::answer::Answer;
-use crate::closed::Closed;
+use broker_threads::Closed;
 use rawsocket::devices::{ReadSource, WriteSink};
 use realm_inbox::{GhostList, Shut};
 use std::alloc::{AllocError, Global};

@@ -1,8 +1,8 @@
 use denote.Exit.{no}
 use denote.Param.Send.{param_send, arg_send, sendable}
 use denote.Param.{param, copied}
-use Rattle.threaded_server.proofs.SendLemmas.{reader_send, ended_send, both_send}
-use Rattle.threaded_server.specs.contracts.reader_thread.Reader as Reader
+use Rattle.broker_threads.proofs.SendLemmas.{reader_send, ended_send, both_send}
+use Rattle.broker_threads.specs.contracts.reader_thread.Reader as Reader
 use Rattle.threaded_server.proofs.starting.start_reader.Goals as goal
 
 pub spawn_with-requires-send-F : goal.spawn_with-requires-send-F

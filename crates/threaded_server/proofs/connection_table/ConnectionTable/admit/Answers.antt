@@ -10,7 +10,7 @@ use Rattle.threaded_server.specs.Overs.{Adds, Found, Went}
 use Rattle.threaded_server.specs.Posters.{AreAt, AreOf, lists_of}
 use Rattle.threaded_server.specs.Realms.{places_of, realms_of}
 use Rattle.threaded_server.specs.Roster.{halves_of}
-use Rattle.threaded_server.specs.Streams.{Reads, sight}
+use Rattle.broker_threads.specs.Streams.{Reads, sight}
 use Rattle.threaded_server.specs.declared.over.Over.TheVariants.{Untouched}
 use Rattle.wamp_ids.specs.Numbers.{seat_of}
 use Rattle.threaded_server.proofs.connection_table.ConnectionTable.admit.Goals as goal

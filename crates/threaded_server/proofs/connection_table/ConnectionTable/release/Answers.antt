@@ -7,7 +7,7 @@ use Rattle.threaded_server.proofs.TableSteps.{seated_adds}
 use Rattle.threaded_server.specs.Overs.{Adds}
 use Rattle.threaded_server.specs.Posters.{lists_of}
 use Rattle.threaded_server.specs.Realms.{places_of, realms_of}
-use Rattle.threaded_server.specs.Streams.{sight}
+use Rattle.broker_threads.specs.Streams.{sight}
 use Rattle.threaded_server.proofs.connection_table.ConnectionTable.release.Goals as goal
 
 pub invariant_of-self : goal.invariant_of-self

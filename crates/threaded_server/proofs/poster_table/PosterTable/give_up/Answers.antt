@@ -3,7 +3,8 @@ use Rattle.std.proofs.lemmas.List.{map-set}
 use Rattle.std.proofs.lemmas.Option.{slice_get-map, slice_get_past, slice_get_read}
 use Rattle.std.specs.Option.{option_flatten}
 use Rattle.std.specs.Vec.{vec_len}
-use Rattle.threaded_server.proofs.Places.{behind, map_get, put_back, taken_others}
+use Rattle.broker_threads.proofs.Lemmas.{behind, put_back}
+use Rattle.threaded_server.proofs.Places.{map_get, taken_others}
 use Rattle.threaded_server.proofs.PosterSteps.{gives_none, gives_up}
 use Rattle.threaded_server.specs.Posters.{GivesUp, lists_of, poster_in}
 use Rattle.threaded_server.proofs.poster_table.PosterTable.give_up.Goals as goal

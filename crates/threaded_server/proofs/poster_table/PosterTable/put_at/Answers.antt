@@ -3,7 +3,8 @@ use Rattle.std.proofs.lemmas.List.{map-set}
 use Rattle.std.proofs.lemmas.Option.{slice_get-map, slice_get_past, slice_get_read}
 use Rattle.std.specs.Option.{option_flatten}
 use Rattle.std.specs.Vec.{vec_len}
-use Rattle.threaded_server.proofs.Places.{behind, map_get, set_nowhere}
+use Rattle.broker_threads.proofs.Lemmas.{behind}
+use Rattle.threaded_server.proofs.Places.{map_get, set_nowhere}
 use Rattle.threaded_server.specs.Posters.{lists_of}
 use Rattle.threaded_server.proofs.poster_table.PosterTable.put_at.Goals as goal
 

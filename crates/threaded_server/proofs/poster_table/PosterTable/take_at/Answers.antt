@@ -1,7 +1,7 @@
 use Rattle.std.proofs.Common.{rules, ◌≤◌, ◌<◌, length, option_map, refl, sym, ap, ◌∙◌, subst, Some}
 use Rattle.std.proofs.lemmas.Option.{slice_get-map, slice_get_past, slice_get_read}
 use Rattle.std.specs.Vec.{vec_len}
-use Rattle.threaded_server.proofs.Places.{behind}
+use Rattle.broker_threads.proofs.Lemmas.{behind}
 use Rattle.threaded_server.proofs.PosterSteps.{took_at, took_nowhere}
 use Rattle.threaded_server.proofs.poster_table.PosterTable.take_at.Goals as goal
 

@@ -1,7 +1,7 @@
 use denote.Exit.{no}
 use denote.Param.Send.{param_send, arg_send}
 use denote.Param.{param}
-use Rattle.threaded_server.proofs.SendLemmas.{actor_work_send, actor_done_send}
+use Rattle.broker_threads.proofs.SendLemmas.{actor_work_send, actor_done_send}
 use Rattle.threaded_server.proofs.realm_handle.RealmHandle.start.Goals as goal
 
 pub start-requires-send-W : goal.start-requires-send-W

@@ -1,6 +1,6 @@
 use Rattle.std.proofs.Common.{◌≡◌, ◌≤◌, ◌<◌, ◌+◌, [], ◌∷◌, length, length-append, map, refl, sym, ap, ◌∙◌, subst, arith}
 use Rattle.ghost_state.specs.GhostList.{items_of}
-use Rattle.threaded_server.proofs.Places.{none_left}
+use Rattle.broker_threads.proofs.Lemmas.{none_left}
 use Rattle.threaded_server.proofs.RunSteps.{RunSoFar, first_of, next_stands, posted_none, posted_on, so_far_all, so_far_none, so_far_on}
 use Rattle.threaded_server.specs.Posters.{lists_of}
 use Rattle.threaded_server.specs.Realms.{RunsTo, shown}

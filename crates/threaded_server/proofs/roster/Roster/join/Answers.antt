@@ -3,9 +3,9 @@ use Rattle.std.proofs.Math.Logic.{∥∥₁_map}
 use Rattle.std.proofs.lemmas.Option.{slice_get_read}
 use Rattle.ghost_state.specs.GhostList.{items_of}
 use Rattle.threaded_server.proofs.Finding.{seated_found}
-use Rattle.threaded_server.proofs.Places.{put_back}
+use Rattle.broker_threads.proofs.Lemmas.{put_back}
 use Rattle.threaded_server.proofs.RosterSteps.{leave_balances, left_of_plan, seated_before, still_balances}
-use Rattle.threaded_server.specs.Streams.{Reads, sight}
+use Rattle.broker_threads.specs.Streams.{Reads, sight}
 use Rattle.threaded_server.proofs.roster.Roster.join.Goals as goal
 
 pub invariant_of-self-in-None : goal.invariant_of-self-in-None

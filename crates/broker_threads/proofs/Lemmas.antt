@@ -1,0 +1,2 @@
+-- The lemmas of this crate that other crates cite, passed on from one place. Declares nothing.
+pub use Rattle.broker_threads.proofs.Slots.{behind, none_left, put_back}

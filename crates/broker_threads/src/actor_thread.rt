@@ -1,0 +1,164 @@
+//! The thread of a realm's actor.
+ghost use Rattle.std.specs.Prelude.{◌≡◌, Some, None, length};
+ghost use mathlib.Core.List.{IsPrefix};
+ghost use Rattle.realm_inbox.specs.EndViews.{home_of, inbox_of, received};
+
+use crate::id_words::IdWords;
+use crate::plan::Plan;
+use crate::seat_table::SeatTable;
+use crate::told::tell_retained_full;
+use crate::work::{Task, Work};
+use crossbeam_channel::Sender;
+use realm::{Realm, RealmConfig};
+use realm_actor::{Actor, Onlooker};
+use realm_inbox::{Act, Inbox, Letter, Post, RealmChronicle, Shut};
+use std::alloc::Global;
+use std::snapshot::Snapshot;
+use std::sync::{Arc, Wait};
+use wamp_ids::SEATS;
+
+/// What the thread of a realm's actor has.
+#[derive(Drop)]
+pub struct ActorThread<S: Shut> {
+    pub alloc: Global,
+    pub plan: Arc<Plan>,
+    /// The realm's place.
+    pub realm: usize,
+    pub config: RealmConfig,
+    pub words: IdWords,
+    /// Of the realm's history: nothing is recorded yet.
+    pub chronicle: RealmChronicle,
+    pub inbox: Inbox<S>,
+    /// It is told whether there was memory for the realm, and then, once the actor has ended, that the marks are set.
+    pub teller: Sender<bool>,
+    pub marks: Arc<SeatTable>,
+    ghost new: { length (received inbox) ≡ 0 },
+    ghost begun: { chronicle.history ≡ None },
+    ghost home: { home_of inbox ≡ Some chronicle.chronicle },
+}
+
+/// What it gives back.
+#[derive(Drop)]
+pub struct Acted<S: Shut> {
+    /// The chronicle of the realm's history.
+    pub chronicle: RealmChronicle,
+    /// The actor, as it ended; none where there was no memory for the realm.
+    pub actor: Option<Snapshot<Actor<S, IdWords>>>,
+    /// The inbox, from which nothing is received any more.
+    pub inbox: Inbox<S>,
+}
+
+impl<S: Shut + Send + 'static> Task for ActorThread<S> {
+    ghost use Rattle.broker_threads.specs.Acts.{Acts};
+
+    type Done = Acted<S>;
+
+    ghost does = { λ w acted. Acts w acted };
+}
+
+impl<R: Wait + Copy, S: Shut + Send + 'static> Work<R> for ActorThread<S> {
+    ghost use Rattle.broker_threads.specs.Acts.{Acts};
+
+    /// Makes the actor, which runs until it is stopped, marks whose sessions it holds then, hands their outboxes over to their writers, and
+    /// tells that they are marked. What is posted behind the stop is turned away until the next stop. Where there was no memory for the
+    /// realm nothing is received.
+    fn run(self, rt: R) -> Acted<S>
+        ensures { Acts self result }
+    {
+        let ActorThread {
+            alloc,
+            plan,
+            realm,
+            config,
+            words,
+            chronicle,
+            mut inbox,
+            teller,
+            marks,
+        } = self;
+        let Ok(kept) = Realm::new(alloc, config) else {
+            let _ = teller.send(&rt, false);
+            return Acted {
+                chronicle,
+                actor: None,
+                inbox,
+            };
+        };
+        let _ = teller.send(&rt, true);
+        let actor = Actor::of_realm(alloc, chronicle, kept, words);
+        let mut onlooker = StoreNotice {
+            rt,
+            plan: &plan,
+            realm,
+            is_told: false,
+        };
+        let mut actor = actor.run_to_stop(&rt, alloc, &mut inbox, &mut onlooker);
+        mark_held(&actor, &marks);
+        actor.shows();
+        let ended = Snapshot::of(&actor);
+        actor.sweep();
+        let chronicle = actor.into_chronicle();
+        let _ = teller.send(&rt, true);
+        turn_away_rest(&rt, &mut inbox);
+        Acted {
+            chronicle,
+            actor: Some(ended),
+            inbox,
+        }
+    }
+}
+
+// Tells, once, that as many topics of a realm as may have a retained publication have one.
+#[derive(Drop)]
+struct StoreNotice<'a, R> {
+    rt: R,
+    plan: &'a Plan,
+    realm: usize,
+    is_told: bool,
+}
+
+impl<R: Wait> Onlooker for StoreNotice<'_, R> {
+    fn sees_retained(&mut self, is_full: bool) {
+        if !is_full || self.is_told {
+            return;
+        }
+        self.is_told = true;
+        if let Some(realm) = self.plan.realms.get(self.realm) {
+            tell_retained_full(&self.rt, &self.plan.log, realm);
+        }
+    }
+}
+
+// Receives until the next stop, which is posted once no reader is left that posts, and turns away what comes. It can't be left in the
+// inbox, whose posts last as long as a sender does: the writer of a session that asked to join would wait for its outbox, its reader for
+// the writer, and the sender is the reader's.
+fn turn_away_rest<R: Wait, S: Shut>(rt: &R, inbox: &mut Inbox<S>)
+    ensures more { IsPrefix (received inbox.old) (received inbox.new) }
+    ensures same { inbox_of inbox.new ≡ inbox_of inbox.old }
+{
+    for _ in rt.forever() {
+        match inbox.receive(rt) {
+            Some(Post::Act(letter)) => turn_away(&letter),
+            Some(Post::Stop(_)) | None => return,
+        }
+    }
+    unreachable!()
+}
+
+// Nobody joins any more: the outbox is closed, so that its writer ends, and the transport is shut. Another act says nothing to anybody.
+fn turn_away<S: Shut>(letter: &Letter<S>) {
+    if let Act::Join(joining) = letter.act() {
+        joining.transport.shut();
+    }
+}
+
+// Marks the connections whose sessions the actor holds.
+fn mark_held<S: Shut>(actor: &Actor<S, IdWords>, marks: &SeatTable) {
+    for place in 0..SEATS as usize {
+        if let Some(conn) = marks.conn_at(place) {
+            if actor.holds(conn) {
+                marks.hold(conn);
+            }
+        }
+    }
+}

@@ -1,0 +1,176 @@
+//! The thread that reads what a client sends.
+ghost use Rattle.std.specs.Prelude.{◌≡◌};
+ghost use Rattle.broker_threads.specs.Streams.{GoesBy, IsUntouched, Reads, sight, stream};
+
+use crate::closed::Closed;
+use crate::course::Course;
+use crate::fate::Fate;
+use crate::handover::{Posters, Shared, put_poster, take_poster};
+use crate::plan::Plan;
+use crate::talk::{Broker, Session, talk};
+use crate::told::tell_closed;
+use crate::work::Task;
+use notices::Reason;
+use rawsocket::devices::{Sink, Source};
+use realm_inbox::Shut;
+use session::{Fault, open_session};
+use std::alloc::Global;
+use std::sync::atomic::Ordering;
+use std::sync::{Arc, Wait};
+use std::thread::Threads;
+use wamp_ids::{Conn, Topic};
+
+/// What a reader's thread has.
+#[derive(Drop)]
+pub struct Reader<I, O, S: Shut> {
+    pub alloc: Global,
+    pub plan: Arc<Plan>,
+    pub conn: Conn,
+    pub fate: Arc<Fate>,
+    pub source: I,
+    pub sink: O,
+    pub posters: Posters<S>,
+    pub transport: S,
+    /// What the accepting thread has of the same stream.
+    pub shared: Shared<S>,
+}
+
+/// What it gives back.
+#[derive(Drop)]
+pub struct Ended<I, O, S: Shut> {
+    /// What it read from.
+    pub source: Closed<I>,
+    /// What it posted by.
+    pub posters: Posters<S>,
+    /// What became of the stream.
+    pub course: Course<O>,
+    /// Why the stream was closed.
+    pub reason: Reason,
+}
+
+impl<
+    I: Source + Drop + Send + 'static,
+    O: Sink + Drop + Send + 'static,
+    S: Shut + Send + 'static,
+> Task for Reader<I, O, S> {
+    type Done = Ended<I, O, S>;
+
+    ghost does = { λ r ended. Reads (sight I.given I.is_ended I.calls I.failures O.taken O.calls O.failures) r ended };
+}
+
+impl<
+    I: Source + Drop + Send + 'static,
+    O: Sink + Drop + Send + 'static,
+    S: Shut + Send + 'static,
+> Reader<I, O, S> {
+    /// Serves the connection until it is over: both its threads, when it returns, but for what is left of this one. The stream is closed
+    /// then, unless the realm's actor is about to let go of it.
+    pub fn run<R: Threads + Wait + Copy + Send + 'static>(self, rt: R) -> Ended<I, O, S>
+        ensures { Reads (sight I.given I.is_ended I.calls I.failures O.taken O.calls O.failures) self result }
+    {
+        let Reader {
+            alloc,
+            plan,
+            conn,
+            fate,
+            source,
+            sink,
+            posters,
+            transport,
+            shared,
+        } = self;
+        if shared.is_over.load(Ordering::SeqCst) {
+            return untouched(source, sink, posters);
+        }
+        let broker = Broker {
+            alloc,
+            plan: &plan,
+            fate: &fate,
+        };
+        let ended = serve(rt, broker, &plan.realms, source, sink, &transport, posters);
+        tell_closed(&rt, &plan.log, conn, ended.reason);
+        transport.shut();
+        drop(transport);
+        drop(shared.take_transport(&rt));
+        shared.is_over.store(true, Ordering::SeqCst);
+        ended
+    }
+}
+
+// Nothing is read or written.
+fn untouched<I: Drop, O: Drop, S: Shut>(source: I, sink: O, posters: Posters<S>) -> Ended<I, O, S>
+    ensures source { result.source.last.value ≡ source }
+    ensures posters { result.posters ≡ posters }
+    ensures course { IsUntouched sink result.course }
+{
+    Ended {
+        source: Closed::of(source),
+        posters,
+        course: Course::Untouched(Closed::of(sink)),
+        reason: Reason::NoThread,
+    }
+}
+
+// Opens a session and serves it until it is over.
+fn serve<
+    R: Threads + Wait + Copy + Send + 'static,
+    I: Source + Drop,
+    O: Sink + Drop + Send + 'static,
+    S: Shut + Send + 'static,
+>(
+    rt: R,
+    broker: Broker<'_>,
+    realms: &[Topic],
+    mut source: I,
+    mut sink: O,
+    transport: &S,
+    mut posters: Posters<S>,
+) -> Ended<I, O, S>
+    ensures { GoesBy (sight I.given I.is_ended I.calls I.failures O.taken O.calls O.failures)
+        realms.now (stream source sink posters.items) result.source result.posters.items
+        result.course }
+{
+    let opened = match open_session(broker.alloc, &mut source, &mut sink, realms) {
+        Ok(opened) => opened,
+        Err(fault) => {
+            return Ended {
+                source: Closed::of(source),
+                posters,
+                course: Course::NotOpened(Closed::of(sink), fault),
+                reason: not_opened(broker.plan, fault),
+            };
+        }
+    };
+    let realm = opened.realm;
+    let Some(poster) = take_poster(&mut posters, realm) else {
+        return Ended {
+            source: Closed::of(source),
+            posters,
+            course: Course::OpenedAlone(Closed::of(sink)),
+            reason: Reason::NoMemory,
+        };
+    };
+    let session = Session {
+        broker,
+        transport,
+        sink,
+        opened,
+    };
+    let talked = talk(rt, session, &mut source, poster);
+    put_poster(&mut posters, realm, talked.poster);
+    Ended {
+        source: Closed::of(source),
+        posters,
+        course: talked.course,
+        reason: talked.reason,
+    }
+}
+
+// Why a connection has no session: the fault, unless its stream was ended by a stop.
+fn not_opened(plan: &Plan, fault: Fault) -> Reason {
+    if plan.is_stopping.load(Ordering::SeqCst) {
+        Reason::Stop
+    } else {
+        Reason::NotOpened(fault)
+    }
+}
