@@ -7,8 +7,8 @@
 ghost use Rattle.std.specs.Prelude.{◌≡◌, ◌≢◌, ◌<◌, ◌≤◌, ◌+◌, ◌++◌, Err, IfErr, OnOk, length};
 ghost use Rattle.rawsocket.specs.Devices.{GrowsByBeginning};
 ghost use Rattle.rawsocket.specs.Steps.{WholeSteps, meter, told_by};
-ghost use Rattle.broker_server.specs.Commands.{IsServable, IsWritten, fault_line, status_of};
-ghost use Rattle.broker_server.specs.Outcome.{write_told};
+ghost use Rattle.broker_commands.specs.Commands.{IsServable, IsWritten, fault_line, status_of};
+ghost use Rattle.broker_commands.specs.Outcome.{write_told};
 
 mod clients;
 mod failure;
