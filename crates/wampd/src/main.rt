@@ -1,7 +1,7 @@
 //! `wampd`: a publish-subscribe broker for WAMP. The command line asks for help, a replay, a running broker, or a client of one.
 //!
-//! It stands on `broker_server`, `client_commands` and `rawsocket`. Contracts say that help is printed whole, what is told of a fault, and which exit status
-//! it has.
+//! It stands on `broker_server`, whose commands and faults are those of `broker_commands`, on `client_commands` and on `rawsocket`. Contracts say
+//! that help is printed whole, what is told of a fault, and which exit status it has.
 #![tactic(auto)]
 
 ghost use Rattle.std.specs.Prelude.{◌≡◌, ◌≢◌, ◌<◌, ◌≤◌, ◌+◌, ◌++◌, Err, IfErr, OnOk, length};
