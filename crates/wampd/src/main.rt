@@ -1,14 +1,14 @@
 //! `wampd`: a publish-subscribe broker for WAMP. The command line asks for help, a replay, a running broker, or a client of one.
 //!
-//! It stands on `broker_server`, `client_commands` and `rawsocket`. Contracts say that help is printed whole, what is told of a fault, and which exit status
-//! it has.
+//! It stands on `broker_server`, whose commands and faults are those of `broker_commands`, on `client_commands` and on `rawsocket`. Contracts say
+//! that help is printed whole, what is told of a fault, and which exit status it has.
 #![tactic(auto)]
 
 ghost use Rattle.std.specs.Prelude.{◌≡◌, ◌≢◌, ◌<◌, ◌≤◌, ◌+◌, ◌++◌, Err, IfErr, OnOk, length};
 ghost use Rattle.rawsocket.specs.Devices.{GrowsByBeginning};
 ghost use Rattle.rawsocket.specs.Steps.{WholeSteps, meter, told_by};
-ghost use Rattle.broker_server.specs.Commands.{IsServable, IsWritten, fault_line, status_of};
-ghost use Rattle.broker_server.specs.Outcome.{write_told};
+ghost use Rattle.broker_commands.specs.Commands.{IsServable, IsWritten, fault_line, status_of};
+ghost use Rattle.broker_commands.specs.Outcome.{write_told};
 
 mod clients;
 mod failure;
