@@ -267,18 +267,34 @@ def exclude_many(these, times):
     publisher.ask([32, 2, {}, "all.was.read"], SUBSCRIBED)
 
 
-def publish_deep(these, components, times):
-    """Each pattern fits the topic, of so many components, up to the last one."""
+def publish_to_wildcards(these, patterns, components, times):
+    """One session holds the patterns, another publishes to a topic of so many components."""
     holder, publisher = these.join(2)
-    octets = frame(these.serializer, [32, 1, {"match": "wildcard"}, "." * (components - 1) + "NNN"])
-    for number in range(HELD_PATTERNS):
-        holder.send(octets.replace(b"NNN", b"%03d" % number, 1))
-    for _ in range(HELD_PATTERNS):
+    for number, pattern in enumerate(patterns):
+        holder.send(frame(these.serializer, [32, number + 1, {"match": "wildcard"}, pattern]))
+    for _ in patterns:
         holder.hear(SUBSCRIBED)
     octets = frame(these.serializer, [16, 1, {}, "a." * (components - 1) + "b", []])
     for _ in range(times):
         publisher.send(octets)
     publisher.ask([32, 2, {}, "all.was.read"], SUBSCRIBED)
+
+
+def publish_deep(these, components, times):
+    """Each pattern fits the topic, of so many components, up to the last one."""
+    patterns = ["." * (components - 1) + f"{number:03}" for number in range(HELD_PATTERNS)]
+    publish_to_wildcards(these, patterns, components, times)
+
+
+def publish_masked(these, components, times):
+    """So does each here, but no two have their empty components at the same places for long."""
+    draws = random.Random(1)
+    eights = ["".join(draws.choice([".", "a."]) for _ in range(8)) for _ in range(256)]
+    patterns = []
+    for number in range(HELD_PATTERNS):
+        beginning = "".join(eights[bits] for bits in draws.randbytes((components - 1) // 8))
+        patterns.append(beginning + "." * ((components - 1) % 8) + f"{number:03}")
+    publish_to_wildcards(these, patterns, components, times)
 
 
 def get_retained(these, count, times):

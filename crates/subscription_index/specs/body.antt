@@ -6,3 +6,4 @@ pub mod Names
 pub mod Holders
 pub mod Conns
 pub mod Receivers
+pub mod Blocks
