@@ -1,5 +1,5 @@
 -- The transcript of a replay: what each line of the input gives, as it is printed.
-use Rattle.std.specs.Prelude.{◌≡◌, ◌==◌, ◌+◌, ◌%◌, ◌^◌, ℕ, Bool, cond, List, [], ◌∷◌, ◌++◌, codes, decimal, pos, None, Some}
+use Rattle.std.specs.Prelude.{◌≡◌, ◌==◌, ◌+◌, ◌%◌, ◌^◌, ℕ, Bool, cond, List, [], ◌∷◌, ◌++◌, codes, decimal, None, Some}
 use Rattle.std.specs.declared.option.Option.{Option}
 use Rattle.std.specs.List.{list_any, flat_map}
 use Rattle.message_tree.specs.Data.{Data}

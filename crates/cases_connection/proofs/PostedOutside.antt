@@ -2,7 +2,7 @@
 use Rattle.std.proofs.Common.{◌≡◌, ℕ, List, [], ◌∷◌, ◌++◌, None, Ok, Err, MatchResult, ap, ◌∙◌}
 use Rattle.std.specs.declared.result.Result.{Result}
 use Rattle.std.proofs.lemmas.List.{map-append}
-use Rattle.realm_inbox.specs.Posted.{Posted, with_acts}
+use Rattle.realm_inbox.specs.Posted.{with_acts}
 use Rattle.realm_inbox.specs.declared.act.Act.{Act}
 use Rattle.cases_connection.specs.Outside.{outside}
 

@@ -1,5 +1,5 @@
 -- Histories that owe a list of items.
-use Rattle.std.specs.Prelude.{◌≡◌, ℕ, List, [], ◌∷◌, ◌++◌, Option, None, Some}
+use Rattle.std.specs.Prelude.{◌≡◌, ℕ, List, [], ◌++◌, Option, None, Some}
 use Rattle.std.proofs.Common.{append-nil, subst}
 use mathlib.Core.List.{IsPrefix}
 use Rattle.session.specs.declared.messages.item.Item.{Item}

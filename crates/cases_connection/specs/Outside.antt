@@ -1,5 +1,5 @@
 -- Acts that are posted to no inbox.
-use Rattle.std.specs.Prelude.{ℕ, None, List, map}
+use Rattle.std.specs.Prelude.{None, List, map}
 use Rattle.realm_inbox.specs.Posted.{Posted}
 use Rattle.realm_inbox.specs.declared.act.Act.{Act}
 

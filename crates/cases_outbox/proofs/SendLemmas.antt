@@ -3,7 +3,6 @@ use denote.Param.Send.{IsSend, view_send, sendable}
 use denote.Param.SendFields.{declared_send, as_row_send}
 use Rattle.std.proofs.Crossing.{crosses}
 use Rattle.outbox_queue.proofs.SendLemmas.{outbox_send}
-use Rattle.outbox_queue.specs.contracts.outbox.Outbox as Outbox
 use Rattle.cases_outbox.specs.contracts.ends.Adder as Adder
 use Rattle.cases_outbox.specs.contracts.ends.Adder.TheInside as adder
 

@@ -1,6 +1,6 @@
 -- Histories of numbers.
-use Rattle.std.specs.Prelude.{◌≡◌, ℕ, zero, suc, List, [], ◌∷◌, ◌++◌}
-use Rattle.std.proofs.Common.{append-nil, sym, subst, ◌∙◌}
+use Rattle.std.specs.Prelude.{◌≡◌, ℕ, zero, suc, List, [], ◌∷◌}
+use Rattle.std.proofs.Common.{append-nil, subst}
 use mathlib.Core.List.{IsPrefix}
 use Rattle.cases_outbox.specs.declared.numbers.Numbers.{Numbers}
 

@@ -1,7 +1,7 @@
 //! A case: the input of a replay, the devices that it is read from and written to, and the run.
 use crate::commands::{command, explained, failure, reports};
 use crate::script::Script;
-use broker_server::Fault;
+use broker_commands::Fault;
 use case_text::{Table, line_of};
 use std::alloc::Global;
 use std::io;

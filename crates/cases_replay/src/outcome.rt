@@ -1,5 +1,5 @@
 //! What a replay comes to.
-use broker_server::Fault;
+use broker_commands::Fault;
 use std::alloc::Global;
 use std::io;
 

@@ -1,6 +1,7 @@
 //! A replay over devices that may fail.
 use crate::outcome::Outcome;
-use broker_server::{Config, Fault, Ids, read_grants, replay};
+use broker_commands::{Fault, read_grants, replay};
+use broker_config::{Config, Ids};
 use rawsocket::devices::testing::{FailsAt, OneByOne};
 use rawsocket::devices::{MemorySource, Sink, Source, WriteSink};
 use std::alloc::Global;

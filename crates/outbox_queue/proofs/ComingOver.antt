@@ -10,7 +10,6 @@ use Rattle.outbox_queue.specs.Ends.{Last, Taking, TookAll, IsVouched, Owes, IsOf
 use Rattle.outbox_queue.specs.Outbox.{EndsIn}
 use Rattle.outbox_queue.specs.Rule.{Settled, Waiting, adding, both, with_taken, items_of}
 use Rattle.outbox_queue.specs.body.EndInvariants.{CameOver, MayHaveCome, last_of}
-use Rattle.outbox_queue.specs.body.Vouching.{VouchesFor}
 use Rattle.outbox_queue.proofs.OwedBeginnings.{prefix-on}
 
 module _ {T H : Type 0} (owed : H → ℕ → List T) (is_over : H → ℕ → Type 0) (belongs : H → TableId → Type 0) where

@@ -1,10 +1,9 @@
 -- Each step of the slot keeps its rule.
-use Rattle.std.proofs.Common.{◌≡◌, ◌⊎◌, inl, inr, ◌≢◌, ℕ, List, [], ◌∷◌, ◌++◌, length, set, sym, refl, ap, ◌∙◌, subst, ⊎_elim}
+use Rattle.std.proofs.Common.{◌≡◌, ◌⊎◌, inl, inr, ℕ, List, [], ◌∷◌, ◌++◌, length, set, sym, refl, ap, ◌∙◌, subst, ⊎_elim}
 use Rattle.std.specs.Prelude.{Option, Some, None}
-use mathlib.Core.Option.{some, some-injective, some-ne-none}
+use mathlib.Core.Option.{some, some-ne-none}
 use lib.ListN.{get_elem?}
 use Rattle.crossbeam_queue.specs.Fifo.{Pushes, Pops, Forks}
-use Rattle.crossbeam_queue.proofs.Lists.{at_set}
 use Rattle.outbox_queue.specs.Ends.{Parting}
 use Rattle.outbox_queue.specs.Slot.{AreOf, Keeps, OfOne, whose_of}
 use Rattle.outbox_queue.specs.declared.link.Whose.{Whose}

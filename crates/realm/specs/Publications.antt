@@ -7,7 +7,7 @@ use Rattle.request_options.specs.declared.publish_options.PublishOptions.{Publis
 use Rattle.wamp_ids.specs.Numbers.{id_of_word}
 use Rattle.wamp_ids.specs.Uri.{is_topic, is_reserved}
 use Rattle.eligibility.specs.declared.who.Who.{Who}
-use Rattle.eligibility.specs.Lists.{Audience, audience_of, admits as eligible}
+use Rattle.eligibility.specs.Lists.{Audience, admits as eligible}
 use Rattle.session.specs.Arguments.{Arguments, is_all_carried}
 use Rattle.session.specs.declared.messages.said.Said.TheVariants.{Publish}
 use Rattle.session.specs.declared.messages.item.Publication.{Publication}

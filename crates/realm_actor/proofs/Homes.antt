@@ -8,7 +8,7 @@ use Rattle.outbox_queue.specs.Tied.{Kept}
 use Rattle.session.specs.declared.messages.item.Item.{Item}
 use Rattle.realm.specs.History.{History}
 use Rattle.atomic_table.specs.Seated.{TableId}
-use Rattle.std.specs.Prelude.{MatchOption, IfSome, option_to_list}
+use Rattle.std.specs.Prelude.{IfSome, option_to_list}
 use Rattle.realm_inbox.specs.declared.letter.Post.{Post}
 use Rattle.realm_inbox.specs.declared.letter.Post.TheVariants.{Act, Stop}
 use Rattle.realm_inbox.specs.Seats.{IsHomed, EachHomed}

@@ -12,7 +12,6 @@ use Rattle.realm_inbox.specs.declared.act.Act.TheVariants.{Join, Said, Ping, Spo
 use Rattle.realm_inbox.specs.declared.letter.Letter.{Letter}
 use Rattle.realm_inbox.specs.declared.letter.Post.{Post}
 use Rattle.realm_inbox.specs.declared.letter.Post.TheVariants.{Act}
-use Rattle.realm_actor.specs.declared.row.Row.{Row}
 use Rattle.realm_actor.specs.declared.outcome.Outcome.{Outcome}
 use Rattle.realm_actor.specs.declared.outcome.Outcome.TheVariants.{Applied, Dropped, NoMemory}
 use Rattle.realm_actor.specs.ActorView.{Acting, Working}

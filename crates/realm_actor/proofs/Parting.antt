@@ -1,17 +1,16 @@
 -- The outboxes of sessions that have ended are handed over.
-use Rattle.std.proofs.Common.{◌≡◌, ◌≢◌, ℕ, zero, suc, ◌+◌, ◌<◌, ◌≤◌, Bool, true, false, cond, List, [], ◌∷◌, ◌++◌, append-nil, filter, length, set, get_or, refl, sym, ap, ◌∙◌, subst, ⊎_elim, arith}
+use Rattle.std.proofs.Common.{◌≡◌, ◌≢◌, ℕ, suc, ◌+◌, ◌<◌, ◌≤◌, Bool, true, false, cond, List, [], ◌∷◌, append-nil, filter, length, set, get_or, refl, sym, ap, ◌∙◌, subst, ⊎_elim, arith}
 use Rattle.std.specs.Prelude.{⊤, MatchOption, Option, Some, None, is_some, option_map, slice_get}
 use Rattle.std.proofs.Math.ListN.{length-set}
 use Rattle.atomic_table.specs.Seated.{TableId}
 use Rattle.outbox_queue.specs.Ends.{Vouches}
 use Rattle.outbox_queue.specs.Rule.{Belongs}
 use Rattle.outbox_queue.specs.Tied.{Kept}
-use Rattle.realm.specs.History.{History, Begins}
-use Rattle.realm.specs.Sessions.{IsHistory, live, who}
+use Rattle.realm.specs.History.{History}
+use Rattle.realm.specs.Sessions.{live, who}
 use Rattle.realm.specs.Yield.{owed}
-use Rattle.realm.proofs.NothingAfterAnEnding.{IsOver, owed-over}
+use Rattle.realm.proofs.NothingAfterAnEnding.{owed-over}
 use Rattle.realm_inbox.specs.Over.{OwesNoMore}
-use Rattle.session.specs.declared.messages.item.Item.{Item}
 use Rattle.eligibility.specs.declared.who.Who.{Who}
 use Rattle.realm_actor.specs.declared.row.Held.{Held}
 use Rattle.realm_actor.specs.declared.row.Row.{Row}

@@ -11,16 +11,15 @@ use Rattle.realm_inbox.specs.declared.letter.Letter.{Letter}
 use Rattle.realm_inbox.specs.declared.letter.Post.{Post}
 use Rattle.realm_inbox.specs.declared.letter.Post.TheVariants.{Act, Stop}
 use Rattle.realm_inbox.specs.HistoryBeginnings.{begins_longer}
-use Rattle.realm_actor.specs.declared.row.Row.{Row}
 use Rattle.realm_actor.specs.declared.outcome.Outcome.{Outcome}
 use Rattle.realm_actor.specs.declared.outcome.Outcome.TheVariants.{Applied, Dropped, NoMemory}
 use Rattle.realm_actor.specs.ActorView.{Acting, Working}
 use Rattle.realm_actor.specs.Tables.{Standing}
-use Rattle.realm_actor.specs.Cuts.{Accepted, Cuts, IsCutOf}
+use Rattle.realm_actor.specs.Cuts.{Cuts}
 use Rattle.realm_actor.specs.Cuts as cutting
-use Rattle.realm_actor.specs.Handle.{entry_of, is_dropped, Loses, Acts}
+use Rattle.realm_actor.specs.Handle.{entry_of, is_dropped, Loses}
 use Rattle.realm_actor.specs.Handle as handling
-use Rattle.realm_actor.specs.Stop.{Closes, ClosesOne, Stops}
+use Rattle.realm_actor.specs.Stop.{Closes, ClosesOne}
 use Rattle.realm_actor.specs.Stop as closing
 use Rattle.realm_actor.specs.Run.{Handles, Runs, Ran}
 use Rattle.realm_actor.specs.Run as running

@@ -1,5 +1,5 @@
 -- Outboxes that follow a realm's history.
-use Rattle.std.specs.Prelude.{◌≡◌, ◌<◌, ◌≤◌, length, true, Option, List, [], ◌++◌, Some}
+use Rattle.std.specs.Prelude.{◌≡◌, ◌<◌, ◌≤◌, length, true, List, [], ◌++◌, Some}
 use mathlib.Core.List.{IsPrefix}
 use Rattle.outbox_queue.specs.Ends.{Sending}
 use Rattle.outbox_queue.specs.Rule.{Grows}

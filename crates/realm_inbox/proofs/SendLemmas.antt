@@ -1,7 +1,7 @@
 -- What an inbox carries, and its ends, may go to other threads where the transport may.
 use denote.RattleType.{RattleType}
 use denote.Struct.Field.{row_field}
-use denote.Param.Send.{IsSend, IsSync, view_send, sendable}
+use denote.Param.Send.{IsSend, IsSync, sendable}
 use denote.Param.SendFields.{declared_send, variants_send, as_row_send}
 use Rattle.std.proofs.Crossing.{crosses}
 use Rattle.std.proofs.Crossing as heap
@@ -54,7 +54,6 @@ use Rattle.realm_inbox.specs.contracts.ends.Seat as Seat
 use Rattle.realm_inbox.specs.contracts.history.RealmMoment as RealmMoment
 use Rattle.realm_inbox.specs.contracts.history.RealmMomentOwedItem.TheImpl as moment_owed
 use Rattle.realm_inbox.specs.contracts.joining.Joining as Joining
-use Rattle.realm_inbox.specs.contracts.letter.Halt as Halt
 use Rattle.realm_inbox.specs.contracts.letter.Letter as Letter
 use Rattle.realm_inbox.specs.contracts.letter.Post as Post
 use Rattle.realm_inbox.specs.contracts.room_bell.RoomBell as RoomBell

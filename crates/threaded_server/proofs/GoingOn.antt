@@ -1,20 +1,17 @@
 -- How what was read of a stream and written to it goes on.
-use Rattle.std.proofs.Common.{◌≡◌, ℕ, List, [], ◌∷◌, ◌++◌, Option, Some, take, slice_get, refl, sym, ap, ◌∙◌, subst, append_assoc, append-nil}
+use Rattle.std.proofs.Common.{◌≡◌, ℕ, List, [], ◌∷◌, ◌++◌, Option, take, slice_get, refl, sym, ap, ◌∙◌, subst, append_assoc, append-nil}
 use mathlib.Core.List.{IsPrefix}
 use mathlib.Core.Logic.{◌⊎◌, inl, inr}
 use Rattle.std.proofs.Math.Logic.{∥∥₁_elim, ∥∥₁_map}
 use Rattle.std.proofs.lemmas.Option.{get_or_from_slice_get, slice_get_within}
 use Rattle.std.specs.Arc.{arc_value}
 use Rattle.rawsocket.specs.Handshakes.{refusing}
-use Rattle.realm.specs.Grants.{Grants}
-use Rattle.threaded_server.specs.Lending.{Lending}
 use Rattle.threaded_server.specs.OwnStreams.{GoesOn, StreamsAreOwn, StreamsGoOn}
 use Rattle.broker_threads.specs.Courses.{sink_of}
 use Rattle.threaded_server.specs.Overs.{TellsRefusal, Went, after_of, before_of}
 use Rattle.threaded_server.specs.Served.{Served}
 use Rattle.broker_threads.specs.Streams.{GoesBy, Sight, Stream, stream}
 use Rattle.broker_threads.specs.Talks.{Converses, passage, start_of}
-use Rattle.threaded_server.specs.declared.answer.Answer.{Answer}
 use Rattle.broker_threads.specs.declared.closed.Closed.{Closed}
 use Rattle.broker_threads.specs.declared.course.Course.{Course}
 use Rattle.broker_threads.specs.declared.course.Course.TheVariants as course

@@ -11,7 +11,6 @@ use Rattle.realm_inbox.specs.Ends.{Place}
 use Rattle.realm_inbox.specs.declared.act.Act.{Act}
 use Rattle.realm_inbox.specs.declared.ends.Poster.{Poster}
 use Rattle.realm_inbox.specs.declared.ends.Seat.{Seat}
-use Rattle.broker_threads.proofs.Lemmas.{put_back}
 use Rattle.threaded_server.proofs.Places.{below, changed_there, few_or_more, found_there, get_of_map, get_other, get_set, get_set_cases, map_get, only_there, same_or_other}
 use Rattle.threaded_server.proofs.RealmSteps.{Longer, at_longer}
 use Rattle.threaded_server.specs.Posters.{AllGain, AreAt, AreOfSeat, Gains, GivesUp, IsOfInbox, Puts, Relabels, RelabelsAt, Stand, poster_at, poster_in, seen_at}

@@ -6,6 +6,7 @@ use mathlib.Core.Logic.{◌⊎◌, inl, inr}
 use Rattle.std.proofs.lemmas.List.Elements.{All-contains, All-cons, All-head, All-nil, All-pop, All-tail, All-weaker}
 use Rattle.std.proofs.lemmas.Option.{get_or_from_slice_get, none-some, same_Some, slice_get_within}
 use Rattle.chronicle.specs.Recorded.{Reaches, Recorded}
+use Rattle.outbox_queue.proofs.OwedBeginnings.{prefix-on}
 use Rattle.outbox_queue.specs.Ends.{IsVouched, Last, Owes, Taking, TookAll, Vouches, came_with, newest, or_else}
 use Rattle.outbox_queue.specs.Tied.{Kept}
 use Rattle.realm.specs.Grants.{Grants, pairs_of}
@@ -169,14 +170,11 @@ module _ {S : Type 0} where
       }
 
 -- what begins what a history owes begins what a longer one owes
-owed_on : (xs : List Item) (h k : History) (conn : ℕ) → Begins h k → IsPrefix xs (owed h conn) → IsPrefix xs (owed k conn)
-owed_on xs h k conn b p = let q = owed_more h k conn b in (p.0 ++ q.0, sym (append_assoc xs p.0 q.0) ∙ ap (λ l. l ++ q.0) p.1 ∙ q.1)
-
 owed_by : (o : Option (Kept History)) (own : Option History) (conn : ℕ) (xs : List Item) → IfSome o (λ kept. Reaches Begins (Some kept.history) own) → Owes owed_kept o conn xs → Owes owed own conn xs
 owed_by None None conn xs r e = e
 owed_by None (Some h) conn xs r e = (owed h conn, ap (λ l. l ++ owed h conn) e)
 owed_by (Some kept) None conn xs r p = absurd r
-owed_by (Some kept) (Some h) conn xs r p = owed_on xs kept.history h conn r p
+owed_by (Some kept) (Some h) conn xs r p = prefix-on xs (owed kept.history conn) (owed h conn) p (owed_more kept.history h conn r)
 
 reached : (own : Option History) (all : List (Kept History)) (o : Option (Kept History)) → All (λ kept. Reaches Begins (Some kept.history) own) all → IsKeptIn all o → IfSome o (λ kept. Reaches Begins (Some kept.history) own)
 reached own all None h k = tt

@@ -1,5 +1,5 @@
 -- What became of the streams that were lent.
-use Rattle.std.specs.Prelude.{◌≡◌, ◌⊎◌, ◌≤◌, ◌<◌, ◌+◌, ⊤, ℕ, List, [], ◌∷◌, ◌++◌, Option, None, Some, All, IsPermutation, length, map, option_map, slice_get}
+use Rattle.std.specs.Prelude.{◌≡◌, ◌⊎◌, ◌≤◌, ◌<◌, ◌+◌, ⊤, ℕ, List, [], ◌∷◌, ◌++◌, Option, None, Some, All, IsPermutation, length, map, slice_get}
 use Rattle.std.specs.Arc.{arc_value}
 use Rattle.std.specs.declared.snapshot.Snapshot.{Snapshot}
 use Rattle.rawsocket.specs.Devices.{GrowsByBeginning}
@@ -8,14 +8,9 @@ use Rattle.session.specs.Opened.{AreUsedUp}
 use Rattle.broker_threads.specs.Courses.{sink_of}
 use Rattle.threaded_server.specs.Lending.{Lending}
 use Rattle.broker_threads.specs.Streams.{Reads, Sight}
-use Rattle.broker_threads.specs.declared.closed.Closed.{Closed}
-use Rattle.broker_threads.specs.declared.course.Course.{Course}
-use Rattle.broker_threads.specs.declared.course.Course.TheVariants as course
 use Rattle.threaded_server.specs.declared.over.Gone.{Gone}
 use Rattle.threaded_server.specs.declared.over.Over.{Over}
 use Rattle.threaded_server.specs.declared.over.Over.TheVariants.{Seated, TurnedAway, Untouched}
-use Rattle.broker_threads.specs.declared.writer_thread.Seen.{Seen}
-use Rattle.broker_threads.specs.declared.writer_thread.Written.{Written}
 
 module _ {I O S : Type 0} where
   -- the halves of a stream, as it was lent

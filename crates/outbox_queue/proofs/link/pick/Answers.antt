@@ -1,5 +1,5 @@
-use Rattle.std.proofs.Common.{◌≡◌, ℕ, List, [], ◌∷◌, subst, sym}
-use Rattle.std.specs.Prelude.{Option, Some, None}
+use Rattle.std.proofs.Common.{subst, sym}
+use Rattle.std.specs.Prelude.{Option}
 use Rattle.crossbeam_queue.specs.Fifo.{Forks}
 use Rattle.outbox_queue.specs.Slot.{Keeps, whose_drain}
 use Rattle.outbox_queue.specs.declared.link.Whose.{Whose}

@@ -1,4 +1,4 @@
-use Rattle.std.proofs.Common.{ap, refl, ◌∙◌, Option, Bool}
+use Rattle.std.proofs.Common.{ap, refl, ◌∙◌}
 use Rattle.std.proofs.lemmas.Result.{IfOk-weaker}
 use Rattle.realm.specs.body.Transitions.{made_with, refused}
 use Rattle.realm.proofs.publications.publish.Goals as goal

@@ -5,7 +5,7 @@ use Rattle.outbox_queue.specs.Tied.{Kept}
 use Rattle.realm.specs.History.{History, Begins}
 use Rattle.realm.specs.Yield.{owed}
 use Rattle.realm_inbox.specs.HistoryBeginnings.{begins_same}
-use Rattle.realm_actor.proofs.OfferLemmas.{recorded, told_again}
+use Rattle.realm_actor.proofs.OfferLemmas.{told_again}
 use Rattle.realm_actor.proofs.row.stamp.Goals as goal
 
 pub by-history-requires : goal.by-history-requires

@@ -1,4 +1,4 @@
-use Rattle.std.proofs.Common.{◌≡◌, ◌∙◌, Some, None, [], ap, refl, sym, subst, false}
+use Rattle.std.proofs.Common.{◌≡◌, ◌∙◌, Some, ap, sym, subst, false}
 use Rattle.std.specs.Prelude.{Option}
 use Rattle.chronicle.specs.Recorded.{Reaches}
 use Rattle.outbox_queue.specs.Ends.{Vouches}
@@ -8,7 +8,7 @@ use Rattle.realm.specs.Sessions.{live}
 use Rattle.realm.specs.Yield.{owed}
 use Rattle.realm_inbox.specs.Over.{OwesNoMore}
 use Rattle.realm_actor.specs.OutboxHistory.{IsHome}
-use Rattle.realm_actor.proofs.Parting.{follows_held, home_held, of_home, vouches}
+use Rattle.realm_actor.proofs.Parting.{follows_held, home_held, vouches}
 use Rattle.realm_actor.proofs.settle.hand_over.Goals as goal
 
 pub by-requires : goal.by-requires

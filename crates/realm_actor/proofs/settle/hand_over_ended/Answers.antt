@@ -1,11 +1,9 @@
-use Rattle.std.proofs.Common.{◌≡◌, ◌<◌, ◌≤◌, ◌+◌, ◌∙◌, Some, ap, refl, sym, subst, length, get_or, set, arith}
-use Rattle.std.specs.Prelude.{slice_get}
+use Rattle.std.proofs.Common.{◌<◌, ◌≤◌, ◌∙◌, ap, refl, sym, subst, length, get_or, arith}
 use Rattle.realm_actor.specs.declared.row.Row.{Row}
 use Rattle.realm_actor.specs.Rows.{RowHome}
-use Rattle.realm_actor.proofs.Parting.{PartedTo, parted_first, parted_next, parted_last}
+use Rattle.realm_actor.proofs.Parting.{parted_first, parted_next, parted_last}
 use Rattle.realm_actor.proofs.RowPlaces.{read}
 use Rattle.realm_actor.proofs.settle.hand_over_ended.Goals as goal
-use Rattle.realm_actor.proofs.settle.hand_over_ended.Given as given
 
 pub loop-row-init : goal.loop-row-init
 loop-row-init g c = record { parted = parted_first c.args.realm.now c.args.rows.now; kept = refl }

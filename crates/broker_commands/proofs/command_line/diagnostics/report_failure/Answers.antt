@@ -1,4 +1,4 @@
-use Rattle.std.proofs.Common.{◌⊎◌, inl, inr, arith}
+use Rattle.std.proofs.Common.{inl, inr, arith}
 use Rattle.broker_commands.proofs.FaultCauses.{done_or_used}
 use Rattle.broker_commands.proofs.command_line.diagnostics.report_failure.Goals as goal
 

@@ -1,7 +1,7 @@
-use Rattle.std.proofs.Common.{◌≡◌, ◌<◌, [], get_or, subst, sym, ap, rules}
+use Rattle.std.proofs.Common.{◌≡◌, [], get_or, subst, ap, rules}
 use Rattle.std.proofs.lemmas.Result.{on_ok_weaker, on_err_weaker}
 use Rattle.broker_commands.specs.Grants.{bytes_of}
-use Rattle.broker_commands.specs.Outcome.{BeginsReplay, IsReplayed, StopsAt, FromRealm}
+use Rattle.broker_commands.specs.Outcome.{BeginsReplay, IsReplayed, StopsAt}
 use Rattle.broker_commands.specs.Transcript.{Replay}
 use Rattle.rawsocket.proofs.Lemmas.{no_whole_steps}
 use Rattle.broker_commands.proofs.ProgressLemmas.{begun-start, from-any, from-realm}

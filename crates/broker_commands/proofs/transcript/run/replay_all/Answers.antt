@@ -1,4 +1,4 @@
-use Rattle.std.proofs.Common.{ℕ, List, ◌<◌, ◌≤◌, ◌+◌, ◌≡◌, ◌⊎◌, ◌∙◌, inl, inr, refl, sym, ap, subst, Err, true, false, [], append-nil, length, length-take, take, arith}
+use Rattle.std.proofs.Common.{ℕ, List, ◌<◌, ◌≤◌, ◌≡◌, ◌⊎◌, ◌∙◌, inl, inr, refl, sym, ap, subst, Err, true, false, [], append-nil, length, length-take, take, arith}
 use Rattle.rawsocket.specs.Steps.{piece_told}
 use Rattle.rawsocket.proofs.Lemmas.{nothing_grown, all_turns, at_told, no_steps, then_steps, told_fine}
 use Rattle.session.specs.Opened.{AreUsedUp}

@@ -1,4 +1,4 @@
-use Rattle.std.proofs.Common.{◌≡◌, ◌+◌, ◌<◌, Some, length, ap, ◌∙◌, arith}
+use Rattle.std.proofs.Common.{Some, length, ap, ◌∙◌, arith}
 use Rattle.cases_outbox.proofs.Places.{counted-at}
 use Rattle.cases_outbox.proofs.ends.Adder.add.Goals as goal
 

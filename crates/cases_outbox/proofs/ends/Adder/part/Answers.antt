@@ -1,4 +1,4 @@
-use Rattle.std.proofs.Common.{◌≤◌, arith, length}
+use Rattle.std.proofs.Common.{arith}
 use Rattle.cases_outbox.proofs.Places.{vouched}
 use Rattle.cases_outbox.proofs.ends.Adder.part.Goals as goal
 

@@ -1,7 +1,6 @@
 use Rattle.std.proofs.Common.{◌≡◌, ℕ, length, sym, ap, ◌∙◌, subst, true, Some}
 use Rattle.std.specs.Prelude.{slice_get, is_some}
 use Rattle.crossbeam_queue.specs.Passes.{view}
-use Rattle.outbox_queue.specs.Rule.{with_taken}
 use Rattle.outbox_queue.specs.Ends.{Owes, IsOf}
 use Rattle.outbox_queue.specs.declared.rule.View.{View}
 use Rattle.outbox_queue.proofs.ComingOver.{came_adds, goes_on}

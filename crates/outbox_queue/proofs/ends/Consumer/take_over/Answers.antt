@@ -1,6 +1,5 @@
-use Rattle.std.proofs.Common.{◌≡◌, ℕ, List, ap, ◌∙◌, sym, subst, refl, true}
+use Rattle.std.proofs.Common.{◌≡◌, ℕ, List, ap, ◌∙◌, sym, subst, refl}
 use Rattle.std.specs.Prelude.{Option, Some}
-use Rattle.atomic_table.specs.Seated.{TableId}
 use Rattle.crossbeam_queue.specs.Passes.{view}
 use Rattle.outbox_queue.specs.Ends.{IsOf, IsVouched, Owes}
 use Rattle.outbox_queue.specs.declared.ends.Came.{Came}

@@ -1,6 +1,5 @@
-use Rattle.std.proofs.Common.{[], ◌∷◌, cond, ap, ◌∙◌, arith}
+use Rattle.std.proofs.Common.{[], ◌∷◌, cond, ap, arith}
 use Rattle.std.specs.Prelude.{vec_capacity}
-use Rattle.realm.specs.Sessions.{conn_of, may_come}
 use Rattle.realm_actor.specs.ActorView.{working}
 use Rattle.realm_actor.specs.Handle.{draws}
 use Rattle.realm_actor.proofs.HandleLemmas.{as_many}
