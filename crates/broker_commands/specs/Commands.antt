@@ -1,5 +1,5 @@
 -- What a command line asks for, and what a fault means to the program.
-use Rattle.std.specs.Prelude.{◌≡◌, ◌⊎◌, ℕ, Bool, true, false, not, ◌&&◌, MatchOption, List, [], ◌∷◌, ◌++◌, ◌<◌, ◌≤◌, codes, decimal, length, ⊤, String, string_bytes}
+use Rattle.std.specs.Prelude.{◌≡◌, ◌⊎◌, ℕ, Bool, true, false, not, ◌&&◌, ◌||◌, MatchOption, List, [], ◌∷◌, ◌++◌, ◌<◌, ◌≤◌, codes, decimal, length, ⊤, String, string_bytes}
 use Rattle.std.specs.declared.alloc.Global.{Global}
 use Rattle.std.specs.List.{list_any}
 use Rattle.std.specs.Str.{bytes_eq}
