@@ -124,6 +124,14 @@ fn told(alloc: Global, is_so: bool, so: &str, otherwise: &str) -> io::Result<Str
     line_of(alloc, if is_so { so } else { otherwise })
 }
 
+// What a connection asks for to join: an authid, if one is given.
+fn authid_of(alloc: Global, text: &str) -> io::Result<Option<Text>> {
+    match text {
+        "" => Ok(None),
+        authid => Ok(Some(Text::of(alloc, authid)?)),
+    }
+}
+
 fn join<R: Wait>(
     rt: &R,
     alloc: Global,
@@ -135,10 +143,7 @@ fn join<R: Wait>(
     let Some(cap) = capacity(cap) else {
         return line_of(alloc, "no outbox has that capacity");
     };
-    let authid = match authid {
-        "" => None,
-        authid => Some(Text::of(alloc, authid)?),
-    };
+    let authid = authid_of(alloc, authid)?;
     let outcome = room.join(rt, alloc, conn, cap, authid)?;
     room.told(alloc, outcome)
 }

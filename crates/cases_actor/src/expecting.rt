@@ -29,17 +29,44 @@ fn realm_of(alloc: Global) -> io::Result<Realm> {
     }
 }
 
+// 1 where the item is the connection's that was taken of, and differs from what was taken next; else 0.
+fn differing(alloc: Global, taken: &mut Taken, conn: Conn, item: &Item) -> io::Result<u64> {
+    if taken.conn != conn {
+        return Ok(0);
+    }
+    Ok(u64::from(taken.differs(alloc, item)?))
+}
+
+// How often the item differs from what was taken of its connection next.
+fn count_differing_from(
+    alloc: Global,
+    all: &mut Vec<Taken>,
+    conn: Conn,
+    item: &Item,
+) -> io::Result<u64> {
+    let mut count: u64 = 0;
+    for taken in all.iter_mut() {
+        count = count.wrapping_add(differing(alloc, taken, conn, item)?);
+    }
+    Ok(count)
+}
+
 // How many of the items differ from what was taken of their connections next.
 fn count_differing(alloc: Global, all: &mut Vec<Taken>, given: &[(Conn, Item)]) -> io::Result<u64> {
     let mut count: u64 = 0;
     for (conn, item) in given {
-        for taken in all.iter_mut() {
-            if taken.conn == *conn && taken.differs(alloc, item)? {
-                count = count.wrapping_add(1);
-            }
-        }
+        count = count.wrapping_add(count_differing_from(alloc, all, *conn, item)?);
     }
     Ok(count)
+}
+
+// How many items were taken and not compared.
+fn count_left(all: &[Taken]) -> u64 {
+    let mut left: u64 = 0;
+    for taken in all {
+        left = left.wrapping_add(taken.left() as u64);
+    }
+    left
 }
 
 impl Expecting {
@@ -108,6 +135,31 @@ impl Expecting {
         count_differing(alloc, all, &given)
     }
 
+    // Each connection joins and subscribes.
+    fn enter_all(&mut self, alloc: Global, all: &mut Vec<Taken>) -> io::Result<u64> {
+        let mut differences: u64 = 0;
+        for number in 1..=CONNS {
+            if let Some(conn) = Conn::new(number) {
+                differences = differences.wrapping_add(self.enter(alloc, conn, all)?);
+            }
+        }
+        Ok(differences)
+    }
+
+    // The connections publish in this order.
+    fn publish_all(
+        &mut self,
+        alloc: Global,
+        order: &[Conn],
+        all: &mut Vec<Taken>,
+    ) -> io::Result<u64> {
+        let mut differences: u64 = 0;
+        for conn in order {
+            differences = differences.wrapping_add(self.publish(alloc, *conn, all)?);
+        }
+        Ok(differences)
+    }
+
     /// How many items that were taken are others than the realm gives, or are missing, or too many.
     pub fn differences(
         mut self,
@@ -115,24 +167,17 @@ impl Expecting {
         all: &mut Vec<Taken>,
         count: u64,
     ) -> io::Result<u64> {
-        let mut differences: u64 = 0;
-        for number in 1..=CONNS {
-            if let Some(conn) = Conn::new(number) {
-                differences = differences.wrapping_add(self.enter(alloc, conn, all)?);
-            }
-        }
+        let differences = self.enter_all(alloc, all)?;
         let order = match all.first() {
             None => return Ok(u64::MAX),
             Some(taken) => taken.publishers(alloc)?,
         };
-        for conn in &order {
-            differences = differences.wrapping_add(self.publish(alloc, *conn, all)?);
-        }
+        let differences = differences.wrapping_add(self.publish_all(alloc, &order, all)?);
         let missing = count.wrapping_mul(CONNS).abs_diff(order.len() as u64);
-        let mut left: u64 = 0;
-        for taken in all.iter() {
-            left = left.wrapping_add(taken.left() as u64);
-        }
-        Ok(differences.wrapping_add(missing).wrapping_add(left))
+        Ok(
+            differences
+                .wrapping_add(missing)
+                .wrapping_add(count_left(all)),
+        )
     }
 }

@@ -97,6 +97,15 @@ fn open<R: Wait>(
     }
 }
 
+// Adds the end of the connection's session. Nothing of the connection stays.
+fn close(alloc: Global, room: &mut Room, conn: Conn, lines: &mut String) -> io::Result<()> {
+    room.drains.forget(conn);
+    room.seating.leave(conn)?;
+    room.desk.sweep();
+    lines.push_str(end(alloc, conn)?.as_str())?;
+    Ok(())
+}
+
 // What a post gave each session; and the end of the connection's own, if it has ended.
 fn given<R: Wait>(
     rt: &R,
@@ -110,10 +119,7 @@ fn given<R: Wait>(
     }
     let mut lines = room.drains.take_all(rt, alloc)?;
     if !room.desk.is_live(conn) {
-        room.drains.forget(conn);
-        room.seating.leave(conn)?;
-        room.desk.sweep();
-        lines.push_str(end(alloc, conn)?.as_str())?;
+        close(alloc, room, conn, &mut lines)?;
     }
     Ok(lines)
 }

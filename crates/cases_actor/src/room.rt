@@ -43,6 +43,14 @@ fn desk_of(alloc: Global, grants: Vec<(String, String)>, inbox: Inbox<Wire>) -> 
     }
 }
 
+fn word_of(outcome: Outcome) -> &'static str {
+    match outcome {
+        Outcome::Applied => "applied",
+        Outcome::Dropped => "dropped",
+        Outcome::NoMemory => "no memory",
+    }
+}
+
 impl Room {
     /// An actor of a realm with these grants, which handled nothing.
     pub fn new(alloc: Global, grants: Vec<(String, String)>) -> io::Result<Room> {
@@ -149,12 +157,10 @@ impl Room {
 
     /// What came of a post, as a line: the outcome, whom it cut, and whose transports it shut.
     pub fn told(&mut self, alloc: Global, outcome: Option<Outcome>) -> io::Result<String> {
-        let outcome = match outcome {
-            None => return line_of(alloc, "its seat isn't free"),
-            Some(Outcome::Applied) => "applied",
-            Some(Outcome::Dropped) => "dropped",
-            Some(Outcome::NoMemory) => "no memory",
+        let Some(outcome) = outcome else {
+            return line_of(alloc, "its seat isn't free");
         };
-        self.watching.told(alloc, outcome, self.desk.last_cut())
+        let cut = self.desk.last_cut();
+        self.watching.told(alloc, word_of(outcome), cut)
     }
 }

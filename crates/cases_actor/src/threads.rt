@@ -25,14 +25,75 @@ const MOST: u64 = 13000;
 /// What each says once it has joined.
 pub const SUBSCRIBE: &str = "[32,1,{},\"a.b\"]";
 
+fn is_applied(outcome: Option<Outcome>) -> bool {
+    match outcome {
+        Some(Outcome::Applied) => true,
+        _ => false,
+    }
+}
+
+// Has a connection subscribe that has joined.
+fn subscribe<R: Wait>(
+    rt: &R,
+    alloc: Global,
+    room: &mut Room,
+    conn: Conn,
+) -> io::Result<Option<Outcome>> {
+    match act_of(alloc, "said", SUBSCRIBE)? {
+        Some(act) => room.act(rt, alloc, conn, act),
+        None => Ok(None),
+    }
+}
+
 // Joins the connection, and has it subscribe.
 fn enter<R: Wait>(rt: &R, alloc: Global, room: &mut Room, conn: Conn) -> io::Result<bool> {
-    let joined = room.join(rt, alloc, conn, CAP, None)?;
-    let Some(act) = act_of(alloc, "said", SUBSCRIBE)? else {
+    if !is_applied(room.join(rt, alloc, conn, CAP, None)?) {
         return Ok(false);
-    };
-    let subscribed = room.act(rt, alloc, conn, act)?;
-    Ok(joined == Some(Outcome::Applied) && subscribed == Some(Outcome::Applied))
+    }
+    Ok(is_applied(subscribe(rt, alloc, room, conn)?))
+}
+
+// The same of each connection. False where one has not joined.
+fn enter_all<R: Wait>(rt: &R, alloc: Global, room: &mut Room) -> io::Result<bool> {
+    for number in 1..=CONNS {
+        if let Some(conn) = Conn::new(number) {
+            if !enter(rt, alloc, room, conn)? {
+                return Ok(false);
+            }
+        }
+    }
+    Ok(true)
+}
+
+// Waits for each thread that publishes. False where memory was refused to one.
+fn join_publishers<R: Threads + Wait>(rt: &R, publishers: Vec<JoinHandle<bool>>) -> bool {
+    let mut had = true;
+    for publisher in publishers {
+        had &= publisher.join(rt);
+    }
+    had
+}
+
+// Waits for each thread that takes, and gives what was taken.
+fn join_writers<R: Threads + Wait>(
+    rt: &R,
+    alloc: Global,
+    writers: Vec<JoinHandle<Taken>>,
+) -> io::Result<Vec<Taken>> {
+    let mut all = Vec::new(alloc);
+    for writer in writers {
+        all.push(writer.join(rt))?;
+    }
+    Ok(all)
+}
+
+// False where memory was refused to a thread that took.
+fn had_memory(all: &[Taken]) -> bool {
+    let mut had = true;
+    for taken in all {
+        had &= taken.had_memory;
+    }
+    had
 }
 
 /// The threads that are to be joined.
@@ -65,8 +126,22 @@ impl Running {
         Ok(())
     }
 
-    // Starts the two threads of a connection.
-    fn start<R: Threads + Wait + Copy + Send + 'static>(
+    // Starts the thread that takes what a connection is given, if it has a drain.
+    fn write<R: Threads + Wait + Copy + Send + 'static>(
+        &mut self,
+        rt: R,
+        alloc: Global,
+        room: &mut Room,
+        conn: Conn,
+    ) -> io::Result<()> {
+        match room.drains.take(conn) {
+            Some(drain) => self.start_writer(rt, Writer { conn, drain, alloc }),
+            None => Ok(()),
+        }
+    }
+
+    // Starts the thread that publishes for a connection, if it has a poster.
+    fn publish<R: Threads + Wait + Copy + Send + 'static>(
         &mut self,
         rt: R,
         alloc: Global,
@@ -74,16 +149,30 @@ impl Running {
         conn: Conn,
         count: u64,
     ) -> io::Result<()> {
-        if let Some(drain) = room.drains.take(conn) {
-            self.start_writer(rt, Writer { conn, drain, alloc })?;
-        }
-        if let Some(poster) = room.seating.take(conn) {
-            let publisher = Publisher {
-                poster,
-                count,
-                alloc,
-            };
-            self.start_publisher(rt, publisher)?;
+        let Some(poster) = room.seating.take(conn) else {
+            return Ok(());
+        };
+        let publisher = Publisher {
+            poster,
+            count,
+            alloc,
+        };
+        self.start_publisher(rt, publisher)
+    }
+
+    // Starts the two threads of each connection.
+    fn start<R: Threads + Wait + Copy + Send + 'static>(
+        &mut self,
+        rt: R,
+        alloc: Global,
+        room: &mut Room,
+        count: u64,
+    ) -> io::Result<()> {
+        for number in 1..=CONNS {
+            if let Some(conn) = Conn::new(number) {
+                self.write(rt, alloc, room, conn)?;
+                self.publish(rt, alloc, room, conn, count)?;
+            }
         }
         Ok(())
     }
@@ -94,17 +183,9 @@ impl Running {
             publishers,
             writers,
         } = self;
-        let mut had_memory = true;
-        for publisher in publishers {
-            had_memory = publisher.join(rt) && had_memory;
-        }
-        let mut all = Vec::new(alloc);
-        for writer in writers {
-            let taken = writer.join(rt);
-            had_memory = taken.had_memory && had_memory;
-            all.push(taken)?;
-        }
-        if !had_memory {
+        let are_published = join_publishers(rt, publishers);
+        let all = join_writers(rt, alloc, writers)?;
+        if !(are_published & had_memory(&all)) {
             return Err(AllocError)?;
         }
         Ok(all)
@@ -122,11 +203,7 @@ fn run<R: Threads + Wait + Copy + Send + 'static>(
         publishers: Vec::new(alloc),
         writers: Vec::new(alloc),
     };
-    for number in 1..=CONNS {
-        if let Some(conn) = Conn::new(number) {
-            running.start(rt, alloc, &mut room, conn, count)?;
-        }
-    }
+    running.start(rt, alloc, &mut room, count)?;
     room.run(&rt, alloc);
     running.join(&rt, alloc)
 }
@@ -142,12 +219,8 @@ pub fn publish_all<R: Threads + Wait + Copy + Send + 'static>(
         return line_of(alloc, "too many");
     }
     let mut room = Room::new(alloc, Vec::new(alloc))?;
-    for number in 1..=CONNS {
-        if let Some(conn) = Conn::new(number) {
-            if !enter(&rt, alloc, &mut room, conn)? {
-                return line_of(alloc, "not joined");
-            }
-        }
+    if !enter_all(&rt, alloc, &mut room)? {
+        return line_of(alloc, "not joined");
     }
     let mut all = run(rt, alloc, room, count)?;
     let differences = Expecting::new(alloc)?.differences(alloc, &mut all, count)?;
