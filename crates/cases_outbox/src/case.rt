@@ -125,12 +125,7 @@ impl Case {
             Ok(rest) => rest,
             Err((refused, _, _)) => return Err(refused)?,
         };
-        let mut line = String::from_str(alloc, "rest")?;
-        for number in &rest.items {
-            write!(line, " {number}")?;
-        }
-        line.push('\n')?;
-        Ok(line)
+        rest_line(alloc, &rest.items)
     }
 }
 
@@ -142,6 +137,15 @@ pub fn numbers_of(text: &str) -> Option<(usize, Numbers)> {
     let first = first.parse::<u64>().ok()?;
     let count = count.parse::<u64>().ok()?;
     Some((cap, Numbers { first, count }))
+}
+
+fn rest_line(alloc: Global, items: &[u64]) -> io::Result<String> {
+    let mut line = String::from_str(alloc, "rest")?;
+    for number in items {
+        write!(line, " {number}")?;
+    }
+    line.push('\n')?;
+    Ok(line)
 }
 
 fn added(alloc: Global, added: Added) -> io::Result<String> {

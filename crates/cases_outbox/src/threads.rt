@@ -37,7 +37,7 @@ fn take_all<R: Wait>(rt: &R, mut drain: Drain<u64, Numbers>, first: u64) -> (u64
     for _ in rt.forever() {
         match drain.wait_next(rt) {
             Waited::Item(number) => {
-                are_in_order = are_in_order && number == first.wrapping_add(count);
+                are_in_order &= number == first.wrapping_add(count);
                 count = count.wrapping_add(1);
             }
             Waited::Stopped => break,
