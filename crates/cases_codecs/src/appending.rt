@@ -23,39 +23,61 @@ fn begun(alloc: Global) -> io::Result<Appender> {
 fn tell(text: &mut String, out: Appender, is_written: bool) -> io::Result<()> {
     if is_written {
         spell(text, &out.into_vec())?;
-    } else if out.into_before().as_slice() == BEFORE {
-        text.push_str("E1 no memory")?;
     } else {
-        text.push_str("the buffer is not as before")?;
+        text.push_str(refusal(&out.into_before()))?;
     }
     text.push('\n')?;
     Ok(())
+}
+
+fn refusal(before: &[u8]) -> &'static str {
+    if before == BEFORE {
+        "E1 no memory"
+    } else {
+        "the buffer is not as before"
+    }
 }
 
 /// A number, in JSON and in MessagePack.
 pub fn number(alloc: Global, words: &str) -> io::Result<String> {
     let number = number_of(words);
     let mut text = String::new(alloc);
+    number_in_json(alloc, &mut text, number)?;
+    number_in_msgpack(alloc, &mut text, number)?;
+    Ok(text)
+}
+
+fn number_in_json(alloc: Global, text: &mut String, number: u64) -> io::Result<()> {
     let mut out = begun(alloc)?;
     let is_written = json_codec::encode_number_into(number, &mut out).is_ok();
-    tell(&mut text, out, is_written)?;
+    tell(text, out, is_written)
+}
+
+fn number_in_msgpack(alloc: Global, text: &mut String, number: u64) -> io::Result<()> {
     let mut out = begun(alloc)?;
     let is_written = msgpack_codec::encode_number_into(number, &mut out).is_ok();
-    tell(&mut text, out, is_written)?;
-    Ok(text)
+    tell(text, out, is_written)
 }
 
 /// A text, in JSON and in MessagePack.
 pub fn letters(alloc: Global, words: &str) -> io::Result<String> {
     let letters = text_of(alloc, words)?;
     let mut text = String::new(alloc);
-    let mut out = begun(alloc)?;
-    let is_written = json_codec::encode_text_into(alloc, letters.as_str(), &mut out).is_ok();
-    tell(&mut text, out, is_written)?;
-    let mut out = begun(alloc)?;
-    let is_written = msgpack_codec::encode_text_into(letters.as_str(), &mut out).is_ok();
-    tell(&mut text, out, is_written)?;
+    letters_in_json(alloc, &mut text, letters.as_str())?;
+    letters_in_msgpack(alloc, &mut text, letters.as_str())?;
     Ok(text)
+}
+
+fn letters_in_json(alloc: Global, text: &mut String, letters: &str) -> io::Result<()> {
+    let mut out = begun(alloc)?;
+    let is_written = json_codec::encode_text_into(alloc, letters, &mut out).is_ok();
+    tell(text, out, is_written)
+}
+
+fn letters_in_msgpack(alloc: Global, text: &mut String, letters: &str) -> io::Result<()> {
+    let mut out = begun(alloc)?;
+    let is_written = msgpack_codec::encode_text_into(letters, &mut out).is_ok();
+    tell(text, out, is_written)
 }
 
 /// A message in JSON, in JSON and in MessagePack.

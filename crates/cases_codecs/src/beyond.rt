@@ -41,26 +41,41 @@ fn told(alloc: Global, text: &mut String, tree: Tree) -> io::Result<()> {
 
 /// Each fault as it is printed: of trees, of JSON, of MessagePack, and of frames.
 pub fn faults(alloc: Global) -> io::Result<String> {
-    use rawsocket::Fault as Transport;
-
     let mut text = String::new(alloc);
     writeln!(&mut text, "{}", Fault::TooDeep)?;
+    add_faults_of_json(&mut text)?;
+    add_faults_of_msgpack(&mut text)?;
+    add_faults_of_frames(&mut text)?;
+    Ok(text)
+}
+
+fn add_faults_of_json(text: &mut String) -> io::Result<()> {
     for fault in [
         json_codec::Fault::NoMemory,
         json_codec::Fault::TooDeep,
         json_codec::Fault::Malformed,
         json_codec::Fault::UncarriedLeaf,
     ] {
-        writeln!(&mut text, "{fault}")?;
+        writeln!(text, "{fault}")?;
     }
+    Ok(())
+}
+
+fn add_faults_of_msgpack(text: &mut String) -> io::Result<()> {
     for fault in [
         msgpack_codec::Fault::NoMemory,
         msgpack_codec::Fault::TooDeep,
         msgpack_codec::Fault::Malformed,
         msgpack_codec::Fault::UncarriedLeaf,
     ] {
-        writeln!(&mut text, "{fault}")?;
+        writeln!(text, "{fault}")?;
     }
+    Ok(())
+}
+
+fn add_faults_of_frames(text: &mut String) -> io::Result<()> {
+    use rawsocket::Fault as Transport;
+
     for fault in [
         Transport::NoMemory,
         Transport::SerializerUnsupported,
@@ -71,7 +86,7 @@ pub fn faults(alloc: Global) -> io::Result<String> {
         Transport::WriteFault,
         Transport::TooManyTurns,
     ] {
-        writeln!(&mut text, "{fault}")?;
+        writeln!(text, "{fault}")?;
     }
-    Ok(text)
+    Ok(())
 }

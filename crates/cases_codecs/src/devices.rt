@@ -8,7 +8,7 @@
 //! - `held-back`, `no-room`, `failing-flush`, in `sending.rt`: writers that do so.
 //!
 //! `never` is a call that isn't made.
-use case_text::{number_of, spell};
+use case_text::{number_of, part, spell};
 use rawsocket::Fault;
 use rawsocket::devices::testing::{FailsAt, OneByOne};
 use rawsocket::devices::{
@@ -29,10 +29,11 @@ fn call_of(word: &str) -> u64 {
 
 /// The words of `DEVICE TURNS CALL`.
 pub fn reads(alloc: Global, words: &str) -> io::Result<String> {
-    let mut words = words.split(' ');
-    let device = words.next().unwrap_or("");
-    let turns = number_of(words.next().unwrap_or(""));
-    let call = call_of(words.next().unwrap_or(""));
+    let (device, words) = part(words);
+    let (turns, words) = part(words);
+    let (call, _) = part(words);
+    let turns = number_of(turns);
+    let call = call_of(call);
     match device {
         "reader" => {
             let source = OneByOne::new(ReadSource::new(ALL));
@@ -74,10 +75,11 @@ fn read_whole<S: Source>(text: &mut String, source: &mut S, mut turns: Turns) ->
 
 /// The words of `DEVICE TURNS CALL`.
 pub fn writes(alloc: Global, words: &str) -> io::Result<String> {
-    let mut words = words.split(' ');
-    let device = words.next().unwrap_or("");
-    let turns = number_of(words.next().unwrap_or(""));
-    let call = call_of(words.next().unwrap_or(""));
+    let (device, words) = part(words);
+    let (turns, words) = part(words);
+    let (call, _) = part(words);
+    let turns = number_of(turns);
+    let call = call_of(call);
     match device {
         "slowly" => writes_slowly(alloc, turns, call),
         _ => writes_to_memory(alloc, turns, call),

@@ -180,15 +180,19 @@ pub fn cut_everywhere(alloc: Global, octets: &[u8]) -> io::Result<String> {
     let mut whole = told(alloc, Way::Fed, &[octets])?;
     let alike = is_cut_alike(alloc, Way::Fed, octets, whole.as_str())?;
     let in_place = is_cut_alike(alloc, Way::InPlace, octets, whole.as_str())?;
-    whole.push_str(if alike {
-        "however cut\n"
-    } else {
-        "but not however cut\n"
-    })?;
+    whole.push_str(likeness(alike))?;
     if !in_place {
         whole.push_str("but not in place\n")?;
     }
     Ok(whole)
+}
+
+fn likeness(alike: bool) -> &'static str {
+    if alike {
+        "however cut\n"
+    } else {
+        "but not however cut\n"
+    }
 }
 
 fn is_cut_alike(alloc: Global, way: Way, octets: &[u8], whole: &str) -> io::Result<bool> {

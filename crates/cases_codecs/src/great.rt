@@ -71,7 +71,14 @@ fn begun(alloc: Global, message: &Message, octets: &[u8]) -> io::Result<String> 
         Ok(again) => again.tree() == message.tree(),
         Err(fault) => return Ok(format!(in alloc; "{fault}\n")?),
     };
-    let first = octets.len().min(5);
-    let begin = spelled(alloc, &octets[..first])?;
+    let begin = spelled(alloc, first_of(octets))?;
     Ok(format!(in alloc; "{begin} {is_read}\n")?)
+}
+
+/// The first five octets, or all of fewer.
+fn first_of(octets: &[u8]) -> &[u8] {
+    match octets.get(..5) {
+        Some(first) => first,
+        None => octets,
+    }
 }

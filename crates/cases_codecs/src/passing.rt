@@ -9,25 +9,33 @@ use std::io;
 /// the octets after it; or why none is passed over.
 pub fn passing(alloc: Global, text: &str) -> io::Result<String> {
     let (room, text) = part(text);
-    let room = u8::try_from(number_of(room)).unwrap_or(u8::MAX);
     let octets = octets_of(alloc, text)?;
-    match pass(&octets, room) {
+    match pass(&octets, room_of(room)) {
         Ok(passed) => told(alloc, passed),
         Err(refusal) => Ok(format!(in alloc; "{refusal}\n")?),
     }
 }
 
-fn told(alloc: Global, passed: Passed) -> io::Result<String> {
-    let carriage = match passed.carriage {
+/// The room of this number; the most where it is greater.
+fn room_of(number: &str) -> u8 {
+    u8::try_from(number_of(number)).unwrap_or(u8::MAX)
+}
+
+fn carriage_of(carriage: Carriage) -> &'static str {
+    match carriage {
         Carriage::Carried => "carried",
         Carriage::Unsure => "unsure",
         Carriage::Uncarried => "uncarried",
-    };
-    let spelling = if passed.is_shortest {
-        "shortest"
-    } else {
-        "other"
-    };
+    }
+}
+
+fn spelling_of(is_shortest: bool) -> &'static str {
+    if is_shortest { "shortest" } else { "other" }
+}
+
+fn told(alloc: Global, passed: Passed) -> io::Result<String> {
+    let carriage = carriage_of(passed.carriage);
+    let spelling = spelling_of(passed.is_shortest);
     let mut text = format!(in alloc; "{carriage} {spelling} ")?;
     quote(&mut text, passed.rest)?;
     text.push('\n')?;

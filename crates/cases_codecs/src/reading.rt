@@ -1,6 +1,6 @@
 //! What is read of octets, and written of what was read.
 use crate::describing::describe;
-use case_text::{line_of, number_of, octets_of, part_of, spell};
+use case_text::{line_of, number_of, octets_of, part, part_of, spell};
 use message_tree::Message;
 use std::alloc::Global;
 use std::io;
@@ -42,28 +42,39 @@ fn in_words(alloc: Global, message: &Message) -> io::Result<String> {
 
 /// Adds a message as both serializations write it, each a line.
 pub fn write(alloc: Global, text: &mut String, message: &Message) -> io::Result<()> {
-    match json_codec::encode(alloc, message) {
-        Ok(octets) => spell(text, &octets)?,
-        Err(fault) => write!(text, "{fault}")?,
-    }
+    write_json(alloc, text, message)?;
     text.push('\n')?;
-    match msgpack_codec::encode(alloc, message) {
-        Ok(octets) => spell(text, &octets)?,
-        Err(fault) => write!(text, "{fault}")?,
-    }
+    write_msgpack(alloc, text, message)?;
     text.push('\n')?;
     Ok(())
 }
 
+fn write_json(alloc: Global, text: &mut String, message: &Message) -> io::Result<()> {
+    match json_codec::encode(alloc, message) {
+        Ok(octets) => spell(text, &octets),
+        Err(fault) => Ok(write!(text, "{fault}")?),
+    }
+}
+
+fn write_msgpack(alloc: Global, text: &mut String, message: &Message) -> io::Result<()> {
+    match msgpack_codec::encode(alloc, message) {
+        Ok(octets) => spell(text, &octets),
+        Err(fault) => Ok(write!(text, "{fault}")?),
+    }
+}
+
 /// The words of `N WORD OPEN LAST CLOSE`.
 pub fn nested(alloc: Global, text: &str) -> io::Result<String> {
-    let mut words = text.split(' ');
-    let count = number_of(words.next().unwrap_or(""));
-    let serializer = words.next().unwrap_or("");
+    let (count, words) = part(text);
+    let (serializer, words) = part(words);
+    let (open, words) = part(words);
+    let (last, words) = part(words);
+    let (close, _) = part(words);
+    let count = number_of(count);
     let mut octets = Vec::new(alloc);
-    repeat(alloc, &mut octets, count, words.next().unwrap_or(""))?;
-    repeat(alloc, &mut octets, 1, words.next().unwrap_or(""))?;
-    repeat(alloc, &mut octets, count, words.next().unwrap_or(""))?;
+    repeat(alloc, &mut octets, count, open)?;
+    repeat(alloc, &mut octets, 1, last)?;
+    repeat(alloc, &mut octets, count, close)?;
     match serializer {
         "json" => json(alloc, &octets),
         _ => msgpack(alloc, &octets),

@@ -1,18 +1,22 @@
 //! Writers that hold back, have no room, or fail to flush.
 use crate::devices::ALL;
 use case_text::{crossing, line_of, may_be_sent, spelled};
-use rawsocket::Deframer;
 use rawsocket::devices::testing::FailsAt;
 use rawsocket::devices::{MemorySink, MemorySource, ReadSource, Sink, Turns, WriteSink, write_all};
+use rawsocket::{Deframer, Fault};
 use std::alloc::Global;
 use std::io;
 use std::io::BufWriter;
+
+fn write_whole<S: Sink>(sink: &mut S) -> Result<(), Fault> {
+    write_all(sink, ALL, &mut Turns::new())
+}
 
 /// What reaches a writer behind a buffer before the flush, and after it.
 pub fn held_back(alloc: Global) -> io::Result<String> {
     let room = Vec::with_capacity(alloc, ALL.len())?;
     let mut sink = WriteSink::new(BufWriter::new(alloc, room)?);
-    let written = write_all(&mut sink, ALL, &mut Turns::new()).is_ok();
+    let written = write_whole(&mut sink).is_ok();
     let before = spelled(alloc, sink.writer().get_ref())?;
     let flushed = sink.flush().is_ok();
     let after = spelled(alloc, sink.writer().get_ref())?;
@@ -23,7 +27,7 @@ pub fn held_back(alloc: Global) -> io::Result<String> {
 pub fn no_room(alloc: Global) -> io::Result<String> {
     let mut room = [0u8; 3];
     let mut sink = WriteSink::new(room.as_mut_slice());
-    match write_all(&mut sink, ALL, &mut Turns::new()) {
+    match write_whole(&mut sink) {
         Ok(()) => line_of(alloc, "written"),
         Err(fault) => Ok(format!(in alloc; "{fault}\n")?),
     }
@@ -32,7 +36,17 @@ pub fn no_room(alloc: Global) -> io::Result<String> {
 /// A flush that fails, and the next.
 pub fn failing_flush(alloc: Global) -> io::Result<String> {
     let mut sink = FailsAt::new(MemorySink::new(alloc), 0);
-    match (sink.flush(), sink.flush()) {
+    let first = sink.flush();
+    let second = sink.flush();
+    flushes(alloc, first, second)
+}
+
+fn flushes(
+    alloc: Global,
+    first: Result<(), Fault>,
+    second: Result<(), Fault>,
+) -> io::Result<String> {
+    match (first, second) {
         (Err(fault), Ok(())) => Ok(format!(in alloc; "{fault}; flushed\n")?),
         _ => line_of(alloc, "no flush failed first"),
     }
