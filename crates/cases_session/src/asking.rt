@@ -19,11 +19,17 @@ const EVERYBODY: &str = "01111";
 
 /// One more word.
 fn push_word(text: &mut String, name: &str, mark: &str) -> io::Result<()> {
+    push_comma(text)?;
+    text.push_str(name)?;
+    text.push_str(mark)?;
+    Ok(())
+}
+
+/// A comma behind the word before, if there is one.
+fn push_comma(text: &mut String) -> io::Result<()> {
     if text.len() > 1 {
         text.push_str(",")?;
     }
-    text.push_str(name)?;
-    text.push_str(mark)?;
     Ok(())
 }
 
@@ -55,14 +61,14 @@ fn admitted(alloc: Global, lists: &Lists) -> io::Result<String> {
     };
     for receiver in RECEIVERS {
         if let Some(receiver) = who(alloc, receiver)? {
-            bits.push_str(if lists.admits(&receiver, &publisher) {
-                "1"
-            } else {
-                "0"
-            })?;
+            push_bit(&mut bits, lists.admits(&receiver, &publisher))?;
         }
     }
     Ok(bits)
+}
+
+fn push_bit(bits: &mut String, bit: bool) -> io::Result<()> {
+    Ok(bits.push(if bit { '1' } else { '0' })?)
 }
 
 fn push_lists(alloc: Global, text: &mut String, lists: &Option<Lists>) -> io::Result<()> {
@@ -74,6 +80,15 @@ fn push_lists(alloc: Global, text: &mut String, lists: &Option<Lists>) -> io::Re
         return Ok(());
     }
     push_word(text, "admits=", bits.as_str())
+}
+
+fn push_policy(text: &mut String, policy: Option<Policy>) -> io::Result<()> {
+    match policy {
+        Some(Policy::Exact) => Ok(()),
+        Some(Policy::Prefix) => push_word(text, "prefix", ""),
+        Some(Policy::Wildcard) => push_word(text, "wildcard", ""),
+        None => push_word(text, "match", "?"),
+    }
 }
 
 /// What the options of a PUBLISH ask for.
@@ -90,12 +105,7 @@ pub fn publish_options(alloc: Global, options: &PublishOptions) -> io::Result<St
 /// What the options of a SUBSCRIBE ask for.
 pub fn subscribe_options(alloc: Global, options: SubscribeOptions) -> io::Result<String> {
     let mut text = String::from_str(alloc, "{")?;
-    match options.policy {
-        Some(Policy::Exact) => {}
-        Some(Policy::Prefix) => push_word(&mut text, "prefix", "")?,
-        Some(Policy::Wildcard) => push_word(&mut text, "wildcard", "")?,
-        None => push_word(&mut text, "match", "?")?,
-    }
+    push_policy(&mut text, options.policy)?;
     push_flag(&mut text, "get_retained", options.get_retained)?;
     text.push_str("}")?;
     Ok(text)

@@ -40,14 +40,8 @@ fn args_in(alloc: Global, octets: &[u8]) -> Result<Args, Fault> {
 
 fn told(alloc: Global, args: Args) -> io::Result<String> {
     let mut out = String::new(alloc);
-    let count = args.count();
-    let carried = if args.is_carried() {
-        "carried"
-    } else {
-        "uncarried"
-    };
-    let words = args_in_words(alloc, &args)?;
-    write!(&mut out, "{count} {carried}{words}\nread")?;
+    tell_count(alloc, &mut out, &args)?;
+    out.push_str("\nread")?;
     tell_endings(&mut out, &args)?;
     out.push_str("\ncopied")?;
     tell_held(alloc, &mut out, args.try_copy(alloc)?)?;
@@ -61,6 +55,22 @@ fn told(alloc: Global, args: Args) -> io::Result<String> {
     Ok(out)
 }
 
+/// Adds how many they are, whether they are carried, and each in JSON.
+fn tell_count(alloc: Global, out: &mut String, args: &Args) -> io::Result<()> {
+    let count = args.count();
+    let carried = carried_mark(args);
+    let words = args_in_words(alloc, args)?;
+    Ok(write!(out, "{count} {carried}{words}")?)
+}
+
+fn carried_mark(args: &Args) -> &'static str {
+    if args.is_carried() {
+        "carried"
+    } else {
+        "uncarried"
+    }
+}
+
 /// Whether nothing is kept in JSON of what could be.
 fn lacks_json(args: &Args) -> bool {
     args.count() > 0 && args.is_carried() && args.ending(Serializer::Json).is_none()
@@ -70,12 +80,16 @@ fn lacks_json(args: &Args) -> bool {
 fn tell_endings(out: &mut String, args: &Args) -> io::Result<()> {
     for serializer in [Serializer::MsgPack, Serializer::Json] {
         out.push(' ')?;
-        match args.ending(serializer) {
-            Some(octets) => spell(out, octets)?,
-            None => out.push('-')?,
-        }
+        tell_ending(out, args.ending(serializer))?;
     }
     Ok(())
+}
+
+fn tell_ending(out: &mut String, ending: Option<&[u8]>) -> io::Result<()> {
+    match ending {
+        Some(octets) => spell(out, octets),
+        None => Ok(out.push('-')?),
+    }
 }
 
 /// Adds the endings that are kept, and what is put behind the octets `ab`.
@@ -87,12 +101,21 @@ fn tell_held(alloc: Global, out: &mut String, args: Args) -> io::Result<()> {
     };
     for serializer in [Serializer::MsgPack, Serializer::Json] {
         out.push(' ')?;
-        match put_behind(alloc, &carried, serializer) {
-            Ok(octets) => spell(out, &octets)?,
-            Err(fault) => write!(out, "{fault}")?,
-        }
+        tell_put(alloc, out, &carried, serializer)?;
     }
     Ok(())
+}
+
+fn tell_put(
+    alloc: Global,
+    out: &mut String,
+    carried: &CarriedArgs,
+    serializer: Serializer,
+) -> io::Result<()> {
+    match put_behind(alloc, carried, serializer) {
+        Ok(octets) => spell(out, &octets),
+        Err(fault) => Ok(write!(out, "{fault}")?),
+    }
 }
 
 fn put_behind(

@@ -143,19 +143,25 @@ fn first_of(alloc: Global, whole: &Outcome) -> io::Result<String> {
 // came of it; none, if it is the line before.
 fn tell(alloc: Global, out: &mut String, outcome: &Outcome, whole: &Outcome) -> io::Result<()> {
     let count = outcome.octets.len();
+    let others = others_mark(outcome, whole);
     let comes = outcome.comes.as_str();
-    let others = if whole
-        .octets
-        .as_slice()
-        .starts_with(outcome.octets.as_slice())
-    {
+    let line = format!(in alloc; "{count} {others}octets, {comes}")?;
+    push_new(out, line.as_str())
+}
+
+fn others_mark(outcome: &Outcome, whole: &Outcome) -> &'static str {
+    let octets = outcome.octets.as_slice();
+    if whole.octets.as_slice().starts_with(octets) {
         ""
     } else {
         "other "
-    };
-    let line = format!(in alloc; "{count} {others}octets, {comes}")?;
-    if !out.as_str().ends_with(line.as_str()) {
-        out.push_str(line.as_str())?;
+    }
+}
+
+// Adds a line, unless it is the line before.
+fn push_new(out: &mut String, line: &str) -> io::Result<()> {
+    if !out.as_str().ends_with(line) {
+        out.push_str(line)?;
     }
     Ok(())
 }
@@ -177,13 +183,17 @@ fn session_in_words(alloc: Global, session: Opened, behind: &[u8]) -> io::Result
 
 fn heading_of(alloc: Global, session: &Opened) -> io::Result<String> {
     let name = name_of(session.serializer);
-    let authid = match &session.authid {
-        None => "",
-        Some(authid) => authid.as_str(),
-    };
+    let authid = authid_of(session);
     let limit = session.limit;
     let realm = session.realm;
     Ok(format!(in alloc; "{name} {limit} {realm} {authid}\n")?)
+}
+
+fn authid_of(session: &Opened) -> &str {
+    match &session.authid {
+        None => "",
+        Some(authid) => authid.as_str(),
+    }
 }
 
 fn frames_in_words(alloc: Global, frames: &[Frame]) -> io::Result<String> {
@@ -194,12 +204,16 @@ fn frames_in_words(alloc: Global, frames: &[Frame]) -> io::Result<String> {
     Ok(words)
 }
 
-fn frame_in_words(alloc: Global, frame: &Frame) -> io::Result<String> {
-    let name = match frame.kind {
+fn kind_name(kind: Kind) -> &'static str {
+    match kind {
         Kind::Message => "message",
         Kind::Ping => "ping",
         Kind::Pong => "pong",
-    };
+    }
+}
+
+fn frame_in_words(alloc: Global, frame: &Frame) -> io::Result<String> {
+    let name = kind_name(frame.kind);
     let payload = spelled(alloc, frame.payload.as_slice())?;
     Ok(format!(in alloc; "{name} {payload}\n")?)
 }

@@ -74,13 +74,17 @@ fn in_words(alloc: Global, said: Said) -> io::Result<String> {
 fn shown(alloc: Global, text: &Text) -> io::Result<String> {
     let mut line = String::new(alloc);
     for c in text.as_str().chars() {
-        if c == '\n' {
-            line.push_str("\\0a")?;
-        } else {
-            line.push(c)?;
-        }
+        push_shown(&mut line, c)?;
     }
     Ok(line)
+}
+
+fn push_shown(line: &mut String, c: char) -> io::Result<()> {
+    if c == '\n' {
+        Ok(line.push_str("\\0a")?)
+    } else {
+        Ok(line.push(c)?)
+    }
 }
 
 fn hello(alloc: Global, realm: Text, authid: Option<Text>) -> io::Result<String> {

@@ -155,8 +155,12 @@ const FAULTS: [Fault; 15] = [
 pub fn faults(alloc: Global) -> io::Result<String> {
     let mut text = String::new(alloc);
     for fault in FAULTS {
-        let uri = abort_uri(fault).unwrap_or("no ABORT");
-        text.push_str(format!(in alloc; "{fault}: {uri}\n")?.as_str())?;
+        text.push_str(fault_line(alloc, fault)?.as_str())?;
     }
     Ok(text)
+}
+
+fn fault_line(alloc: Global, fault: Fault) -> io::Result<String> {
+    let uri = abort_uri(fault).unwrap_or("no ABORT");
+    Ok(format!(in alloc; "{fault}: {uri}\n")?)
 }

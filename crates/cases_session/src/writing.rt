@@ -51,9 +51,12 @@ pub fn frame(alloc: Global, words: &str) -> io::Result<String> {
     let Some((marks, json)) = rest.split_once(' ') else {
         return line_of(alloc, "no message");
     };
-    let limit = limit.parse::<u32>().unwrap_or(MOST).min(MOST);
     let item = event_item(alloc, json, marks);
-    told_if(alloc, serializer_of(serializer), limit, item)
+    told_if(alloc, serializer_of(serializer), limit_of(limit), item)
+}
+
+fn limit_of(word: &str) -> u32 {
+    word.parse::<u32>().unwrap_or(MOST)
 }
 
 /// The frame of an item: there is one, unless memory was refused.
@@ -65,7 +68,7 @@ fn told_if(
 ) -> io::Result<String> {
     match &item {
         None => line_of(alloc, "no item, or E1 no memory"),
-        Some(item) => told(alloc, serializer, limit.min(MOST), item),
+        Some(item) => told(alloc, serializer, limit, item),
     }
 }
 
@@ -88,13 +91,17 @@ fn begun(alloc: Global) -> io::Result<Vec<u8>> {
 fn compared(alloc: Global, serializer: Serializer, item: &Item, out: &[u8]) -> io::Result<String> {
     let mut text = String::new(alloc);
     summarize(&mut text, out)?;
-    match is_alike(alloc, serializer, item, out) {
-        Some(true) => {}
-        Some(false) => text.push_str(" but not by other ways")?,
-        None => text.push_str(" E1 no memory")?,
-    }
+    text.push_str(others_mark(is_alike(alloc, serializer, item, out)))?;
     text.push('\n')?;
     Ok(text)
+}
+
+fn others_mark(is_alike: Option<bool>) -> &'static str {
+    match is_alike {
+        Some(true) => "",
+        Some(false) => " but not by other ways",
+        None => " E1 no memory",
+    }
 }
 
 /// Whether the other ways write this; nothing where memory was refused.
@@ -144,10 +151,8 @@ fn summarize(text: &mut String, octets: &[u8]) -> io::Result<()> {
     if count <= 300 {
         return spell(text, octets);
     }
-    let first = &octets[..count.min(12)];
-    let last = &octets[count.saturating_sub(4)..];
     write!(text, "{count} octets: ")?;
-    spell(text, first)?;
+    spell(text, &octets[..12])?;
     text.push_str(" .. ")?;
-    spell(text, last)
+    spell(text, &octets[count - 4..])
 }
