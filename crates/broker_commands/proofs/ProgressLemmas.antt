@@ -119,7 +119,7 @@ module _ (t u : ReplayInput) (given_before given taken_before taken : List ℕ) 
 
 whole-weaker : (bad rest : List ℕ) (ended : Bool) → IsWhole bad rest false → IsWhole bad rest ended
 whole-weaker bad [] ended (inl long) = inl long
-whole-weaker bad [] ended (inr never) = absurd (cc)
+whole-weaker bad [] ended (inr never) = let over : false ≡ true = never.0 in absurd (cc)
 whole-weaker bad (c ∷ rest) ended whole = whole
 
 -- a line that is bad before the end is bad

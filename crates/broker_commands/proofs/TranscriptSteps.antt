@@ -72,15 +72,15 @@ Stops-line t u k refused start input written told = record {
 }
 
 -- a bad line, ended by the end of input
-pub Stops-end : (t u : ReplayInput) (k : ℕ) → IsRefused t k u → Stops t [] true k u
-Stops-end t u k refused start input written told = record {
+pub Stops-end : (t u : ReplayInput) (k : ℕ) → 0 < length t.rest → IsRefused t k u → Stops t [] true k u
+Stops-end t u k some refused start input written told = record {
   good = told.lines;
   bad = t.rest;
   rest = [];
   split = append-nil input ∙ (told.split ∙ ap (λ r. joined told.lines ++ r) (sym (append-nil t.rest)));
   good_clean = told.lines_clean;
   bad_clean = told.rest_clean;
-  whole = inr refl;
+  whole = inr (refl, some);
   is_bad = refused.is_bad;
   place = refused.place ∙ ap (λ n. n + 1) told.count;
   next = t.replay;
@@ -114,7 +114,7 @@ Stops-after t u v xs ys ended k first second start input written told =
 whole-more : (bad rest ys : List ℕ) → IsWhole bad rest false → IsWhole bad (rest ++ ys) false
 whole-more bad [] [] whole = whole
 whole-more bad [] (y ∷ ys) (inl long) = inl long
-whole-more bad [] (y ∷ ys) (inr never) = absurd (cc)
+whole-more bad [] (y ∷ ys) (inr never) = let over : false ≡ true = never.0 in absurd (cc)
 whole-more bad (c ∷ rest) ys whole = whole
 
 -- what comes after a bad line changes nothing

@@ -25,9 +25,9 @@ pub record IsToldOf (start : Replay) (input written : List ℕ) (t : ReplayInput
   pub count : t.count ≡ length lines
   pub transcript : IsTranscript start lines t.replay (written ++ t.out)
 
--- a line is whole where LF ends it or the input does, and too long already where it has more than 2^20 octets
+-- a line is whole where LF ends it, or the input does behind an octet of it, and too long already where it has more than 2^20 octets
 abbrev pub IsWhole : List ℕ → List ℕ → Bool → Type 0
-IsWhole bad [] ended = (1048576 < length bad) ⊎ (ended ≡ true)
+IsWhole bad [] ended = (1048576 < length bad) ⊎ ((ended ≡ true) × (0 < length bad))
 IsWhole bad (c ∷ rest) ended = (1048576 < length bad) ⊎ (c ≡ 10)
 
 -- line k of the input is its first bad line, and the output is the transcript of the lines before it
