@@ -1,6 +1,6 @@
 -- What a command says to a broker, what it hears, and what it prints. Where a list tells what was heard or published so far, the last
 -- one stands first.
-use Rattle.std.specs.Prelude.{◌≡◌, ◌==◌, ◌+◌, ◌-◌, ℕ, zero, suc, Bool, true, false, List, [], ◌∷◌, ◌++◌, ◌⊎◌, length, get_or, None, Some, Ok, if◌then◌else◌}
+use Rattle.std.specs.Prelude.{◌≡◌, ◌==◌, ◌+◌, ◌-◌, ℕ, zero, suc, ⊤, Bool, true, false, List, [], ◌∷◌, ◌++◌, ◌⊎◌, length, get_or, None, Some, Ok, if◌then◌else◌}
 use Rattle.std.specs.declared.option.Option.{Option}
 use Rattle.rawsocket.specs.Devices.{GrowsByBeginning}
 use Rattle.rawsocket.specs.declared.handshake.Serializer.{Serializer}
@@ -97,9 +97,20 @@ pub record EndsLeaving (t : Terms) (before : Ear) (last : Exchange) (fault : Fau
   pub listens : Listens t before mid heards
   pub ends : EndsByMessage t (writing mid (saying t.serializer GoodbyeSaid)) last fault
 
--- GOODBYE is said, and the broker's is heard; what comes before it is passed over
+-- whether nothing is amiss where it comes: an event, or a subscription that is given
+abbrev pub may_come : Heard → Bool
+may_come (Event n publication details args) = true
+may_come (Subscribed request n) = true
+may_come _ = false
+
+abbrev pub MayCome : List Heard → Type 0
+MayCome [] = ⊤
+MayCome (heard ∷ heards) = (may_come heard ≡ true) × MayCome heards
+
+-- GOODBYE is said, and the broker's is heard; events and subscriptions that come before it are passed over
 pub record Leaves (t : Terms) (before now : Ear) : Type 0 where
   pub passed : List Heard
+  pub harmless : MayCome passed
   pub reason : List ℕ
   pub hears : Listens t (writing before (saying t.serializer GoodbyeSaid)) now (Goodbye reason ∷ passed)
 
@@ -161,6 +172,7 @@ events (heard ∷ heards) = if is_event heard then events heards + 1 else events
 -- how `subscribe` hears, prints and notes until its count is reached
 pub record Follows (topics : List (List ℕ)) (count : Option ℕ) (t : Terms) (before now : Ear) (lines_before lines : List ℕ) (notes_before notes : Noting) : Type 0 where
   pub heards : List Heard
+  pub harmless : MayCome heards
   pub listens : Listens t before now heards
   pub lines_are : lines ≡ lines_before ++ printed topics heards
   pub noted_are : IsNoted (noted topics heards) notes_before notes

@@ -4,7 +4,7 @@ ghost use Rattle.rawsocket.specs.Devices.{GrowsByBeginning};
 ghost use Rattle.rawsocket.specs.Steps.{Fine, told_by};
 ghost use Rattle.session.specs.Opened.{exchange};
 ghost use Rattle.client_session.specs.Saying.{saying};
-ghost use Rattle.client_commands.specs.Acts.{Continues, IsCaused, Leaves, standing, terms_of, writing};
+ghost use Rattle.client_commands.specs.Acts.{Continues, IsCaused, Leaves, may_come, standing, terms_of, writing};
 ghost use Rattle.client_commands.specs.Faults.{AreFailuresTold, IsNoEnd, IsOfBroker, IsOfNoContents, TellsEnd, is_of_message, sink_told, source_told};
 
 use crate::fault::Fault;
@@ -15,7 +15,9 @@ use rawsocket::devices::{Sink, Source};
 use std::alloc::Global;
 
 /// Whether a message may still come before the broker's GOODBYE: an event, or a subscription that is given.
-fn may_come(heard: &Heard) -> bool {
+fn may_come(heard: &Heard) -> bool
+    ensures { result ≡ may_come heard.now }
+{
     match heard {
         Heard::Event { .. } => true,
         Heard::Subscribed { .. } => true,

@@ -6,7 +6,7 @@ ghost use Rattle.session.specs.Opened.{exchange};
 ghost use Rattle.client.specs.declared.client_message.ClientMessage.TheVariants.{Subscribe as SubscribeSaid};
 ghost use Rattle.client.specs.Wishes.{subscribe_options};
 ghost use Rattle.client.specs.declared.heard.Heard.TheVariants.{Subscribed as SubscribedHeard};
-ghost use Rattle.client_commands.specs.Acts.{EndsAfterAsking, Follows, IsCaused, IsTurnedAway, Prints, PrintsAfterAsking, Subscribes, asked, granted_with, is_event, line_for, note_for, standing, terms_of};
+ghost use Rattle.client_commands.specs.Acts.{EndsAfterAsking, Follows, IsCaused, IsTurnedAway, Prints, PrintsAfterAsking, Subscribes, asked, granted_with, is_event, line_for, may_come, note_for, standing, terms_of};
 ghost use Rattle.client_commands.specs.Notes.{IsNoted, noting};
 ghost use Rattle.client_commands.specs.Faults.{AreFailuresTold, IsNoEnd, IsOfBroker, IsOfHere, IsOfMessage, IsOfNoMessage, TellsEnd, is_of_message, output_told, sink_told, source_told};
 
@@ -154,6 +154,7 @@ fn take<P: Sink, N: Sink>(
     ensures printed { OnOk result (P.taken output.new ≡ P.taken output.old
         ++ line_for topics.now.items granted.old.items heard) }
     ensures event { IfOk result (λ told. told ≡ is_event heard) }
+    ensures harmless { OnOk result (may_come heard ≡ true) }
     ensures begun { GrowsByBeginning (P.taken output.old) (P.taken output.new)
         (line_for topics.now.items granted.old.items heard) }
     ensures blamed { IfErr result (IsOfMessage heard) }

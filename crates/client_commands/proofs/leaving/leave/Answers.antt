@@ -18,6 +18,7 @@ returns-in-Err-clause-goes_on g c =
 pub messages-init : goal.messages-init
 messages-init g c = record {
   passed = [];
+  harmless = tt;
   listens =
       listens-none (terms_of c.args.session.now) c.args.session.now (g.I.Source.given c.args.source.now) (g.O.Sink.taken c.args.sink.now) (saying c.args.session.now.line.serializer Goodbye) (g.O.Sink.taken c.say.new.sink)
       (c.in_default.ensures.said ∙ ap (λ l. g.O.Sink.taken c.args.sink.now ++ saying l.serializer Goodbye) c.link.ensures);
@@ -32,6 +33,7 @@ messages-init g c = record {
 pub messages-preserved : goal.messages-preserved
 messages-preserved g c = record {
   passed = c.in-Ok.heard ∷ c.messages.invariant.passed;
+  harmless = (cc, c.messages.invariant.harmless);
   listens =
       listens-more (terms_of c.args.session.now) (terms_of c.messages.session)
       (writing (standing c.args.session.now (g.I.Source.given c.args.source.now) (g.O.Sink.taken c.args.sink.now)) (saying c.args.session.now.line.serializer Goodbye))

@@ -11,6 +11,7 @@ use Rattle.client_commands.proofs.subscribing.follow.Goals.{then-event, else-eve
 pub messages-init : goal.messages-init
 messages-init g c = record {
   heards = [];
+  harmless = tt;
   listens = refl;
   lines = sym (append-nil (g.P.Sink.taken c.args.output.now));
   notes_are = none-noted (noting (g.N.Sink.taken c.args.notes.now) (g.N.Sink.failures c.args.notes.now)) (noting (g.N.Sink.taken c.args.notes.now) (g.N.Sink.failures c.args.notes.now)) refl;
@@ -26,6 +27,7 @@ messages-init g c = record {
 pub messages-preserved : goal.messages-preserved
 messages-preserved g c = record {
   heards = c.in-Ok.heard ∷ c.messages.invariant.heards;
+  harmless = (c.in-Ok-take.ensures.harmless, c.messages.invariant.harmless);
   listens =
       listens-more (terms_of c.args.session.now) (terms_of c.messages.session)
       (standing c.args.session.now (g.I.Source.given c.args.source.now) (g.O.Sink.taken c.args.sink.now))

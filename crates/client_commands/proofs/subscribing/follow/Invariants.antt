@@ -1,13 +1,14 @@
 use Rattle.std.proofs.Common.{◌≡◌, ◌≤◌, ◌++◌, List}
 use Rattle.rawsocket.specs.Steps.{Fine, Steps, meter}
 use Rattle.client.specs.declared.heard.Heard.{Heard}
-use Rattle.client_commands.specs.Acts.{Listens, events, granted, noted, printed, standing, terms_of}
+use Rattle.client_commands.specs.Acts.{Listens, MayCome, events, granted, noted, printed, standing, terms_of}
 use Rattle.client_commands.specs.Notes.{IsNoted, noting}
 use Rattle.client_commands.proofs.subscribing.follow.Given as goal
 
 abbrev pub invariant-messages : goal.invariant-messages
 invariant-messages g l = record {
   heards : List Heard;
+  harmless : MayCome heards;
   listens : Listens (terms_of l.fn.session) (standing l.fn.session (g.I.Source.given l.fn.source) (g.O.Sink.taken l.fn.sink)) (standing l.session (g.I.Source.given l.source) (g.O.Sink.taken l.sink)) heards;
   lines : g.P.Sink.taken l.output ≡ g.P.Sink.taken l.fn.output ++ printed l.command.topics.items heards;
   notes_are :
