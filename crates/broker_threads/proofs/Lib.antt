@@ -5,3 +5,4 @@ pub mod Lemmas
 pub mod Slots
 pub mod StreamEnds
 pub mod Talking
+pub mod Writing

@@ -1,5 +1,6 @@
 -- How a session begins.
 use Rattle.std.specs.Prelude.{◌≡◌, ℕ, List}
+use Rattle.std.specs.Arc.{arc_value}
 use Rattle.connection.specs.declared.reader.ReadEnd.TheVariants.{NoMemory}
 use Rattle.realm_inbox.specs.declared.ends.Poster.{Poster}
 use Rattle.realm_inbox.specs.declared.joining.Joining.{Joining}
@@ -20,10 +21,14 @@ abbrev pub course_of : {O : Type 0} → Refused O → Course O
 course_of (refused.Memory closed) = OpenedAlone closed
 course_of (refused.Thread written) = Served NoMemory written
 
+-- how many items may wait in the outbox of a session
+abbrev pub room_of : {O S : Type 0} → Session O S → ℕ
+room_of session = (arc_value session.broker.plan.now).outbox
+
 module _ {O S : Type 0} where
   -- a session is made ready, with its writer: what it reads on from is what its opening left
   pub record IsMade (session : Session O S) (poster : Poster S) (made : Made S) (writer : Writer O S) : Type 0 where
-    pub begins : Begins (session_of session.opened) session.sink poster made.joining writer
+    pub begins : Begins (room_of session) (session_of session.opened) session.sink poster made.joining writer
     pub start : start_of (session_of made.opened) ≡ start_of (session_of session.opened)
 
 module _ {O S : Type 0} (taken : O → List ℕ) (calls failures : O → ℕ) where
@@ -31,7 +36,7 @@ module _ {O S : Type 0} (taken : O → List ℕ) (calls failures : O → ℕ) wh
   pub record WritesAlone (session : Session O S) (poster : Poster S) (written : Written O) : Type 0 where
     pub joining : Joining S
     pub writer : Writer O S
-    pub begins : Begins (session_of session.opened) session.sink poster joining writer
+    pub begins : Begins (room_of session) (session_of session.opened) session.sink poster joining writer
     pub writes : Writes taken calls failures writer written
 
   -- no writer runs for a session: its sink is let go of as it was, or the writer has written, though nobody joins

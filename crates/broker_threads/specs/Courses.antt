@@ -1,8 +1,9 @@
 -- What is left where a connection is over.
-use Rattle.std.specs.Prelude.{Option, None, option_map}
+use Rattle.std.specs.Prelude.{Option, None, Some, option_map}
 use Rattle.broker_threads.specs.declared.closed.Closed.{Closed}
 use Rattle.broker_threads.specs.declared.course.Course.{Course}
 use Rattle.broker_threads.specs.declared.course.Course.TheVariants as course
+use Rattle.broker_threads.specs.declared.course.SessionEnds.{SessionEnds}
 use Rattle.broker_threads.specs.declared.writer_thread.Seen.{Seen}
 use Rattle.broker_threads.specs.declared.writer_thread.Written.{Written}
 
@@ -22,3 +23,10 @@ seen_of (course.Untouched sink) = None
 seen_of (course.NotOpened sink fault) = None
 seen_of (course.OpenedAlone sink) = None
 seen_of (course.Served end written) = seen_by written
+
+-- how the two threads of its session ended, if one was served
+abbrev pub ends_of : {O : Type 0} → Course O → Option SessionEnds
+ends_of (course.Untouched sink) = None
+ends_of (course.NotOpened sink fault) = None
+ends_of (course.OpenedAlone sink) = None
+ends_of (course.Served end written) = Some (record { read = end; write = written.end })

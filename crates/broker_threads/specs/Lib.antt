@@ -2,6 +2,7 @@ pub mod Acts
 pub mod Begun
 pub mod Closing
 pub mod Courses
+pub mod Sights
 pub mod Streams
 pub mod Talks
 pub mod Words

@@ -1,13 +1,16 @@
 -- What became of a session that was opened.
-use Rattle.std.specs.Prelude.{◌≡◌, ◌⊎◌, ℕ, min, List, [], ◌∷◌}
-use Rattle.connection.specs.Reader.{Start, start, ReadsSince, IsReadBy}
+use Rattle.std.specs.Prelude.{◌≡◌, ◌⊎◌, ℕ, Bool, true, min, List, [], ◌∷◌}
+use Rattle.connection.specs.Reader.{Start, start, ReadsSince, ReadsUntil, IsReadBy}
 use Rattle.connection.specs.declared.reader.ReadEnd.{ReadEnd}
+use Rattle.connection.specs.declared.reader.ReadEnd.TheVariants.{Ended}
+use Rattle.rawsocket.specs.Steps.{meter}
 use Rattle.realm_inbox.specs.EndViews.{home_of_poster, posted_by, poster_conn}
 use Rattle.realm_inbox.specs.Posted.{with_acts}
 use Rattle.realm_inbox.specs.declared.act.Act.TheVariants.{Join}
 use Rattle.realm_inbox.specs.declared.ends.Poster.{Poster}
 use Rattle.realm_inbox.specs.declared.joining.Joining.{Joining}
 use Rattle.session.specs.Opened.{Session}
+use Rattle.broker_threads.specs.Sights.{Sight}
 use Rattle.broker_threads.specs.Writes.{Writes, IsNewDrain}
 use Rattle.broker_threads.specs.declared.course.Course.{Course}
 use Rattle.broker_threads.specs.declared.course.Course.TheVariants.{Untouched, NotOpened, OpenedAlone, Served}
@@ -18,44 +21,50 @@ use Rattle.broker_threads.specs.declared.writer_thread.Written.{Written}
 abbrev pub start_of : Session → Start
 start_of session = start session.serializer session.early session.held
 
--- what a source gave, and what posts what is read from it
-pub record Passage (S : Type 0) : Type 0 where
-  pub given : List ℕ
+-- what is read from, and what posts that
+pub record Passage (I S : Type 0) : Type 0 where
+  pub source : I
   pub poster : Poster S
 
-module _ {S : Type 0} where
-  abbrev pub passage : List ℕ → Poster S → Passage S
-  passage given poster = record { given = given; poster = poster }
+abbrev pub passage : {I S : Type 0} → I → Poster S → Passage I S
+passage source poster = record { source = source; poster = poster }
 
-  -- the Join was posted, and behind it what was read; or it came back, and nothing was read
-  abbrev pub Converses : Start → Joining S → Passage S → Passage S → ReadEnd → Type 0
-  Converses begun joining before now end = ReadsSince before.given now.given (with_acts (posted_by before.poster) (Join joining ∷ [])) (posted_by now.poster) (IsReadBy begun end)
-      ⊎ ((now.given ≡ before.given) × (posted_by now.poster ≡ posted_by before.poster))
+module _ {I S : Type 0} (given : I → List ℕ) (is_ended : I → Bool) (calls failures : I → ℕ) where
+  -- The Join was posted, and behind it what was read, up to this end: Ended only where the stream told its end. No failure was passed over, unless nobody receives any more, and
+  -- behind one nothing was read
+  pub record ReadsOn (begun : Start) (joining : Joining S) (before now : Passage I S) (end : ReadEnd) : Type 0 where
+    pub posted : ReadsSince (given before.source) (given now.source) (with_acts (posted_by before.poster) (Join joining ∷ [])) (posted_by now.poster) (IsReadBy begun end)
+    pub ended : end ≡ Ended → is_ended now.source ≡ true
+    pub reads : ReadsUntil (meter (calls before.source) (failures before.source)) (meter (calls now.source) (failures now.source)) end
+
+  -- or it came back, and nothing was read
+  abbrev pub Converses : Start → Joining S → Passage I S → Passage I S → ReadEnd → Type 0
+  Converses begun joining before now end = ReadsOn begun joining before now end ⊎ ((now.source ≡ before.source) × (posted_by now.poster ≡ posted_by before.poster))
 
 module _ {O S : Type 0} where
-  -- a writer is made over the other end of the outbox that the Join brings, in the session's realm, serialization and limit; the outbox is of the poster's connection, and
+  -- a writer is made over the other end of the outbox that the Join brings, in the session's realm, serialization and limit; the outbox has this room, is of the poster's connection, and
   -- of the chronicle of its inbox, if one is picked
-  pub record Begins (session : Session) (sink : O) (poster : Poster S) (joining : Joining S) (writer : Writer O S) : Type 0 where
+  pub record Begins (room : ℕ) (session : Session) (sink : O) (poster : Poster S) (joining : Joining S) (writer : Writer O S) : Type 0 where
     pub own : joining.outbox.conn ≡ poster_conn poster
     pub of : joining.outbox.chronicle ≡ home_of_poster poster
     pub asks : joining.authid ≡ session.authid
-    pub new : IsNewDrain joining.outbox.queue (poster_conn poster) (home_of_poster poster) writer.drain
+    pub new : IsNewDrain joining.outbox.queue room (poster_conn poster) (home_of_poster poster) writer.drain
     pub in_realm : writer.realm ≡ session.realm
     pub serializer : writer.serializer ≡ session.serializer
     pub limit : writer.limit ≡ min session.limit 16777215
     pub writes_to : writer.sink ≡ sink
 
-module _ {O S : Type 0} (taken : O → List ℕ) (calls failures : O → ℕ) where
+module _ {I O S : Type 0} (see : Sight I O) (room : ℕ) where
   -- what was read is posted, and the writer that is made for it wrote
-  pub record TalksOn (session : Session) (sink : O) (before now : Passage S) (end : ReadEnd) (written : Written O) : Type 0 where
+  pub record TalksOn (session : Session) (sink : O) (before now : Passage I S) (end : ReadEnd) (written : Written O) : Type 0 where
     pub joining : Joining S
     pub writer : Writer O S
-    pub begins : Begins session sink before.poster joining writer
-    pub converses : Converses (start_of session) joining before now end
-    pub writes : Writes taken calls failures writer written
+    pub begins : Begins room session sink before.poster joining writer
+    pub converses : Converses see.given see.is_ended see.reads see.read_failures (start_of session) joining before now end
+    pub writes : Writes see.taken see.writes see.write_failures writer written
 
   -- or no writer could be made, and nothing was read, posted or written
-  abbrev pub Talks : Session → O → Passage S → Passage S → Course O → Type 0
+  abbrev pub Talks : Session → O → Passage I S → Passage I S → Course O → Type 0
   Talks session sink before now (Untouched closed) = ⊥
   Talks session sink before now (NotOpened closed fault) = ⊥
   Talks session sink before now (OpenedAlone closed) = (now ≡ before) × (closed.last.value ≡ sink)

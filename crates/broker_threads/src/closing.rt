@@ -51,6 +51,7 @@ impl Closing {
             WriteEnd::NoMemory => Reason::NoMemory,
             WriteEnd::TooManyTurns => Reason::TooManyTurns,
             WriteEnd::Stopped => self.by_reader(),
+            WriteEnd::Dropped => self.by_reader(),
             WriteEnd::Device => self.by_reader(),
         }
     }

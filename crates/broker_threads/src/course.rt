@@ -1,10 +1,10 @@
 //! What became of a stream.
 ghost use Rattle.std.specs.Prelude.{◌≡◌};
-ghost use Rattle.broker_threads.specs.Courses.{seen_of, sink_of};
+ghost use Rattle.broker_threads.specs.Courses.{ends_of, seen_of, sink_of};
 
 use crate::closed::Closed;
 use crate::writer_thread::{Seen, Written};
-use connection::ReadEnd;
+use connection::{ReadEnd, WriteEnd};
 use session::Fault;
 
 /// What became of a stream that had a seat.
@@ -20,7 +20,27 @@ pub enum Course<O> {
     Served(ReadEnd, Written<O>),
 }
 
+/// How the two threads of a session ended.
+#[derive(Clone, Copy, Debug, Drop, PartialEq, Eq)]
+pub struct SessionEnds {
+    pub read: ReadEnd,
+    pub write: WriteEnd,
+}
+
 impl<O: Drop> Course<O> {
+    /// How its session's threads ended, if one was served.
+    pub fn ends(&self) -> Option<SessionEnds>
+        ensures { result ≡ ends_of self.now }
+    {
+        match self {
+            Course::Served(read, written) => Some(SessionEnds {
+                read: *read,
+                write: written.end,
+            }),
+            _ => None,
+        }
+    }
+
     /// The half that was written to, and what the writer saw last of its realm's history, if it took anything.
     pub fn into_parts(self) -> (Closed<O>, Option<Seen>)
         ensures sink { result.0 ≡ sink_of self }

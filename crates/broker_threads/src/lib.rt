@@ -31,7 +31,7 @@ mod writer_thread;
 
 pub use actor_thread::{Acted, ActorThread};
 pub use closed::Closed;
-pub use course::Course;
+pub use course::{Course, SessionEnds};
 pub use fate::{Fate, Marked};
 pub use id_words::IdWords;
 pub use log::{Log, LogEnd};

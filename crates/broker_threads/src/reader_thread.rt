@@ -1,6 +1,7 @@
 //! The thread that reads what a client sends.
 ghost use Rattle.std.specs.Prelude.{◌≡◌};
-ghost use Rattle.broker_threads.specs.Streams.{GoesBy, IsUntouched, Reads, sight, stream};
+ghost use Rattle.std.specs.Arc.{arc_value};
+ghost use Rattle.broker_threads.specs.Streams.{GoesBy, IsUntouched, Reads, offer, sight, stream};
 
 use crate::closed::Closed;
 use crate::course::Course;
@@ -127,8 +128,8 @@ fn serve<
     mut posters: Posters<S>,
 ) -> Ended<I, O, S>
     ensures { GoesBy (sight I.given I.is_ended I.calls I.failures O.taken O.calls O.failures)
-        realms.now (stream source sink posters.items) result.source result.posters.items
-        result.course }
+        (offer realms.now (arc_value broker.entry.plan.now).outbox) (stream source sink posters.items)
+        result.source result.posters.items result.course }
 {
     let opened = match open_session(broker.alloc, &mut source, &mut sink, realms) {
         Ok(opened) => opened,

@@ -1,10 +1,12 @@
 //! A session that was opened: its writer, and what is posted for it.
 ghost use Rattle.std.specs.Prelude.{◌≡◌, MatchResult, Option, option_map, IfOk, IfSome};
+ghost use Rattle.std.specs.Arc.{arc_value};
 ghost use Rattle.std.specs.String.{string_bytes};
 ghost use Rattle.atomic_table.specs.Seated.{TableId};
 ghost use Rattle.realm_inbox.specs.EndViews.{home_of_poster, poster_conn};
 ghost use Rattle.session.specs.Opened.{session as session_of};
-ghost use Rattle.broker_threads.specs.Begun.{IsMade, IsRefused, course_of};
+ghost use Rattle.broker_threads.specs.Begun.{IsMade, IsRefused, course_of, room_of};
+ghost use Rattle.broker_threads.specs.Sights.{sight};
 ghost use Rattle.broker_threads.specs.Talks.{Converses, Talks, passage, start_of};
 ghost use Rattle.broker_threads.specs.Writes.{IsNewDrain};
 
@@ -70,9 +72,9 @@ pub fn talk<
     O: Sink + Drop + Send + 'static,
     S: Shut + Send + 'static,
 >(rt: R, session: Session<O, S>, source: &mut I, poster: Poster<S>) -> Talked<O, S>
-    ensures { Talks O.taken O.calls O.failures (session_of session.entry.opened)
-        session.entry.sink (passage (I.given source.old) poster)
-        (passage (I.given source.new) result.poster) result.course }
+    ensures { Talks (sight I.given I.is_ended I.calls I.failures O.taken O.calls O.failures)
+        (room_of session.entry) (session_of session.entry.opened) session.entry.sink
+        (passage source.old poster) (passage source.new result.poster) result.course }
 {
     let broker = session.broker;
     let limit = session.opened.limit.min(MOST_OCTETS);
@@ -142,9 +144,8 @@ fn converse<R: Wait, I: Source, S: Shut>(
 ) -> Conversed<S>
     requires own { made.joining.outbox.conn ≡ poster_conn poster }
     requires home { made.joining.outbox.chronicle ≡ home_of_poster poster }
-    ensures { Converses (start_of (session_of made.opened)) made.joining
-        (passage (I.given source.old) poster) (passage (I.given source.new) result.poster)
-        result.read }
+    ensures { Converses I.given I.is_ended I.calls I.failures (start_of (session_of made.opened))
+        made.joining (passage source.old poster) (passage source.new result.poster) result.read }
 {
     let Made {
         opened,
@@ -332,7 +333,8 @@ fn prepare<S: Shut>(
     ensures realm { IfSome result (λ r. r.0.opened.realm ≡ opened.realm) }
     ensures limit { IfSome result (λ r. r.0.opened.limit ≡ opened.limit) }
     ensures drain { IfSome result (λ r. IsNewDrain r.0.joining.outbox.queue
-        (poster_conn poster.now) (home_of_poster poster.now) r.1.drain) }
+        (arc_value broker.entry.plan.now).outbox (poster_conn poster.now) (home_of_poster poster.now)
+        r.1.drain) }
 {
     let Broker { alloc, plan, fate } = broker;
     let in_use = plan.in_use.get(opened.realm)?;
@@ -367,7 +369,8 @@ fn joining<S: Shut>(
     ensures own { IfSome result (λ r. r.0.outbox.conn ≡ poster_conn poster.now) }
     ensures home { IfSome result (λ r. r.0.outbox.chronicle ≡ home) }
     ensures authid { IfSome result (λ r. r.0.authid ≡ option_map string_bytes authid) }
-    ensures drain { IfSome result (λ r. IsNewDrain r.0.outbox.queue (poster_conn poster.now) home r.1) }
+    ensures drain { IfSome result (λ r. IsNewDrain r.0.outbox.queue plan.now.outbox
+        (poster_conn poster.now) home r.1) }
 {
     let (outbox, drain) = pair_of::<Item, RealmHistory>(
         alloc,

@@ -5,7 +5,7 @@ use crate::ends::{Added, Adder, Ends};
 use crate::numbers::Numbers;
 use crate::threads::pass_all;
 use case_text::line_of;
-use outbox_queue::{Drain, MOST_ITEMS, Next, Waited, cap_fits, pair, settle};
+use outbox_queue::{Drain, Drained, MOST_ITEMS, Next, Waited, cap_fits, pair, settle};
 use std::alloc::{AllocError, Global};
 use std::io;
 use std::sync::Wait;
@@ -110,7 +110,7 @@ impl Case {
     /// Waits until the adding end came over.
     fn wait_whole<R: Wait>(&mut self, rt: &R, alloc: Global) -> io::Result<String> {
         match &mut self.alone {
-            Some(drain) => waited(alloc, drain.wait_whole(rt)),
+            Some(drain) => drained(alloc, drain.wait_whole(rt)),
             None => line_of(alloc, "no end was parted with"),
         }
     }
@@ -167,6 +167,14 @@ fn waited(alloc: Global, waited: Waited<u64>) -> io::Result<String> {
     match waited {
         Waited::Item(number) => Ok(format!(in alloc; "took {number}\n")?),
         Waited::Stopped => line_of(alloc, "stopped"),
+    }
+}
+
+fn drained(alloc: Global, drained: Drained<u64>) -> io::Result<String> {
+    match drained {
+        Drained::Item(number) => Ok(format!(in alloc; "took {number}\n")?),
+        Drained::Stopped => line_of(alloc, "stopped"),
+        Drained::Dropped => line_of(alloc, "dropped"),
     }
 }
 

@@ -3,7 +3,7 @@ use crate::client::{Client, Peer};
 use crate::loopback::Loopback;
 use crate::script::Script;
 use crate::steps::{Cue, Deed, Flood, Stand, Step};
-use crate::told::{tell, tell_last};
+use crate::told::{tell, tell_last, tell_tally};
 use case_items::grant_of;
 use case_text::{line_of, number_of, octets_of};
 use rawsocket::devices::WriteSink;
@@ -30,6 +30,8 @@ pub struct Case {
     // How many clients have come in these steps.
     came: usize,
     outbox: usize,
+    // Whether it is told how sessions ended.
+    tallies: bool,
     // How many of the last octets of each client are told, where not all are.
     last: Option<u64>,
     grants: Vec<(String, String)>,
@@ -43,6 +45,7 @@ impl Case {
             steps: VecDeque::new(alloc),
             came: 0,
             outbox: OUTBOX,
+            tallies: false,
             last: None,
             grants: Vec::new(alloc),
             allowed: Vec::new(alloc),
@@ -77,6 +80,7 @@ impl Case {
             "outbox" => self.outbox = number as usize,
             "grant" => self.grants.push(grant_of(alloc, rest)?)?,
             "last" => self.last = Some(number),
+            "tally" => self.tallies = true,
             "may" => self.allowed.push((number, octets_of(alloc, after)?))?,
             "client" => self.come(alloc, rest, Stand::Nowhere)?,
             "standing" => self.come(alloc, rest, Stand::Sink)?,
@@ -142,6 +146,9 @@ impl Case {
         let config = self.config(alloc)?;
         let mut script = Script::new(rt, alloc, self.take_steps(alloc));
         let mut told = run(rt, alloc, &mut script, &config, None)?;
+        if self.tallies {
+            tell_tally(&mut told, script.tally)?;
+        }
         self.tell(alloc, &mut told, &mut script.pairs.play.clients)?;
         Ok(told)
     }

@@ -11,7 +11,9 @@ use std::io;
 use std::net::{Net, SocketAddr, TcpListener, TcpStream};
 use std::snapshot::Snapshot;
 use std::time::Clock;
-use threaded_server::{Accepted, Acceptor, Account, Answer, Closed, Parts, TcpAcceptor, TcpHandle};
+use threaded_server::{
+    Accepted, Acceptor, Account, Answer, Closed, Parts, SessionEnds, TcpAcceptor, TcpHandle,
+};
 
 /// What is still to be accepted, and the clients of all streams, which connect to the acceptor inside.
 #[derive(Drop)]
@@ -79,7 +81,7 @@ impl<R: Net<Stream = TcpStream, Listener = TcpListener> + Clock + Copy + Drop> S
 impl<R: Net<Stream = TcpStream, Listener = TcpListener> + Clock + Copy + Drop> Acceptor
     for Loopback<R> {
     ghost use Rattle.ghost_state.specs.GhostList.{items_of};
-    ghost use Rattle.threaded_server.specs.Lending.{lending_of, with_returned};
+    ghost use Rattle.threaded_server.specs.Lending.{lending_of, returned, with_returned};
 
     type Stream = TcpStream;
 
@@ -117,12 +119,13 @@ impl<R: Net<Stream = TcpStream, Listener = TcpListener> + Clock + Copy + Drop> A
         &mut self,
         source: Closed<ReadSource<TcpHandle>>,
         sink: Closed<WriteSink<TcpHandle>>,
+        ends: Option<SessionEnds>,
     )
         ensures answers { items_of self.new.answers ≡ items_of self.old.answers }
-        ensures lending { lending_of self.new.account
-            ≡ with_returned (lending_of self.old.account) (source.last.value, sink.last.value) }
+        ensures lending { lending_of self.new.account ≡ with_returned (lending_of self.old.account)
+            (returned source.last.value sink.last.value ends) }
     {
-        self.account.take_back(source, sink);
+        self.account.take_back(source, sink, ends);
     }
 
     fn pause(&mut self, failures: u32) {

@@ -15,7 +15,8 @@
 //!   its stream takes no more, but takes so many at least; `leaves K`, it closes its stream.
 //! - `serve` serves all that over pairs of connected sockets, `serve tcp` over TCP, where no sink stands still. It tells how serving ended
 //!   and what each client got, if it got anything; after `last N` only how many got the same last N octets as the first one, and what each
-//!   other one got. Where a `may K TEXT` has what the client K got, only that is told of it. `serve N` does so many times what `serve`
+//!   other one got. Where a `may K TEXT` has what the client K got, only that is told of it. After `tally` it tells also how many sessions
+//!   have ended, and how many of their writers stopped: all that these were owed was written. `serve N` does so many times what `serve`
 //!   does, and tells once what was told each time. `serve log` serves with a log, and tells its lines, sorted, in place of what clients got.
 #![tactic(auto)]
 

@@ -13,7 +13,7 @@ use std::net::Net;
 use std::os::unix::net::UnixStream;
 use std::snapshot::Snapshot;
 use std::sync::Arc;
-use threaded_server::{Accepted, Acceptor, Account, Answer, Closed, Parts};
+use threaded_server::{Accepted, Acceptor, Account, Answer, Closed, Parts, SessionEnds, WriteEnd};
 
 /// What is still to be accepted, and the clients of all streams.
 #[derive(Drop)]
@@ -23,10 +23,31 @@ pub struct Pairs<R: Net + Drop> {
     pub play: Play<UnixStream>,
 }
 
+/// How many sessions have ended, and how many of their writers stopped.
+#[derive(Clone, Copy, Drop)]
+pub struct Tally {
+    pub sessions: u64,
+    pub stopped: u64,
+}
+
+impl Tally {
+    /// Counts one more, if it was a session.
+    fn count(&mut self, ends: Option<SessionEnds>) {
+        let Some(ends) = ends else {
+            return;
+        };
+        self.sessions = self.sessions.wrapping_add(1);
+        if ends.write == WriteEnd::Stopped {
+            self.stopped = self.stopped.wrapping_add(1);
+        }
+    }
+}
+
 /// An acceptor that follows a script.
 #[derive(Drop)]
 pub struct Script<R: Net + Drop> {
     pub pairs: Pairs<R>,
+    pub tally: Tally,
     // These take no bytes.
     answers: GhostList<Answer>,
     account: Account<ReadSource<End>, WriteSink<End>>,
@@ -41,6 +62,10 @@ impl<R: Net + Drop> Script<R> {
         };
         Script {
             pairs: Pairs { net, alloc, play },
+            tally: Tally {
+                sessions: 0,
+                stopped: 0,
+            },
             answers: GhostList::new(),
             account: Account::new(),
         }
@@ -114,7 +139,7 @@ fn parts_of(stream: End) -> Result<Parts<ReadSource<End>, WriteSink<End>, End>, 
 
 impl<R: Net + Drop> Acceptor for Script<R> {
     ghost use Rattle.ghost_state.specs.GhostList.{items_of};
-    ghost use Rattle.threaded_server.specs.Lending.{lending_of, with_returned};
+    ghost use Rattle.threaded_server.specs.Lending.{lending_of, returned, with_returned};
 
     type Stream = End;
 
@@ -148,12 +173,18 @@ impl<R: Net + Drop> Acceptor for Script<R> {
         }
     }
 
-    fn take_back(&mut self, source: Closed<ReadSource<End>>, sink: Closed<WriteSink<End>>)
+    fn take_back(
+        &mut self,
+        source: Closed<ReadSource<End>>,
+        sink: Closed<WriteSink<End>>,
+        ends: Option<SessionEnds>,
+    )
         ensures answers { items_of self.new.answers ≡ items_of self.old.answers }
-        ensures lending { lending_of self.new.account
-            ≡ with_returned (lending_of self.old.account) (source.last.value, sink.last.value) }
+        ensures lending { lending_of self.new.account ≡ with_returned (lending_of self.old.account)
+            (returned source.last.value sink.last.value ends) }
     {
-        self.account.take_back(source, sink);
+        self.tally.count(ends);
+        self.account.take_back(source, sink, ends);
     }
 
     fn pause(&mut self, _failures: u32) {}

@@ -1,5 +1,6 @@
 //! What a case tells of its clients.
 use crate::client::{Client, Peer};
+use crate::script::Tally;
 use case_text::spell;
 use std::alloc::Global;
 use std::io;
@@ -77,4 +78,13 @@ pub fn tell_last<T: Peer>(
 fn last_of(octets: &[u8], count: usize) -> &[u8] {
     let (_, last) = octets.split_at(octets.len().saturating_sub(count));
     last
+}
+
+/// How many sessions have ended, and how many of their writers stopped.
+pub fn tell_tally(told: &mut String, tally: Tally) -> io::Result<()> {
+    let Tally { sessions, stopped } = tally;
+    Ok(write!(
+        told,
+        "sessions ended: {sessions}, writers stopped: {stopped}\n"
+    )?)
 }

@@ -1,13 +1,13 @@
 //! The writer of a connection: it takes items and writes their frames.
-ghost use Rattle.std.specs.Prelude.{◌≡◌, ◌≤◌, ◌<◌, ◌++◌, ◌∷◌, ◌⊎◌, [], length, IfOk, IfErr, OnOk, OnErr, ⊤};
+ghost use Rattle.std.specs.Prelude.{◌≡◌, ◌≢◌, ◌≤◌, ◌<◌, ◌++◌, ◌∷◌, ◌⊎◌, [], length, IfOk, IfErr, OnOk, OnErr, ⊤};
 ghost use Rattle.rawsocket.specs.Devices.{GrowsByBeginning};
 ghost use Rattle.rawsocket.specs.Steps.{Steps, WholeSteps, meter, told_by};
-ghost use Rattle.outbox_queue.specs.Ends.{TookAll};
-ghost use Rattle.outbox_queue.specs.Outbox.{MatchWaited};
+ghost use Rattle.outbox_queue.specs.Ends.{TookUnvouched, TookWhole};
+ghost use Rattle.outbox_queue.specs.Outbox.{MatchDrained};
 ghost use Rattle.connection.specs.Writer.{IsWrittenBy, WritesSince, IsLater, write_told};
 ghost use Rattle.connection.specs.body.Writer.{IsOfDevice, HandsOver, EndsBetween, EndsWith, AddsFrame, BreaksAt, Passes, EndsFrom, output};
 
-use outbox_queue::{Drain, Next, Owed, Waited};
+use outbox_queue::{Drain, Drained, Next, Owed, Waited};
 use rawsocket::Serializer;
 use rawsocket::devices::{Sink, Turns, write_all};
 use session::{Fault, Item, write_item};
@@ -23,8 +23,10 @@ const KEPT: usize = 131_072;
 /// Why a writer ended.
 #[derive(Clone, Copy, Debug, Drop, PartialEq, Eq)]
 pub enum WriteEnd {
-    /// The outbox was found empty, and all items that were taken are written.
+    /// The outbox was found empty, and all items that were taken are written. Where its other end is waited for, that was handed over.
     Stopped,
+    /// The same, but its other end was dropped: nothing vouches for what was added.
+    Dropped,
     /// The device failed. A beginning of the frames of all items is written, in which less than 65,536 octets and one frame may lack.
     Device,
     /// The client can't take the last item: it has more octets than the client takes, or no spelling. Nothing of it is written.
@@ -144,17 +146,21 @@ fn pass_on<S: Sink>(sink: &mut S, gathered: &mut Gathered) -> Result<(), WriteEn
 }
 
 /// Waits for the next item, or until there is to be none.
-fn wait<R: Wait, H: Owed<Item>>(rt: &R, drain: &mut Drain<Item, H>, until: Until) -> Waited<Item>
-    ensures took { MatchWaited result (λ item. drain.new.taken ≡ drain.old.taken ++ item ∷ [])
-        (drain.new.taken ≡ drain.old.taken) }
+fn wait<R: Wait, H: Owed<Item>>(rt: &R, drain: &mut Drain<Item, H>, until: Until) -> Drained<Item>
+    ensures took { MatchDrained result (λ item. drain.new.taken ≡ drain.old.taken ++ item ∷ [])
+        (drain.new.taken ≡ drain.old.taken) (drain.new.taken ≡ drain.old.taken) }
     ensures drain { IsLater H.begins drain.old drain.new }
-    ensures stopped { MatchWaited result (λ _. ⊤)
+    ensures found { MatchDrained result (λ _. ⊤) (drain.old.empty_finds < drain.new.empty_finds)
         (drain.old.empty_finds < drain.new.empty_finds) }
-    ensures whole { MatchWaited result (λ _. ⊤)
-        (until ≡ Until.Whole → TookAll H.owed H.is_over drain.new) }
+    ensures whole { MatchDrained result (λ _. ⊤)
+        (until ≡ Until.Whole → TookWhole H.owed H.is_over drain.new)
+        ((until ≡ Until.Whole) × TookUnvouched H.owed H.is_over drain.new) }
 {
     match until {
-        Until::Closed => drain.wait_next(rt),
+        Until::Closed => match drain.wait_next(rt) {
+            Waited::Item(item) => Drained::Item(item),
+            Waited::Stopped => Drained::Stopped,
+        },
         Until::Whole => drain.wait_whole(rt),
     }
 }
@@ -178,7 +184,10 @@ fn next_item<R: Wait, H: Owed<Item>, S: Sink>(
     ensures stopped { result ≡ Err WriteEnd.Stopped
         → drain.old.empty_finds < drain.new.empty_finds }
     ensures whole { result ≡ Err WriteEnd.Stopped → until ≡ Until.Whole
-        → TookAll H.owed H.is_over drain.new }
+        → TookWhole H.owed H.is_over drain.new }
+    ensures dropped { result ≡ Err WriteEnd.Dropped
+        → (until ≡ Until.Whole) × (drain.old.empty_finds < drain.new.empty_finds)
+        × TookUnvouched H.owed H.is_over drain.new }
     ensures steps { Steps (meter (S.calls sink.old) (S.failures sink.old) gathered.old.turns)
         (meter (S.calls sink.new) (S.failures sink.new) gathered.new.turns)
         (told_by write_told result) }
@@ -191,8 +200,9 @@ fn next_item<R: Wait, H: Owed<Item>, S: Sink>(
         return Err(end);
     }
     match wait(rt, drain, until) {
-        Waited::Item(item) => Ok(item),
-        Waited::Stopped => Err(WriteEnd::Stopped),
+        Drained::Item(item) => Ok(item),
+        Drained::Stopped => Err(WriteEnd::Stopped),
+        Drained::Dropped => Err(WriteEnd::Dropped),
     }
 }
 
@@ -272,7 +282,10 @@ fn write_next<R: Wait, H: Owed<Item>, S: Sink, W: Watch>(
     ensures stopped { result ≡ Err WriteEnd.Stopped
         → drain.old.empty_finds < drain.new.empty_finds }
     ensures whole { result ≡ Err WriteEnd.Stopped → until ≡ Until.Whole
-        → TookAll H.owed H.is_over drain.new }
+        → TookWhole H.owed H.is_over drain.new }
+    ensures dropped { result ≡ Err WriteEnd.Dropped
+        → (until ≡ Until.Whole) × (drain.old.empty_finds < drain.new.empty_finds)
+        × TookUnvouched H.owed H.is_over drain.new }
     ensures steps { Steps (meter (S.calls sink.old) (S.failures sink.old) gathered.old.turns)
         (meter (S.calls sink.new) (S.failures sink.new) gathered.new.turns)
         (told_by write_told result) }
@@ -309,6 +322,7 @@ pub fn write_items<R: Wait, H: Owed<Item>, S: Sink>(
         (IsWrittenBy serializer limit result.1) }
     ensures drain { IsLater H.begins drain result.0 }
     ensures stopped { result.1 ≡ WriteEnd.Stopped → drain.empty_finds < result.0.empty_finds }
+    ensures never { result.1 ≢ WriteEnd.Dropped }
     ensures writes { WholeSteps (meter (S.calls sink.old) (S.failures sink.old))
         (meter (S.calls sink.new) (S.failures sink.new)) (write_told result.1) }
 {
@@ -323,8 +337,8 @@ pub fn write_items<R: Wait, H: Owed<Item>, S: Sink>(
     )
 }
 
-/// The same, while somebody watches, and until the outbox's other end came over: it ends by [`WriteEnd::Stopped`] only where all that was
-/// added was taken. An outbox that is closed has to be handed over, or dropped, for that.
+/// The same, while somebody watches, and until the outbox's other end came over: all that was added was taken then. It ends by
+/// [`WriteEnd::Stopped`] where a history came with it, which vouches for that, and else by [`WriteEnd::Dropped`].
 pub fn write_watched<R: Wait, H: Owed<Item>, S: Sink, W: Watch>(
     rt: &R,
     alloc: Global,
@@ -340,7 +354,9 @@ pub fn write_watched<R: Wait, H: Owed<Item>, S: Sink, W: Watch>(
         (IsWrittenBy serializer limit result.1) }
     ensures drain { IsLater H.begins drain result.0 }
     ensures stopped { result.1 ≡ WriteEnd.Stopped → drain.empty_finds < result.0.empty_finds }
-    ensures whole { result.1 ≡ WriteEnd.Stopped → TookAll H.owed H.is_over result.0 }
+    ensures whole { result.1 ≡ WriteEnd.Stopped → TookWhole H.owed H.is_over result.0 }
+    ensures dropped { result.1 ≡ WriteEnd.Dropped
+        → (drain.empty_finds < result.0.empty_finds) × TookUnvouched H.owed H.is_over result.0 }
     ensures writes { WholeSteps (meter (S.calls sink.old) (S.failures sink.old))
         (meter (S.calls sink.new) (S.failures sink.new)) (write_told result.1) }
 {
@@ -372,7 +388,10 @@ fn write_until<R: Wait, H: Owed<Item>, S: Sink, W: Watch>(
     ensures drain { IsLater H.begins drain result.0 }
     ensures stopped { result.1 ≡ WriteEnd.Stopped → drain.empty_finds < result.0.empty_finds }
     ensures whole { result.1 ≡ WriteEnd.Stopped → until ≡ Until.Whole
-        → TookAll H.owed H.is_over result.0 }
+        → TookWhole H.owed H.is_over result.0 }
+    ensures dropped { result.1 ≡ WriteEnd.Dropped
+        → (until ≡ Until.Whole) × (drain.empty_finds < result.0.empty_finds)
+        × TookUnvouched H.owed H.is_over result.0 }
     ensures writes { WholeSteps (meter (S.calls sink.old) (S.failures sink.old))
         (meter (S.calls sink.new) (S.failures sink.new)) (write_told result.1) }
 {

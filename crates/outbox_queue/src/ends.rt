@@ -85,6 +85,7 @@ impl<T: Drop, H: Owed<T>> Producer<T, H> {
         ensures owed { Owes H.owed self.now.history self.now.conn self.now.added }
         ensures chronicle { IsOf H.is_of self.now.history self.now.chronicle }
         ensures finds { self.now.added ≡ [] → self.now.full_finds ≡ 0 }
+        ensures room { 0 < self.now.full_finds → self.now.capacity ≤ length self.now.added }
         ensures begun { self.now.added ≡ [] → self.now.history ≡ None }
     {
         let _ = &self.place;
@@ -257,6 +258,16 @@ impl<T: Drop, H: Owed<T>> Consumer<T, H> {
         self.came.is_some()
     }
 
+    /// Whether a history came with it.
+    pub fn is_vouched(&self) -> bool
+        ensures { result ≡ is_some (came_with self.now.last) }
+    {
+        match &self.came {
+            None => false,
+            Some(came) => came.history.is_some(),
+        }
+    }
+
     /// The end that added comes over, with a history that vouches for what was added, if one does.
     pub fn take_over(&mut self, farewell: Farewell<T, H>)
         requires whose { whose_of farewell.end ≡ whose_drain self.old }
@@ -270,6 +281,7 @@ impl<T: Drop, H: Owed<T>> Consumer<T, H> {
         } }
     {
         let (end, history) = farewell.into_parts();
+        end.shows();
         let (theirs, finds) = end.into_place();
         self.place
             .absorb::<InStep, Over, Settles>(&self.queue, theirs);

@@ -1,7 +1,7 @@
 //! What an outbox and its drain share beside the queue.
 //!
 //! The end that adds comes over to the end that takes through a slot: a second ruled queue, of one place, whose rule says only of
-//! which queue, connection and chronicle the end is that comes through it. So the drain can put both ends together.
+//! which queue, capacity, connection and chronicle the end is that comes through it. So the drain can put both ends together.
 ghost use Rattle.std.specs.Prelude.{◌≡◌, Option, Some, None, IfOk, IfSome};
 ghost use Rattle.outbox_queue.specs.Slot.{whose_drain, whose_of};
 ghost use Rattle.outbox_queue.specs.declared.link.Whose.{Whose as AWhose};
@@ -24,9 +24,10 @@ pub type Slot<T, H> = RuledArrayQueue<Farewell<T, H>, Option<Whose>, OneQueue>;
 /// What an end knows of the slot: whose that is. It takes no bytes.
 pub type SlotPass<T, H> = Pass<Farewell<T, H>, Option<Whose>>;
 
-/// Whose an end is: its queue, connection, and chronicle, if one is picked. No value of it is made.
+/// Whose an end is: its queue, how many items that holds, its connection, and its chronicle, if one is picked. No value of it is made.
 pub struct Whose {
     pub queue: Name,
+    pub capacity: usize,
     pub conn: u64,
     pub chronicle: Option<Name>,
 }

@@ -1,5 +1,5 @@
 //! The adding end of an outbox, which can be closed.
-ghost use Rattle.std.specs.Prelude.{◌≡◌, ◌+◌, ◌≤◌, [], ◌∷◌, ◌++◌, length, true, false, Some, None, slice_get, MatchResult};
+ghost use Rattle.std.specs.Prelude.{◌≡◌, ◌+◌, ◌<◌, ◌≤◌, [], ◌∷◌, ◌++◌, length, true, false, Some, None, slice_get, MatchResult};
 ghost use Rattle.std.specs.Arc.{arc_value};
 ghost use Rattle.crossbeam_queue.specs.Passes.{view as shown, IsPassOf};
 ghost use Rattle.outbox_queue.specs.Rule.{Grows, Belongs};
@@ -186,11 +186,13 @@ impl<T: Drop, H: Owed<T>> Outbox<T, H> {
     }
 
     /// Shows what always holds of an outbox: what was added begins what the history of the last item owes the connection; that
-    /// history is of its chronicle; and where nothing was added, the queue was never found full and no history was seen.
+    /// history is of its chronicle; where nothing was added, the queue was never found full and no history was seen; and where it was
+    /// found full, as many items were added as it holds, or more.
     pub fn shows(&self)
         ensures owed { Owes H.owed self.now.history self.now.conn self.now.added }
         ensures chronicle { IsOf H.is_of self.now.history self.now.chronicle }
         ensures finds { self.now.added ≡ [] → self.now.full_finds ≡ 0 }
+        ensures room { 0 < self.now.full_finds → self.now.capacity ≤ length self.now.added }
         ensures begun { self.now.added ≡ [] → self.now.history ≡ None }
     {
         self.end.shows();

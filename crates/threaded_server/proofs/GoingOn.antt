@@ -7,10 +7,11 @@ use Rattle.std.proofs.lemmas.Option.{get_or_from_slice_get, slice_get_within}
 use Rattle.std.specs.Arc.{arc_value}
 use Rattle.rawsocket.specs.Handshakes.{refusing}
 use Rattle.threaded_server.specs.OwnStreams.{GoesOn, StreamsAreOwn, StreamsGoOn}
-use Rattle.broker_threads.specs.Courses.{sink_of}
+use Rattle.broker_threads.specs.Courses.{ends_of, sink_of}
+use Rattle.threaded_server.specs.Lending.{returned}
 use Rattle.threaded_server.specs.Overs.{TellsRefusal, Went, after_of, before_of}
 use Rattle.threaded_server.specs.Served.{Served}
-use Rattle.broker_threads.specs.Streams.{GoesBy, Sight, Stream, stream}
+use Rattle.broker_threads.specs.Streams.{GoesBy, Offer, Sight, Stream, offer_of, stream}
 use Rattle.broker_threads.specs.Talks.{Converses, passage, start_of}
 use Rattle.broker_threads.specs.declared.closed.Closed.{Closed}
 use Rattle.broker_threads.specs.declared.course.Course.{Course}
@@ -51,8 +52,8 @@ module _ {A : Type 0} where
       deeper (inl b) = inl (b.0, ap (λ l. x ∷ l) b.1 ∙ ap (λ (w : A). w ∷ ys) same)
       deeper (inr b) = inr (b.0, ap (λ l. y ∷ l) b.1 ∙ ap (λ (w : A). w ∷ xs) (sym same))
 
-module _ {I O S : Type 0} (see : Sight I O) (names : List (List ℕ)) where
-  reader_goes_on : (before : Stream I O S) (source : Closed I) (back : List (Option (Poster S))) (c : Course O) → GoesBy see names before source back c → GoesOn see (before.source, before.sink) (source.last.value, (sink_of c).last.value)
+module _ {I O S : Type 0} (see : Sight I O) (offer : Offer) where
+  reader_goes_on : (before : Stream I O S) (source : Closed I) (back : List (Option (Poster S))) (c : Course O) → GoesBy see offer before source back c → GoesOn see (before.source, before.sink) (returned source.last.value (sink_of c).last.value (ends_of c))
   reader_goes_on before source back (course.Untouched sink) h = record {
     given = begins_same (see.given before.source) (see.given source.last.value) (ap see.given h.0);
     taken = begins_same (see.taken before.sink) (see.taken sink.last.value) (ap see.taken h.1);
@@ -74,20 +75,20 @@ module _ {I O S : Type 0} (see : Sight I O) (names : List (List ℕ)) where
         (h.talks.writes.written.wrote ∙ ap (λ (o : O). see.taken o ++ h.talks.writes.written.octets) h.talks.begins.writes_to));
   }
     where
-      by_talk : Converses (start_of h.session) h.talks.joining (passage (see.given h.opened_source) h.poster) (passage (see.given source.last.value) h.left) end → IsPrefix (see.given h.opened_source) (see.given source.last.value)
-      by_talk (inl r) = begins_more (see.given h.opened_source) (see.given source.last.value) r.octets r.read
-      by_talk (inr r) = begins_same (see.given h.opened_source) (see.given source.last.value) r.0
+      by_talk : Converses see.given see.is_ended see.reads see.read_failures (start_of h.session) h.talks.joining (passage h.opened_source h.poster) (passage source.last.value h.left) end → IsPrefix (see.given h.opened_source) (see.given source.last.value)
+      by_talk (inl r) = begins_more (see.given h.opened_source) (see.given source.last.value) r.posted.octets r.posted.read
+      by_talk (inr r) = begins_same (see.given h.opened_source) (see.given source.last.value) (ap see.given r.0)
 
 module _ {I O : Type 0} (see : Sight I O) where
   refused_goes_on : (before now : O) → TellsRefusal see.taken see.writes see.write_failures before now → IsPrefix (see.taken before) (see.taken now)
   refused_goes_on before now (inl e) = begins_more (see.taken before) (see.taken now) (refusing 4) e
   refused_goes_on before now (inr w) = begins_more (see.taken before) (see.taken now) (take w.0.0 (refusing 4)) w.0.2
 
-module _ {I O S : Type 0} (see : Sight I O) (names : List (List ℕ)) where
-  over_goes_on : (over : Over I O S) → Went see names over → GoesOn see (before_of over) (after_of over)
+module _ {I O S : Type 0} (see : Sight I O) (offer : Offer) where
+  over_goes_on : (over : Over I O S) → Went see offer over → GoesOn see (before_of over) (after_of over)
   over_goes_on (Seated reader ended) h =
       let r = reader.value in
-      reader_goes_on see (arc_value r.plan).realms.items (stream r.source r.sink r.posters.items) ended.value.source ended.value.posters.items ended.value.course h.1
+      reader_goes_on see (offer_of (arc_value r.plan)) (stream r.source r.sink r.posters.items) ended.value.source ended.value.posters.items ended.value.course h.1
   over_goes_on (TurnedAway halves source sink) h = record {
     given = begins_same (see.given halves.value.0) (see.given source.value) (ap see.given h.unread);
     taken = refused_goes_on see halves.value.1 sink.value h.told;
@@ -99,13 +100,13 @@ module _ {I O S : Type 0} (see : Sight I O) (names : List (List ℕ)) where
 
 module _ {I O S : Type 0} where
   pub streams_go_on : StreamsGoOn I O S
-  streams_go_on see names grants before now was lending served i over at =
-      ∥∥₁_map (subst (λ (o : Over I O S). ∥ Went see names o ∥₁) (get_or_from_slice_get served.streams i over over at) (served.went.went i over (slice_get_within served.streams i over at))) (over_goes_on see names over)
+  streams_go_on see offer grants before now was lending served i over at =
+      ∥∥₁_map (subst (λ (o : Over I O S). ∥ Went see offer o ∥₁) (get_or_from_slice_get served.streams i over over at) (served.went.went i over (slice_get_within served.streams i over at))) (over_goes_on see offer over)
 
   pub streams_are_own : StreamsAreOwn I O S
-  streams_are_own see names grants before now was lending served i over other at differ other_begins =
-      ∥∥₁_elim (streams_go_on see names grants before now was lending served i over at) (λ x y. absurd x)
-      (λ on. by_beginning (one_begins (see.taken (before_of over).1) (see.taken other.1) (see.taken (after_of over).1) on.taken other_begins))
+  streams_are_own see offer grants before now was lending served i over other at differ other_begins =
+      ∥∥₁_elim (streams_go_on see offer grants before now was lending served i over at) (λ x y. absurd x)
+      (λ on. by_beginning (one_begins (see.taken (before_of over).1) (see.taken other.1) (see.taken (after_of over).sink) on.taken other_begins))
     where
       by_beginning : IsPrefix (see.taken (before_of over).1) (see.taken other.1) ⊎ IsPrefix (see.taken other.1) (see.taken (before_of over).1) → ⊥
       by_beginning (inl b) = differ.0 b

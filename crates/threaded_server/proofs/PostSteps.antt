@@ -1,5 +1,5 @@
 -- What the streams posted, as they go over.
-use Rattle.std.proofs.Common.{◌≡◌, ◌≢◌, ◌+◌, ℕ, List, [], ◌∷◌, ◌++◌, Option, None, Some, map, set, slice_get, length, length-set, refl, sym, ap, ◌∙◌, subst, append_assoc, append-nil, if◌then◌else◌}
+use Rattle.std.proofs.Common.{◌≡◌, ◌≢◌, ◌+◌, ℕ, Bool, List, [], ◌∷◌, ◌++◌, Option, None, Some, map, set, slice_get, length, length-set, refl, sym, ap, ◌∙◌, subst, append_assoc, append-nil, if◌then◌else◌}
 use mathlib.Core.Logic.{◌⊎◌, inl, inr}
 use Rattle.std.proofs.Math.Seq.{drop-append_seam}
 use Rattle.std.proofs.lemmas.Bool.{eq-eqb, ne_eqb}
@@ -18,7 +18,7 @@ use Rattle.realm_inbox.specs.declared.joining.Joining.{Joining}
 use Rattle.threaded_server.proofs.Places.{found_there, get_before_set}
 use Rattle.threaded_server.specs.Posters.{AreOfSeat}
 use Rattle.threaded_server.specs.Posts.{Say, posts_at, posts_between, posts_of, since}
-use Rattle.broker_threads.specs.Streams.{GoesBy, IsServed, Reads, Sight, Stream}
+use Rattle.broker_threads.specs.Streams.{GoesBy, IsServed, Offer, Reads, Sight, Stream, offer_of}
 use Rattle.broker_threads.specs.Talks.{Converses, Passage, passage, start_of}
 use Rattle.broker_threads.specs.declared.closed.Closed.{Closed}
 use Rattle.broker_threads.specs.declared.course.Course.{Course}
@@ -39,11 +39,12 @@ module _ {S : Type 0} where
   stays : (p : Poster S) → Goes p p
   stays p = record { more = []; posted = sym (append-nil (posted p)) }
 
-  talked : (begun : Start) (joining : Joining S) (before now : Passage S) (end : ReadEnd) → Converses begun joining before now end → Goes before.poster now.poster
-  talked begun joining before now end (inl h) =
+  talked : {I : Type 0} (given : I → List ℕ) (is_ended : I → Bool) (calls failures : I → ℕ) (begun : Start) (joining : Joining S) (before now : Passage I S) (end : ReadEnd) → Converses given is_ended calls failures begun joining before now end
+      → Goes before.poster now.poster
+  talked given is_ended calls failures begun joining before now end (inl h) =
       let of : Act S → ℕ × Act S = λ act. (poster_conn before.poster, act) in
-      record { more = map of (Join joining ∷ []) ++ map of h.acts; posted = ap (λ p. p.said) h.posted ∙ append_assoc (posted before.poster) (map of (Join joining ∷ [])) (map of h.acts) }
-  talked begun joining before now end (inr h) = record { more = []; posted = ap (λ p. p.said) h.1 ∙ sym (append-nil (posted before.poster)) }
+      record { more = map of (Join joining ∷ []) ++ map of h.posted.acts; posted = ap (λ p. p.said) h.posted.posted ∙ append_assoc (posted before.poster) (map of (Join joining ∷ [])) (map of h.posted.acts) }
+  talked given is_ended calls failures begun joining before now end (inr h) = record { more = []; posted = ap (λ p. p.said) h.1 ∙ sym (append-nil (posted before.poster)) }
 
   -- what one of another seat posted is nothing of this seat's
   between_others : (number : ℕ) (given back : Option (Poster S)) → ((p : Poster S) → given ≡ Some p → seat_of (poster_conn p) ≢ number) → posts_between number given back ≡ []
@@ -55,38 +56,38 @@ module _ {S : Type 0} where
   between_own number p q own g =
       ap (λ b. if b then since (posted p) (posted q) else []) (eq-eqb (seat_of (poster_conn p)) number own) ∙ ap (since (posted p)) g.posted ∙ drop-append_seam (posted p) g.more
 
-module _ {I O S : Type 0} (see : Sight I O) (names : List (List ℕ)) where
+module _ {I O S : Type 0} (see : Sight I O) (offer : Offer) where
   -- a poster that a reader was given comes back
   pub record Back (posters : List (Option (Poster S))) (i : ℕ) (p : Poster S) : Type 0 where
     pub poster : Poster S
     pub at : slice_get posters i ≡ Some (Some poster)
     pub goes : Goes p poster
 
-  served_there : (before : Stream I O S) (source : I) (back : List (Option (Poster S))) (end : ReadEnd) (written : Written O) (i : ℕ) (p : Poster S) → IsServed see names before source back end written → slice_get before.posters i ≡ Some (Some p) → Back back i p
+  served_there : (before : Stream I O S) (source : I) (back : List (Option (Poster S))) (end : ReadEnd) (written : Written O) (i : ℕ) (p : Poster S) → IsServed see offer before source back end written → slice_get before.posters i ≡ Some (Some p) → Back back i p
   served_there before source back end written i p h at = by_place (get_before_set before.posters h.session.realm i (Some h.poster) (Some h.left) (Some p) h.named at)
     where
       by_place : ((Some h.poster ≡ Some p) × (slice_get (set before.posters h.session.realm (Some h.left)) i ≡ Some (Some h.left))) ⊎ (slice_get (set before.posters h.session.realm (Some h.left)) i ≡ Some (Some p)) → Back back i p
       by_place (inl w) = record {
         poster = h.left;
         at = ap (λ l. slice_get l i) h.posters_are ∙ w.1;
-        goes = subst (λ (x : Poster S). Goes x h.left) (same_Some h.poster p w.0) (talked (start_of h.session) h.talks.joining (passage (see.given h.opened_source) h.poster) (passage (see.given source) h.left) end h.talks.converses);
+        goes = subst (λ (x : Poster S). Goes x h.left) (same_Some h.poster p w.0) (talked see.given see.is_ended see.reads see.read_failures (start_of h.session) h.talks.joining (passage h.opened_source h.poster) (passage source h.left) end h.talks.converses);
       }
       by_place (inr w) = record { poster = p; at = ap (λ l. slice_get l i) h.posters_are ∙ w; goes = stays p }
 
-  back_there : (before : Stream I O S) (source : Closed I) (back : List (Option (Poster S))) (course : Course O) (i : ℕ) (p : Poster S) → GoesBy see names before source back course → slice_get before.posters i ≡ Some (Some p) → Back back i p
+  back_there : (before : Stream I O S) (source : Closed I) (back : List (Option (Poster S))) (course : Course O) (i : ℕ) (p : Poster S) → GoesBy see offer before source back course → slice_get before.posters i ≡ Some (Some p) → Back back i p
   back_there before source back (Untouched sink) i p h at = record { poster = p; at = ap (λ l. slice_get l i) h.2 ∙ at; goes = stays p }
   back_there before source back (NotOpened sink fault) i p h at = record { poster = p; at = ap (λ l. slice_get l i) h.1 ∙ at; goes = stays p }
   back_there before source back (OpenedAlone sink) i p h at = record { poster = p; at = ap (λ l. slice_get l i) h.1 ∙ at; goes = stays p }
   back_there before source back (Served end written) i p h at = served_there before source.last.value back end written i p h at
 
-  back_long : (before : Stream I O S) (source : Closed I) (back : List (Option (Poster S))) (course : Course O) → GoesBy see names before source back course → length back ≡ length before.posters
+  back_long : (before : Stream I O S) (source : Closed I) (back : List (Option (Poster S))) (course : Course O) → GoesBy see offer before source back course → length back ≡ length before.posters
   back_long before source back (Untouched sink) h = ap length h.2
   back_long before source back (NotOpened sink fault) h = ap length h.1
   back_long before source back (OpenedAlone sink) h = ap length h.1
   back_long before source back (Served end written) h = ap length h.posters_are ∙ length-set before.posters h.session.realm (Some h.left)
 
   -- the posters that come back say what was posted meanwhile, too
-  back_say : (whole count number : ℕ) (said : ℕ → List (ℕ × Act S)) (before : Stream I O S) (source : Closed I) (back : List (Option (Poster S))) (course : Course O) → GoesBy see names before source back course → AreOfSeat number before.posters → Say posted whole count said before.posters
+  back_say : (whole count number : ℕ) (said : ℕ → List (ℕ × Act S)) (before : Stream I O S) (source : Closed I) (back : List (Option (Poster S))) (course : Course O) → GoesBy see offer before source back course → AreOfSeat number before.posters → Say posted whole count said before.posters
       → Say posted whole count (λ i. said i ++ posts_between number (option_flatten (slice_get before.posters i)) (option_flatten (slice_get back i))) back
   back_say whole count number said before source back course h own s = record {
     long = back_long before source back course h ∙ s.long;
@@ -118,7 +119,7 @@ module _ {I O S : Type 0} (see : Sight I O) where
       → Say posted whole count (λ i. posts_at i number overs) began.value.posters.items → Say posted whole count (λ i. posts_at i number now) ended.posters.items
   posters_say whole count number overs now began left ended e same reads own s =
       let reader = began.value in
-      let b = back_say see (arc_value reader.plan).realms.items whole count number (λ i. posts_at i number overs) _ ended.source ended.posters.items ended.course reads own s in
+      let b = back_say see (offer_of (arc_value reader.plan)) whole count number (λ i. posts_at i number overs) _ ended.source ended.posters.items ended.course reads own s in
       record {
         long = b.long;
         each = λ i less.

@@ -1,5 +1,5 @@
 -- What is kept of the realms, while streams come and go.
-use Rattle.std.proofs.Common.{◌≡◌, ◌≢◌, ℕ, List, [], ◌∷◌, ◌++◌, Option, None, Some, All, Contains, IfSome, option_map, set, slice_get, refl, sym, ap, ◌∙◌, subst}
+use Rattle.std.proofs.Common.{◌≡◌, ◌≢◌, ℕ, Bool, List, [], ◌∷◌, ◌++◌, Option, None, Some, All, Contains, IfSome, option_map, set, slice_get, refl, sym, ap, ◌∙◌, subst}
 use mathlib.Core.Logic.{◌⊎◌, inl, inr}
 use Rattle.std.proofs.lemmas.List.Elements.{All-push, All-weaker, Contains-append_left, Contains-push}
 use Rattle.std.proofs.lemmas.Option.{same_Some}
@@ -17,7 +17,7 @@ use Rattle.threaded_server.proofs.Places.{get_before_set, get_more, get_of_map, 
 use Rattle.threaded_server.specs.Posters.{AreAt, AreOf, AreOfSeat}
 use Rattle.broker_threads.specs.Courses.{seen_of}
 use Rattle.threaded_server.specs.Realms.{IsAtHome, Keeps, Shown, TakesIn, inbox_in, places_of, with_seen}
-use Rattle.broker_threads.specs.Streams.{GoesBy, IsServed, Reads, Sight, Stream}
+use Rattle.broker_threads.specs.Streams.{GoesBy, IsServed, Offer, Reads, Sight, Stream, offer_of}
 use Rattle.broker_threads.specs.Talks.{Converses, Passage, passage, start_of}
 use Rattle.connection.specs.Reader.{Start}
 use Rattle.threaded_server.specs.Ties.{CourseKept, IsKept, IsKeptIn, OverKept}
@@ -129,62 +129,62 @@ put_by : {S : Type 0} (realms after : List (Shown S)) (i : ℕ) (o : Option (Kep
 put_by realms after i None r at e = (r, ap (λ l. slice_get l i) e ∙ at, refl, tt)
 put_by realms after i (Some kept) r at t = (with_seen t.realm kept, ap (λ l. slice_get l i) t.kept ∙ get_set realms i t.realm (with_seen t.realm kept) t.at, ap inbox_in (same_Some t.realm r (sym t.at ∙ at)), Contains-push t.realm.seen kept)
 
-module _ {S : Type 0} where
+module _ {I S : Type 0} (given : I → List ℕ) (is_ended : I → Bool) (calls failures : I → ℕ) where
   -- a poster that comes back is of the same inbox
-  back_home : (begun : Start) (joining : Joining S) (before now : Passage S) (end : ReadEnd) → Converses begun joining before now end → inbox_of_poster now.poster ≡ inbox_of_poster before.poster
-  back_home begun joining before now end (inl h) = same_Some (inbox_of_poster now.poster) (inbox_of_poster before.poster) (ap (λ p. p.inbox) h.posted)
+  back_home : (begun : Start) (joining : Joining S) (before now : Passage I S) (end : ReadEnd) → Converses given is_ended calls failures begun joining before now end → inbox_of_poster now.poster ≡ inbox_of_poster before.poster
+  back_home begun joining before now end (inl h) = same_Some (inbox_of_poster now.poster) (inbox_of_poster before.poster) (ap (λ p. p.inbox) h.posted.posted)
   back_home begun joining before now end (inr h) = same_Some (inbox_of_poster now.poster) (inbox_of_poster before.poster) (ap (λ p. p.inbox) h.1)
 
   -- and of the same connection
-  back_conn : (begun : Start) (joining : Joining S) (before now : Passage S) (end : ReadEnd) → Converses begun joining before now end → poster_conn now.poster ≡ poster_conn before.poster
-  back_conn begun joining before now end (inl h) = ap (λ p. p.conn) h.posted
+  back_conn : (begun : Start) (joining : Joining S) (before now : Passage I S) (end : ReadEnd) → Converses given is_ended calls failures begun joining before now end → poster_conn now.poster ≡ poster_conn before.poster
+  back_conn begun joining before now end (inl h) = ap (λ p. p.conn) h.posted.posted
   back_conn begun joining before now end (inr h) = ap (λ p. p.conn) h.1
 
-module _ {I O S : Type 0} (see : Sight I O) (names : List (List ℕ)) where
+module _ {I O S : Type 0} (see : Sight I O) (offer : Offer) where
   -- where a session was served: its realm, and the inbox of that
-  served_at : (realms : List (Shown S)) (before : Stream I O S) (source : I) (back : List (Option (Poster S))) (end : ReadEnd) (written : Written O) → (h : IsServed see names before source back end written) → AreAt (places_of realms) before.posters
+  served_at : (realms : List (Shown S)) (before : Stream I O S) (source : I) (back : List (Option (Poster S))) (end : ReadEnd) (written : Written O) → (h : IsServed see offer before source back end written) → AreAt (places_of realms) before.posters
       → (r : Shown S) × (slice_get realms written.realm ≡ Some r) × (inbox_in r ≡ inbox_of_poster h.poster)
   served_at realms before source back end written h at =
       let r = get_of_map inbox_in realms h.session.realm (inbox_of_poster h.poster) (at h.session.realm h.poster h.named) in
       let same : written.realm ≡ h.session.realm = h.talks.writes.realm ∙ h.talks.begins.in_realm in
       (r.0, ap (slice_get realms) same ∙ r.1, r.2)
 
-  served_back : (places : List (Place S)) (before : Stream I O S) (source : I) (back : List (Option (Poster S))) (end : ReadEnd) (written : Written O) → IsServed see names before source back end written → AreAt places before.posters → AreAt places back
+  served_back : (places : List (Place S)) (before : Stream I O S) (source : I) (back : List (Option (Poster S))) (end : ReadEnd) (written : Written O) → IsServed see offer before source back end written → AreAt places before.posters → AreAt places back
   served_back places before source back end written h at i p e = by_place (get_set_cases before.posters h.session.realm i (Some h.left) (Some p) (ap (λ l. slice_get l i) (sym h.posters_are) ∙ e))
     where
       home : inbox_of_poster h.left ≡ inbox_of_poster h.poster
-      home = back_home (start_of h.session) h.talks.joining (passage (see.given h.opened_source) h.poster) (passage (see.given source) h.left) end h.talks.converses
+      home = back_home see.given see.is_ended see.reads see.read_failures (start_of h.session) h.talks.joining (passage h.opened_source h.poster) (passage source h.left) end h.talks.converses
 
       by_place : ((h.session.realm ≡ i) × (Some h.left ≡ Some p)) ⊎ ((h.session.realm ≢ i) × (slice_get before.posters i ≡ Some (Some p))) → slice_get places i ≡ Some (inbox_of_poster p)
       by_place (inl w) = ap (slice_get places) (sym w.0) ∙ at h.session.realm h.poster h.named ∙ ap Some (sym home ∙ ap inbox_of_poster (same_Some h.left p w.1))
       by_place (inr w) = at i p w.1
 
-  served_of_seat : (number : ℕ) (before : Stream I O S) (source : I) (back : List (Option (Poster S))) (end : ReadEnd) (written : Written O) → IsServed see names before source back end written → AreOfSeat number before.posters → AreOfSeat number back
+  served_of_seat : (number : ℕ) (before : Stream I O S) (source : I) (back : List (Option (Poster S))) (end : ReadEnd) (written : Written O) → IsServed see offer before source back end written → AreOfSeat number before.posters → AreOfSeat number back
   served_of_seat number before source back end written h own i p e = by_place (get_set_cases before.posters h.session.realm i (Some h.left) (Some p) (ap (λ l. slice_get l i) (sym h.posters_are) ∙ e))
     where
       same : poster_conn h.left ≡ poster_conn h.poster
-      same = back_conn (start_of h.session) h.talks.joining (passage (see.given h.opened_source) h.poster) (passage (see.given source) h.left) end h.talks.converses
+      same = back_conn see.given see.is_ended see.reads see.read_failures (start_of h.session) h.talks.joining (passage h.opened_source h.poster) (passage source h.left) end h.talks.converses
 
       by_place : ((h.session.realm ≡ i) × (Some h.left ≡ Some p)) ⊎ ((h.session.realm ≢ i) × (slice_get before.posters i ≡ Some (Some p))) → seat_of (poster_conn p) ≡ number
       by_place (inl w) = ap (λ x. seat_of (poster_conn x)) (sym (same_Some h.left p w.1)) ∙ ap seat_of same ∙ own h.session.realm h.poster h.named
       by_place (inr w) = own i p w.1
 
   -- the posters that a reader gives back stand where they stood
-  pub back_at : (places : List (Place S)) (before : Stream I O S) (source : Closed I) (back : List (Option (Poster S))) (course : Course O) → GoesBy see names before source back course → AreAt places before.posters → AreAt places back
+  pub back_at : (places : List (Place S)) (before : Stream I O S) (source : Closed I) (back : List (Option (Poster S))) (course : Course O) → GoesBy see offer before source back course → AreAt places before.posters → AreAt places back
   back_at places before source back (Untouched sink) h at = subst (λ l. AreAt places l) (sym h.2) at
   back_at places before source back (NotOpened sink fault) h at = subst (λ l. AreAt places l) (sym h.1) at
   back_at places before source back (OpenedAlone sink) h at = subst (λ l. AreAt places l) (sym h.1) at
   back_at places before source back (Served end written) h at = served_back places before source.last.value back end written h at
 
   -- and are of the seat that they were of
-  pub back_of_seat : (number : ℕ) (before : Stream I O S) (source : Closed I) (back : List (Option (Poster S))) (course : Course O) → GoesBy see names before source back course → AreOfSeat number before.posters → AreOfSeat number back
+  pub back_of_seat : (number : ℕ) (before : Stream I O S) (source : Closed I) (back : List (Option (Poster S))) (course : Course O) → GoesBy see offer before source back course → AreOfSeat number before.posters → AreOfSeat number back
   back_of_seat number before source back (Untouched sink) h own = subst (λ l. AreOfSeat number l) (sym h.2) own
   back_of_seat number before source back (NotOpened sink fault) h own = subst (λ l. AreOfSeat number l) (sym h.1) own
   back_of_seat number before source back (OpenedAlone sink) h own = subst (λ l. AreOfSeat number l) (sym h.1) own
   back_of_seat number before source back (Served end written) h own = served_of_seat number before source.last.value back end written h own
 
   -- what its writer saw last is of its realm's chronicle
-  pub seen_at_home : (realms : List (Shown S)) (before : Stream I O S) (source : Closed I) (back : List (Option (Poster S))) (course : Course O) → GoesBy see names before source back course → AreAt (places_of realms) before.posters
+  pub seen_at_home : (realms : List (Shown S)) (before : Stream I O S) (source : Closed I) (back : List (Option (Poster S))) (course : Course O) → GoesBy see offer before source back course → AreAt (places_of realms) before.posters
       → IfSome (seen_of course) (λ (seen : Seen). IsAtHome realms seen)
   seen_at_home realms before source back (Untouched sink) h at = tt
   seen_at_home realms before source back (NotOpened sink fault) h at = tt
@@ -197,7 +197,7 @@ module _ {I O S : Type 0} (see : Sight I O) (names : List (List ℕ)) where
       home_in realms written.realm written.seen r.0 r.1 (subst (λ c. IsOf (λ (k : Kept History) chronicle. k.chronicle ≡ chronicle) written.seen c) home of)
 
   -- and its realm keeps that
-  pub kept_now : (realms after : List (Shown S)) (conn : ℕ) (before : Stream I O S) (source : Closed I) (back : List (Option (Poster S))) (course : Course O) → GoesBy see names before source back course → AreAt (places_of realms) before.posters
+  pub kept_now : (realms after : List (Shown S)) (conn : ℕ) (before : Stream I O S) (source : Closed I) (back : List (Option (Poster S))) (course : Course O) → GoesBy see offer before source back course → AreAt (places_of realms) before.posters
       → AreOf conn before.posters → TakesIn realms (seen_of course) after → CourseKept after conn before.posters course
   kept_now realms after conn before source back (Untouched sink) h at own t = tt
   kept_now realms after conn before source back (NotOpened sink fault) h at own t = tt
@@ -224,6 +224,6 @@ module _ {I O S : Type 0} (see : Sight I O) where
   pub seat_kept : (realms after : List (Shown S)) (overs now : List (Over I O S)) (began : Snapshot (Reader I O S)) (left : Snapshot (Ended I O S)) (ended : Ended I O S) → now ≡ overs ++ over.Seated began left ∷ [] → left.value ≡ ended
       → Reads see began.value ended → AreAt (places_of realms) began.value.posters.items → AreOf began.value.conn began.value.posters.items → TakesIn realms (seen_of ended.course) after → All (λ o. OverKept realms o) overs → All (λ o. OverKept after o) now
   seat_kept realms after overs now began left ended e same reads at own t all =
-      let here = kept_now see (arc_value began.value.plan).realms.items realms after began.value.conn _ ended.source ended.posters.items ended.course reads at own t in
+      let here = kept_now see (offer_of (arc_value began.value.plan)) realms after began.value.conn _ ended.source ended.posters.items ended.course reads at own t in
       one_kept after overs now (over.Seated began left) e (subst (λ (x : Ended I O S). CourseKept after began.value.conn began.value.posters.items x.course) (sym same) here)
       (overs_longer realms after overs (takes_longer realms after (seen_of ended.course) t) all)

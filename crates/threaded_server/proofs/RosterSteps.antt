@@ -6,7 +6,8 @@ use Rattle.std.specs.Option.{ForSome}
 use Rattle.std.specs.declared.snapshot.Snapshot.{Snapshot}
 use Rattle.broker_threads.proofs.Lemmas.{put_back}
 use Rattle.threaded_server.proofs.Balance.{all_none_came_, all_none_in_slots, all_went_, gone_, passed_, seated_}
-use Rattle.broker_threads.specs.Courses.{sink_of}
+use Rattle.broker_threads.specs.Courses.{ends_of, sink_of}
+use Rattle.threaded_server.specs.Lending.{returned}
 use Rattle.threaded_server.specs.Overs.{after_of, before_of}
 use Rattle.threaded_server.specs.Roster.{IsOfPlan, halves_of}
 use Rattle.threaded_server.specs.Slots.{Balances, in_slots}
@@ -68,8 +69,9 @@ module _ {I O S : Type 0} where
   pub seated_before : (began : Snapshot (Reader I O S)) (ended : Snapshot (Ended I O S)) (over : Over I O S) → over ≡ Seated began ended → before_of over ≡ (began.value.source, began.value.sink)
   seated_before began ended over e = ap before_of e
 
-  pub seated_after : (began : Snapshot (Reader I O S)) (shown : Snapshot (Ended I O S)) (ended : Ended I O S) (over : Over I O S) → over ≡ Seated began shown → shown.value ≡ ended → after_of over ≡ (ended.source.last.value, (sink_of ended.course).last.value)
-  seated_after began shown ended over e f = ap after_of e ∙ ap (λ (x : Ended I O S). (x.source.last.value, (sink_of x.course).last.value)) f
+  pub seated_after : (began : Snapshot (Reader I O S)) (shown : Snapshot (Ended I O S)) (ended : Ended I O S) (over : Over I O S) → over ≡ Seated began shown → shown.value ≡ ended
+      → after_of over ≡ returned ended.source.last.value (sink_of ended.course).last.value (ends_of ended.course)
+  seated_after began shown ended over e f = ap after_of e ∙ ap (λ (x : Ended I O S). returned x.source.last.value (sink_of x.course).last.value (ends_of x.course)) f
 
   -- nobody came yet
   pub none_yet : (lent : List (I × O)) (overs : List (Over I O S)) (slots : List (Option (Connection I O S))) → lent ≡ [] → overs ≡ [] → All (λ slot. slot ≡ None) slots → ∥ Balances lent (map before_of overs) (map halves_of (in_slots slots)) ∥₁

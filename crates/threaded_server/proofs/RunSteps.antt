@@ -1,13 +1,13 @@
 -- How the realms ran, and what their histories owe.
-use Rattle.std.proofs.Common.{◌≡◌, ◌<◌, ◌+◌, ℕ, zero, suc, List, [], ◌∷◌, ◌++◌, Option, None, Some, All, IfSome, length, option_map, remove, slice_get, slice_index_or, refl, sym, ap, ◌∙◌, append_assoc, append-nil, arith, subst, true}
-use Rattle.std.specs.Prelude.{⊤, is_some}
+use Rattle.std.proofs.Common.{◌≡◌, ◌<◌, ◌≤◌, ◌+◌, ℕ, zero, suc, List, [], ◌∷◌, ◌++◌, Option, None, Some, All, IfSome, length, option_map, remove, slice_get, slice_index_or, refl, sym, ap, ◌∙◌, append_assoc, append-nil, arith, subst}
+use Rattle.std.specs.Prelude.{⊤}
 use mathlib.Core.List.{IsPrefix}
 use mathlib.Core.Logic.{◌⊎◌, inl, inr}
 use Rattle.std.proofs.lemmas.List.Elements.{All-contains, All-cons, All-head, All-nil, All-pop, All-tail, All-weaker}
 use Rattle.std.proofs.lemmas.Option.{get_or_from_slice_get, none-some, same_Some, slice_get_within}
 use Rattle.chronicle.specs.Recorded.{Reaches, Recorded}
 use Rattle.outbox_queue.proofs.OwedBeginnings.{prefix-on}
-use Rattle.outbox_queue.specs.Ends.{IsVouched, Last, Owes, Taking, TookAll, Vouches, came_with, newest, or_else}
+use Rattle.outbox_queue.specs.Ends.{IsVouched, Last, Owes, Taking, TookWhole, Vouches, came_with, newest, or_else}
 use Rattle.outbox_queue.specs.Tied.{Kept}
 use Rattle.realm.specs.Grants.{Grants, pairs_of}
 use Rattle.realm.specs.History.{History, Begins}
@@ -192,28 +192,27 @@ legal_by w done (Some actor) acts = subst (λ (o : Option History). IsLegal o) (
 legal_of : {S : Type 0} (w : ActorThread S) (done : Acted S) → Acts w done → IsLegal done.chronicle.history
 legal_of w done acts = legal_by w done done.actor acts.course
 
--- what vouches for what was taken begins the history that was made, which owes nothing more
-vouched_by : (own : Option History) (kept : Kept History) (conn : ℕ) (items added : List Item) (finds : ℕ) → Reaches Begins (Some kept.history) own → IsLegal own → items ≡ added → Vouches owed_kept over_kept kept conn added finds → finds ≡ 0
-    → AreAllOwed own conn items
-vouched_by None kept conn items added finds reaches legal all vouches never = absurd reaches
-vouched_by (Some h) kept conn items added finds reaches legal all vouches never = all ∙ vouches.whole never ∙ sym (vouches.over h reaches legal)
+none_or_some : (n : ℕ) → (n ≡ 0) ⊎ (0 < n)
+none_or_some n = search arith
 
-by_last : (own : Option History) (history : Option (Kept History)) (seen : Option (Kept History)) (conn : ℕ) (items added : List Item) (finds : ℕ) → IfSome (or_else history seen) (λ kept. Reaches Begins (Some kept.history) own) → IsLegal own
-    → items ≡ added → IsVouched owed_kept over_kept history conn added finds → is_some history ≡ true → finds ≡ 0 → AreAllOwed own conn items
-by_last own None seen conn items added finds reaches legal all vouched is never = absurd (cc is)
-by_last own (Some kept) seen conn items added finds reaches legal all vouched is never = vouched_by own kept conn items added finds reaches legal all vouched never
+-- what vouches for what was taken begins the history that was made, which owes nothing more
+vouched_by : (own : Option History) (kept : Kept History) (conn capacity : ℕ) (items added : List Item) (finds : ℕ) → Reaches Begins (Some kept.history) own → IsLegal own → items ≡ added → Vouches owed_kept over_kept kept conn added finds
+    → (0 < finds → capacity ≤ length added) → AreAllOwed own conn items ⊎ (capacity ≤ length items)
+vouched_by None kept conn capacity items added finds reaches legal all vouches room = absurd reaches
+vouched_by (Some h) kept conn capacity items added finds reaches legal all vouches room = by_finds (none_or_some finds)
+  where
+    by_finds : (finds ≡ 0) ⊎ (0 < finds) → AreAllOwed (Some h) conn items ⊎ (capacity ≤ length items)
+    by_finds (inl never) = inl (all ∙ vouches.whole never ∙ sym (vouches.over h reaches legal))
+    by_finds (inr found) = inr (subst (λ l. capacity ≤ length l) (sym all) (room found))
 
 all_owed : (own : Option History) (all : List (Kept History)) (o : Option (Kept History)) (drain : Taking Item (Kept History)) → All (λ kept. Reaches Begins (Some kept.history) own) all → IsKeptIn all o → o ≡ newest drain → IsLegal own
-    → TookAll owed_kept over_kept drain → TookAllOwed own drain
+    → TookWhole owed_kept over_kept drain → TookAllOwed own drain
 all_owed own all o drain begins kept is legal took =
-    let new : IfSome (or_else took.last.history drain.seen) (λ k. Reaches Begins (Some k.history) own) =
-    subst (λ (x : Option (Kept History)). IfSome x (λ k. Reaches Begins (Some k.history) own)) (is ∙ ap (λ (l : Option (Last Item (Kept History))). or_else (came_with l) drain.seen) took.came) (reached own all o begins kept) in
-    record {
-      last = took.last;
-      came = took.came;
-      all = took.all;
-      owed = λ vouched never. by_last own took.last.history drain.seen drain.conn drain.taken took.last.added took.last.full_finds new legal took.all took.vouched vouched never;
-    }
+    let last = took.all.last in
+    let came : newest drain ≡ Some took.history = ap (λ (l : Option (Last Item (Kept History))). or_else (came_with l) drain.seen) took.all.came ∙ ap (λ (h : Option (Kept History)). or_else h drain.seen) took.brought in
+    let reaches : Reaches Begins (Some took.history.history) own = subst (λ (x : Option (Kept History)). IfSome x (λ k. Reaches Begins (Some k.history) own)) (is ∙ came) (reached own all o begins kept) in
+    let vouches : Vouches owed_kept over_kept took.history drain.conn last.added last.full_finds = subst (λ (h : Option (Kept History)). IsVouched owed_kept over_kept h drain.conn last.added last.full_finds) took.brought took.all.vouched in
+    vouched_by own took.history drain.conn drain.capacity drain.taken last.added last.full_finds reaches legal took.all.all vouches took.all.room
 
 module _ {O S : Type 0} where
   tied : (realms : List (Shown S)) (runs : List (RealmRun S)) (conn : ℕ) (posters : List (Option (Poster S))) (written : Written O) → EachRuns realms runs → IsKept realms conn posters written → IsTied runs conn posters written

@@ -12,7 +12,7 @@ use Rattle.threaded_server.specs.Lending.{Lending}
 use Rattle.threaded_server.specs.Overs.{AllWent, Books, Moves, Went}
 use Rattle.threaded_server.specs.Posts.{OnlyPosted}
 use Rattle.threaded_server.specs.Served.{LentUntil, Served, came_in}
-use Rattle.broker_threads.specs.Streams.{Sight}
+use Rattle.broker_threads.specs.Streams.{Offer, Sight}
 use Rattle.threaded_server.specs.Ties.{IsRun, OverTied}
 use Rattle.threaded_server.specs.declared.answer.Answer.{Answer}
 use Rattle.threaded_server.specs.declared.answer.Answer.TheVariants.{Came, Failed}
@@ -42,10 +42,10 @@ module _ {I O S : Type 0} where
       one_failed before now paused failures was lending taken had has left h (f ∙ e ∙ came) few (to_same 0 lending joined taken has left pause (from_same 0 lending accepted joined has left same reap))
 
   -- serving is over, and each stream is
-  pub served : (see : Sight I O) (shown names : List (List ℕ)) (had_grants grants : Grants) (runs : List (RealmRun S)) (before now closed : List Answer) (was lending returned : Lending I O) (had has left : Books I O S) (result : Result Unit Fault) → had.lent ≡ [] → had.over ≡ []
-      → LentUntil before now was lending had has result → closed ≡ now → Moves 0 lending returned has left → shown ≡ names → had_grants ≡ grants → ∥ AllWent see shown left.lent left.over ∥₁
-      → All (λ run. IsRun had_grants run) runs → AreApart (conns_of left.over) → ∥ OnlyPosted runs left.over ∥₁ → ∥ All (λ over. OverTied runs over) left.over ∥₁ → ∥ Served S see names grants before closed was returned ∥₁
-  served see shown names had_grants grants runs before now closed was lending returned had has left result none nobody h e m same alike all each_ran apart only tied =
+  pub served : (see : Sight I O) (shown offer : Offer) (had_grants grants : Grants) (runs : List (RealmRun S)) (before now closed : List Answer) (was lending returned : Lending I O) (had has left : Books I O S) (result : Result Unit Fault) → had.lent ≡ [] → had.over ≡ []
+      → LentUntil before now was lending had has result → closed ≡ now → Moves 0 lending returned has left → shown ≡ offer → had_grants ≡ grants → ∥ AllWent see shown left.lent left.over ∥₁
+      → All (λ run. IsRun had_grants run) runs → AreApart (conns_of left.over) → ∥ OnlyPosted runs left.over ∥₁ → ∥ All (λ over. OverTied runs over) left.over ∥₁ → ∥ Served S see offer grants before closed was returned ∥₁
+  served see shown offer had_grants grants runs before now closed was lending returned had has left result none nobody h e m same alike all each_ran apart only tied =
       let whole = moves_on (came_in h.serves.given) 0 was lending returned had has left h.moves m in
       let lent : left.lent ≡ whole.more = whole.lent_here ∙ ap (λ l. l ++ whole.more) none in
       let over : left.over ≡ whole.over = whole.over_here ∙ ap (λ l. l ++ whole.over) nobody in
@@ -59,7 +59,7 @@ module _ {I O S : Type 0} where
         refused_are = whole.refused_more;
         lent_are = whole.lent;
         returned_are = whole.returned;
-        went = subst (λ (l : List (I × O)). AllWent see names l whole.over) lent (subst (λ o. AllWent see names left.lent o) over (subst (λ (n : List (List ℕ)). AllWent see n left.lent left.over) same each));
+        went = subst (λ (l : List (I × O)). AllWent see offer l whole.over) lent (subst (λ o. AllWent see offer left.lent o) over (subst (λ (n : Offer). AllWent see n left.lent left.over) same each));
         runs = runs;
         each_ran = subst (λ (g : Grants). All (λ run. IsRun g run) runs) alike each_ran;
         apart = subst (λ (o : List (Over I O S)). AreApart (conns_of o)) over apart;
@@ -67,8 +67,8 @@ module _ {I O S : Type 0} where
         tied = subst (λ o. ∥ All (λ x. OverTied runs x) o ∥₁) over tied;
       })
 
-  nothing : (see : Sight I O) (names : List (List ℕ)) (grants : Grants) (before : List Answer) (was : Lending I O) → Served S see names grants before before was was
-  nothing see names grants before was = record {
+  nothing : (see : Sight I O) (offer : Offer) (grants : Grants) (before : List Answer) (was : Lending I O) → Served S see offer grants before before was was
+  nothing see offer grants before was = record {
     given = [];
     lent = [];
     streams = [];
@@ -78,7 +78,7 @@ module _ {I O S : Type 0} where
     refused_are = omega arith;
     lent_are = sym (append-nil was.lent);
     returned_are = sym (append-nil was.returned);
-    went = record { each = IsPermutation-refl []; went = All-nil (λ over. ∥ Went see names over ∥₁); found = λ i over at. absurd (none-some over at) };
+    went = record { each = IsPermutation-refl []; went = All-nil (λ over. ∥ Went see offer over ∥₁); found = λ i over at. absurd (none-some over at) };
     runs = [];
     each_ran = All-nil (λ run. IsRun grants run);
     apart = λ i j n at there. absurd (none-some n at);
@@ -87,5 +87,5 @@ module _ {I O S : Type 0} where
   }
 
   -- nothing was accepted
-  pub nothing_served : (see : Sight I O) (names : List (List ℕ)) (grants : Grants) (before : List Answer) (was : Lending I O) → ∥ Served S see names grants before before was was ∥₁
-  nothing_served see names grants before was = ∣ nothing see names grants before was ∣₁
+  pub nothing_served : (see : Sight I O) (offer : Offer) (grants : Grants) (before : List Answer) (was : Lending I O) → ∥ Served S see offer grants before before was was ∥₁
+  nothing_served see offer grants before was = ∣ nothing see offer grants before was ∣₁

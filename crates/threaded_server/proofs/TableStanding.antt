@@ -22,7 +22,7 @@ use Rattle.threaded_server.specs.Posters.{AllGain, AreAt, AreOf, AreOfSeat, IsTa
 use Rattle.threaded_server.specs.Posts.{AllSay, AreIn, Say, posts_at, posts_of}
 use Rattle.threaded_server.specs.Realms.{IsAtHome, Shown, TakesIn, inbox_in, places_of, with_seen}
 use Rattle.threaded_server.specs.Roster.{Leaves}
-use Rattle.broker_threads.specs.Streams.{Reads, Sight}
+use Rattle.broker_threads.specs.Streams.{Reads, Sight, offer_of}
 use Rattle.threaded_server.specs.Ties.{HasGrants, OverKept}
 use Rattle.threaded_server.specs.declared.entry.Connection.{Connection}
 use Rattle.threaded_server.specs.declared.over.Over.{Over}
@@ -196,15 +196,15 @@ module _ {I O S : Type 0} where
 module _ {I O S : Type 0} (see : Sight I O) where
   -- a reader has given back what it should: what its writer saw
   pub reader_left : (realms : List (Shown S)) (reader : Reader I O S) (ended : Ended I O S) → Reads see reader ended → AreAt (places_of realms) reader.posters.items → IfSome (seen_of ended.course) (λ (s : Seen). IsAtHome realms s)
-  reader_left realms reader ended reads at = seen_at_home see (arc_value reader.plan).realms.items realms _ ended.source ended.posters.items ended.course reads at
+  reader_left realms reader ended reads at = seen_at_home see (offer_of (arc_value reader.plan)) realms _ ended.source ended.posters.items ended.course reads at
 
   -- and its posters
   posters_back : (realms after : List (Shown S)) (number : ℕ) (reader : Reader I O S) (ended : Ended I O S) → TakesIn realms (seen_of ended.course) after → Reads see reader ended → AreAt (places_of realms) reader.posters.items → AreOfSeat number reader.posters.items
       → AreAt (places_of after) ended.posters.items × AreOfSeat number ended.posters.items
   posters_back realms after number reader ended t reads at own =
-      let names = (arc_value reader.plan).realms.items in (
-        at_longer realms after ended.posters.items (takes_longer realms after (seen_of ended.course) t) (back_at see names (places_of realms) _ ended.source ended.posters.items ended.course reads at),
-        back_of_seat see names number _ ended.source ended.posters.items ended.course reads own,
+      let offer = offer_of (arc_value reader.plan) in (
+        at_longer realms after ended.posters.items (takes_longer realms after (seen_of ended.course) t) (back_at see offer (places_of realms) _ ended.source ended.posters.items ended.course reads at),
+        back_of_seat see offer number _ ended.source ended.posters.items ended.course reads own,
       )
 
   -- a connection's place, where one leaves it

@@ -5,9 +5,9 @@ use Rattle.std.specs.declared.snapshot.Snapshot.{Snapshot}
 use Rattle.rawsocket.specs.Devices.{GrowsByBeginning}
 use Rattle.rawsocket.specs.Handshakes.{refusing}
 use Rattle.session.specs.Opened.{AreUsedUp}
-use Rattle.broker_threads.specs.Courses.{sink_of}
-use Rattle.threaded_server.specs.Lending.{Lending}
-use Rattle.broker_threads.specs.Streams.{Reads, Sight}
+use Rattle.broker_threads.specs.Courses.{ends_of, sink_of}
+use Rattle.threaded_server.specs.Lending.{Lending, Returned, returned}
+use Rattle.broker_threads.specs.Streams.{Offer, Reads, Sight, offer_of}
 use Rattle.threaded_server.specs.declared.over.Gone.{Gone}
 use Rattle.threaded_server.specs.declared.over.Over.{Over}
 use Rattle.threaded_server.specs.declared.over.Over.TheVariants.{Seated, TurnedAway, Untouched}
@@ -20,16 +20,16 @@ module _ {I O S : Type 0} where
   before_of (Untouched halves) = halves.value
 
   -- and as they were let go of
-  abbrev pub after_of : Over I O S → I × O
-  after_of (Seated reader ended) = (ended.value.source.last.value, (sink_of ended.value.course).last.value)
-  after_of (TurnedAway halves source sink) = (source.value, sink.value)
-  after_of (Untouched halves) = halves.value
+  abbrev pub after_of : Over I O S → Returned I O
+  after_of (Seated reader ended) = returned ended.value.source.last.value (sink_of ended.value.course).last.value (ends_of ended.value.course)
+  after_of (TurnedAway halves source sink) = returned source.value sink.value None
+  after_of (Untouched halves) = returned halves.value.0 halves.value.1 None
 
   -- one stream more is over, of which this is left
-  pub record Adds (before now : List (Over I O S)) (halves : I × O) : Type 0 where
+  pub record Adds (before now : List (Over I O S)) (back : Returned I O) : Type 0 where
     pub over : Over I O S
     pub added : now ≡ before ++ over ∷ []
-    pub after : after_of over ≡ halves
+    pub after : after_of over ≡ back
 
   -- one is, from which nothing was read, and to which nothing was written
   pub record AddsUntouched (before now : List (Over I O S)) (halves : I × O) : Type 0 where
@@ -40,7 +40,7 @@ module _ {I O S : Type 0} where
   -- none is, or one more
   abbrev pub GoesOver : List (Over I O S) → List (Over I O S) → Option (Gone I O) → Type 0
   GoesOver before now None = now ≡ before
-  GoesOver before now (Some gone) = Adds before now (gone.source.last.value, gone.sink.last.value)
+  GoesOver before now (Some gone) = Adds before now (returned gone.source.last.value gone.sink.last.value gone.ends)
 
 -- what a broker knows of its streams: the halves of all that it was lent, in their order, and what became of those that are over, in the order of that
 pub record Books (I O S : Type 0) : Type 0 where
@@ -88,10 +88,10 @@ module _ {I O S : Type 0} where
   abbrev pub AllFound : List (I × O) → List (Over I O S) → Type 0
   AllFound lent streams = (i : ℕ) (over : Over I O S) → slice_get streams i ≡ Some over → Found lent i over
 
-module _ {I O S : Type 0} (see : Sight I O) (names : List (List ℕ)) where
+module _ {I O S : Type 0} (see : Sight I O) (offer : Offer) where
   -- a stream that had a seat went by what its reader gives back, which serves these realms
   abbrev pub Went : Over I O S → Type 0
-  Went (Seated reader ended) = ((arc_value reader.value.plan).realms.items ≡ names) × Reads see reader.value ended.value
+  Went (Seated reader ended) = (offer_of (arc_value reader.value.plan) ≡ offer) × Reads see reader.value ended.value
   Went (TurnedAway halves source sink) = IsTurnedAway see halves.value (source.value, sink.value)
   Went (Untouched halves) = ⊤
 

@@ -6,7 +6,7 @@ use Rattle.threaded_server.specs.Conns.{AreApart, conns_of}
 use Rattle.threaded_server.specs.Lending.{Lending}
 use Rattle.threaded_server.specs.Overs.{AllWent, Books, Moves, after_of}
 use Rattle.threaded_server.specs.Posts.{OnlyPosted}
-use Rattle.broker_threads.specs.Streams.{Sight}
+use Rattle.broker_threads.specs.Streams.{Offer, Sight}
 use Rattle.threaded_server.specs.Ties.{IsRun, OverTied}
 use Rattle.threaded_server.specs.declared.answer.Answer.{Answer}
 use Rattle.threaded_server.specs.declared.answer.Answer.TheVariants.{Came, Stopped, Failed}
@@ -30,8 +30,8 @@ module _ {I O S : Type 0} where
 -- Between two states of an acceptor: each stream that came was lent, or couldn't be taken apart; each that was lent was let go of and came back, as its reader left it, or it was told
 -- that no seat is free, while none was, or nothing was read or written; and what came back is these, in the order of that. No two connections had one number. Each realm that served a session ran, from an empty history with these
 -- grants on; what it received of a seat begins what the streams posted there; and what the writer of a session took begins what the one history of the realm that its HELLO names
--- owes its connection
-pub record Served {I O : Type 0} (S : Type 0) (see : Sight I O) (names : List (List ℕ)) (grants : Grants) (before now : List Answer) (was lending : Lending I O) : Type 0 where
+-- owes its connection, and is all of that where it stopped, unless it took as many items as an outbox holds
+pub record Served {I O : Type 0} (S : Type 0) (see : Sight I O) (offer : Offer) (grants : Grants) (before now : List Answer) (was lending : Lending I O) : Type 0 where
   pub given : List Answer
   pub lent : List (I × O)
   pub streams : List (Over I O S)
@@ -41,7 +41,7 @@ pub record Served {I O : Type 0} (S : Type 0) (see : Sight I O) (names : List (L
   pub refused_are : lending.refused ≡ was.refused + refused
   pub lent_are : lending.lent ≡ was.lent ++ lent
   pub returned_are : lending.returned ≡ was.returned ++ map after_of streams
-  pub went : AllWent see names lent streams
+  pub went : AllWent see offer lent streams
   pub runs : List (RealmRun S)
   pub each_ran : All (λ run. IsRun grants run) runs
   pub apart : AreApart (conns_of streams)

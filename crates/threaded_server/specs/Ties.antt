@@ -1,7 +1,7 @@
 -- What a session was written, and the history of its realm.
-use Rattle.std.specs.Prelude.{◌≡◌, ⊤, ℕ, true, List, Option, None, Some, Contains, is_some, slice_get}
+use Rattle.std.specs.Prelude.{◌≡◌, ◌⊎◌, ◌≤◌, ⊤, ℕ, List, Option, None, Some, Contains, length, slice_get}
 use Rattle.connection.specs.declared.writer.WriteEnd.TheVariants.{Stopped}
-use Rattle.outbox_queue.specs.Ends.{Last, Owes, Taking, TookAll, newest}
+use Rattle.outbox_queue.specs.Ends.{Owes, Taking, TookWhole, newest}
 use Rattle.outbox_queue.specs.Tied.{Kept}
 use Rattle.realm.specs.Grants.{Grants, pairs_of}
 use Rattle.realm.specs.History.{History}
@@ -30,13 +30,9 @@ abbrev pub AreAllOwed : Option History → ℕ → List Item → Type 0
 AreAllOwed None conn items = ⊥
 AreAllOwed (Some h) conn items = items ≡ owed h conn
 
--- the other end of the outbox came over, and all that was added there was taken. Where the actor vouched for it, as it does for each session that it lets go of, and never found the
--- outbox full, that is all that the history owes
-pub record TookAllOwed (history : Option History) (drain : Taking Item (Kept History)) : Type 0 where
-  pub last : Last Item (Kept History)
-  pub came : drain.last ≡ Some last
-  pub all : drain.taken ≡ last.added
-  pub owed : is_some last.history ≡ true → last.full_finds ≡ 0 → AreAllOwed history drain.conn drain.taken
+-- all that the history, which there is, owes the connection was taken; or as many items as the outbox holds, or more, where a step found that full
+abbrev pub TookAllOwed : Option History → Taking Item (Kept History) → Type 0
+TookAllOwed history drain = AreAllOwed history drain.conn drain.taken ⊎ (drain.capacity ≤ length drain.taken)
 
 module _ {O S : Type 0} where
   -- a connection's session was served by the poster of its realm's inbox, and its realm keeps what its writer saw last, which owes the connection what was taken
@@ -49,11 +45,11 @@ module _ {O S : Type 0} where
     pub own : written.drain.value.conn ≡ conn
     pub owes : Owes owed_kept written.seen written.drain.value.conn written.drain.value.taken
     pub newest_is : written.seen ≡ newest written.drain.value
-    pub whole : written.end ≡ Stopped → TookAll owed_kept over_kept written.drain.value
+    pub whole : written.end ≡ Stopped → TookWhole owed_kept over_kept written.drain.value
     pub kept : IsKeptIn realm.seen written.seen
 
   -- a connection's session was served by the poster of its realm's inbox, on which its realm's actor ran; and what its writer took begins what the history that this actor
-  -- made owes the connection. Where the writer stopped it is all of that
+  -- made owes the connection. Where the writer stopped it is all of that, unless the outbox was found full
   pub record IsTied (runs : List (RealmRun S)) (conn : ℕ) (posters : List (Option (Poster S))) (written : Written O) : Type 0 where
     pub run : RealmRun S
     pub at : slice_get runs written.realm ≡ Some run

@@ -1,9 +1,9 @@
 //! The streams that an acceptor gives away.
 ghost use Rattle.std.specs.Prelude.{◌≡◌, [], ◌∷◌, ◌++◌};
-ghost use Rattle.threaded_server.specs.Lending.{lending_of, none_lent, with_lent, with_refused, with_returned};
+ghost use Rattle.threaded_server.specs.Lending.{lending_of, none_lent, returned, with_lent, with_refused, with_returned};
 
 use crate::acceptor::Parts;
-use broker_threads::Closed;
+use broker_threads::{Closed, SessionEnds};
 use ghost_state::{GhostCount, GhostList};
 use std::snapshot::Snapshot;
 
@@ -11,7 +11,7 @@ use std::snapshot::Snapshot;
 #[derive(Drop)]
 pub struct Account<I, O> {
     lent: GhostList<(I, O)>,
-    returned: GhostList<(Snapshot<I>, Snapshot<O>)>,
+    returned: GhostList<(Snapshot<I>, Snapshot<O>, Option<SessionEnds>)>,
     refused: GhostCount,
 }
 
@@ -47,12 +47,12 @@ impl<I: Drop, O: Drop> Account<I, O> {
         self.refused.tick();
     }
 
-    /// Both halves of a stream were let go of.
-    pub fn take_back(&mut self, source: Closed<I>, sink: Closed<O>)
-        ensures { lending_of self.new
-            ≡ with_returned (lending_of self.old) (source.last.value, sink.last.value) }
+    /// Both halves of a stream were let go of, and the threads of its session ended so, if one was served.
+    pub fn take_back(&mut self, source: Closed<I>, sink: Closed<O>, ends: Option<SessionEnds>)
+        ensures { lending_of self.new ≡ with_returned (lending_of self.old)
+            (returned source.last.value sink.last.value ends) }
     {
-        let halves = (source.into_last(), sink.into_last());
-        self.returned.add(Snapshot::of(&halves));
+        let back = (source.into_last(), sink.into_last(), ends);
+        self.returned.add(Snapshot::of(&back));
     }
 }

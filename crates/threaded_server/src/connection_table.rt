@@ -9,13 +9,13 @@ ghost use Rattle.realm.specs.body.HistoryCode.{history_code};
 ghost use Rattle.std.specs.Arc.{arc_value};
 ghost use Rattle.realm_inbox.specs.EndViews.{AreNewSeats, inbox_of, posted};
 ghost use Rattle.threaded_server.specs.Conns.{AreApart, Numbered, conns_of};
-ghost use Rattle.broker_threads.specs.Courses.{seen_of, sink_of};
+ghost use Rattle.broker_threads.specs.Courses.{ends_of, seen_of, sink_of};
 ghost use Rattle.threaded_server.specs.Overs.{AllWent, GoesOver, TellsRefusal};
 ghost use Rattle.threaded_server.specs.Posters.{Stand, lists_at, lists_of};
 ghost use Rattle.threaded_server.specs.Posts.{AllSay, OnlyPosted, posts_at};
 ghost use Rattle.threaded_server.specs.Realms.{IsAtHome, TakesIn, places_of, realms_of, shown};
 ghost use Rattle.threaded_server.specs.Seating.{AreSeated};
-ghost use Rattle.broker_threads.specs.Streams.{sight};
+ghost use Rattle.broker_threads.specs.Streams.{offer_of, sight};
 ghost use Rattle.threaded_server.specs.Table.{IsUnused};
 ghost use Rattle.threaded_server.specs.TrailCode.{trail_code};
 ghost use Rattle.threaded_server.specs.Ties.{HasGrants, IsRun, OverKept, OverTied};
@@ -199,7 +199,7 @@ impl<
             (items_of self.roster.over.streams) ∥₁ }
         ensures went { ∥ AllWent
             (sight I.given I.is_ended I.calls I.failures O.taken O.calls O.failures)
-            self.roster.over.plan.value.realms.items (items_of self.roster.lent)
+            (offer_of self.roster.over.plan.value) (items_of self.roster.lent)
             (items_of self.roster.over.streams) ∥₁ }
     {
         let ConnectionTable {
@@ -303,6 +303,7 @@ impl<
         Gone {
             source: Closed::of(source),
             sink: Closed::of(sink),
+            ends: None,
         }
     }
 }
@@ -327,6 +328,7 @@ fn take_in<
         ≡ set (lists_of posters.old) place (Some ended.posters.items) }
     ensures source { result.0.source ≡ ended.source }
     ensures sink { result.0.sink ≡ sink_of ended.course }
+    ensures ends { result.0.ends ≡ ends_of ended.course }
 {
     let Ended {
         source,
@@ -334,10 +336,11 @@ fn take_in<
         course,
         reason,
     } = ended;
+    let ends = course.ends();
     let (sink, seen) = course.into_parts();
     realms.take_in(rt, seen);
     posters.put(place, back);
-    (Gone { source, sink }, reason)
+    (Gone { source, sink, ends }, reason)
 }
 
 // A connection's seat is free again, whose posters are back.

@@ -37,6 +37,7 @@ pub use acceptor::{Accepted, Acceptor, Parts};
 pub use account::Account;
 pub use answer::Answer;
 pub use broker_config::{Config, Fault, Ids, copy_grants};
-pub use broker_threads::{Closed, Log, LogEnd};
+pub use broker_threads::{Closed, Log, LogEnd, SessionEnds};
+pub use connection::{ReadEnd, WriteEnd};
 pub use serve::{serve_logged, serve_on};
 pub use tcp::{TcpAcceptor, TcpHandle};

@@ -2,7 +2,7 @@
 ghost use Rattle.std.specs.Prelude.{◌≡◌, [], ◌∷◌, ◌++◌, All};
 ghost use Rattle.ghost_state.specs.GhostList.{items_of};
 ghost use Rattle.threaded_server.specs.Overs.{Went};
-ghost use Rattle.broker_threads.specs.Streams.{sight};
+ghost use Rattle.broker_threads.specs.Streams.{offer_of, sight};
 
 use crate::over::Over;
 use broker_threads::Plan;
@@ -16,7 +16,7 @@ use std::snapshot::Snapshot;
 pub struct Overs<I: Source, O: Sink, S: Shut> {
     plan: Snapshot<Plan>,
     streams: GhostList<Over<I, O, S>>,
-    ghost went: { All (λ it. ∥ Went (sight I.given I.is_ended I.calls I.failures O.taken O.calls O.failures) plan.value.realms.items it ∥₁) (items_of streams) },
+    ghost went: { All (λ it. ∥ Went (sight I.given I.is_ended I.calls I.failures O.taken O.calls O.failures) (offer_of plan.value) it ∥₁) (items_of streams) },
 }
 
 impl<I: Source, O: Sink, S: Shut> Overs<I, O, S> {
@@ -34,7 +34,7 @@ impl<I: Source, O: Sink, S: Shut> Overs<I, O, S> {
     /// One more is over.
     pub fn add(&mut self, over: Snapshot<Over<I, O, S>>)
         requires { Went (sight I.given I.is_ended I.calls I.failures O.taken O.calls O.failures)
-            self.old.plan.value.realms.items over.value }
+            (offer_of self.old.plan.value) over.value }
         ensures plan { self.new.plan ≡ self.old.plan }
         ensures streams { items_of self.new.streams ≡ items_of self.old.streams ++ over.value ∷ [] }
     {
@@ -45,7 +45,7 @@ impl<I: Source, O: Sink, S: Shut> Overs<I, O, S> {
     pub fn shows(&self)
         ensures { All (λ it. ∥ Went
             (sight I.given I.is_ended I.calls I.failures O.taken O.calls O.failures)
-            self.now.plan.value.realms.items it ∥₁) (items_of self.now.streams) }
+            (offer_of self.now.plan.value) it ∥₁) (items_of self.now.streams) }
     {
         let _ = &self.streams;
     }

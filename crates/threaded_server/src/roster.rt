@@ -5,7 +5,7 @@ ghost use Rattle.ghost_state.specs.GhostList.{items_of};
 ghost use Rattle.threaded_server.specs.Overs.{AddsUntouched, AllFound, AllWent, Found, Went, after_of, before_of};
 ghost use Rattle.threaded_server.specs.Roster.{IsOfPlan, Leaves, halves_of};
 ghost use Rattle.threaded_server.specs.Slots.{Balances, in_slots};
-ghost use Rattle.broker_threads.specs.Streams.{Sight, sight};
+ghost use Rattle.broker_threads.specs.Streams.{Sight, offer_of, sight};
 
 use crate::entry::Connection;
 use crate::over::{Gone, Over};
@@ -96,7 +96,7 @@ impl<
         requires halves { halves.value ≡ before_of over.value }
         requires went { Went
             (sight I.given I.is_ended I.calls I.failures O.taken O.calls O.failures)
-            self.old.over.plan.value.realms.items over.value }
+            (offer_of self.old.over.plan.value) over.value }
         requires found { Found (items_of self.old.lent ++ halves.value ∷ [])
             (length (items_of self.old.over.streams)) over.value }
         ensures plan { self.new.over.plan ≡ self.old.over.plan }
@@ -118,6 +118,7 @@ impl<
         ensures entries { self.new.entries ≡ self.old.entries }
         ensures source { result.source.last.value ≡ halves.0 }
         ensures sink { result.sink.last.value ≡ halves.1 }
+        ensures ends { result.ends ≡ None }
     {
         let over = Over::Untouched(Snapshot::of(&halves));
         self.pass(Snapshot::of(&halves), Snapshot::of(&over));
@@ -125,6 +126,7 @@ impl<
         Gone {
             source: Closed::of(source),
             sink: Closed::of(sink),
+            ends: None,
         }
     }
 
@@ -165,7 +167,7 @@ impl<
     pub fn shows_all_over(&self)
         requires { All (λ slot. slot ≡ None) self.now.entries.items }
         ensures { ∥ AllWent (sight I.given I.is_ended I.calls I.failures O.taken O.calls O.failures)
-            self.now.over.plan.value.realms.items (items_of self.now.lent)
+            (offer_of self.now.over.plan.value) (items_of self.now.lent)
             (items_of self.now.over.streams) ∥₁ }
     {
         self.over.shows();

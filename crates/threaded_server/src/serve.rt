@@ -3,11 +3,11 @@ ghost use Rattle.std.specs.Prelude.{◌≡◌, ◌≤◌, ◌<◌, ◌+◌, [], 
 ghost use Rattle.ghost_state.specs.GhostList.{items_of};
 ghost use Rattle.realm.specs.Grants.{pairs_of};
 ghost use Rattle.threaded_server.specs.Answers.{Serves};
-ghost use Rattle.threaded_server.specs.Lending.{with_returned};
+ghost use Rattle.threaded_server.specs.Lending.{returned, with_returned};
 ghost use Rattle.threaded_server.specs.Overs.{GoesOver, Moves};
 ghost use Rattle.threaded_server.specs.Realms.{realms_of};
 ghost use Rattle.threaded_server.specs.Served.{LentUntil, Served};
-ghost use Rattle.broker_threads.specs.Streams.{sight};
+ghost use Rattle.broker_threads.specs.Streams.{offer, sight};
 ghost use Rattle.threaded_server.specs.Table.{IsUnused, books};
 ghost use Rattle.broker_threads.specs.declared.fate.Marked.{Marked};
 
@@ -64,8 +64,9 @@ pub fn serve_on<R: Threads + Wait + RandomSource + Copy + Send + 'static, A: Acc
     ensures streams { ∥ Served (Marked A.Shut)
         (sight A.Source.given A.Source.is_ended A.Source.calls A.Source.failures A.Sink.taken
         A.Sink.calls A.Sink.failures)
-        config.now.realms.items (pairs_of config.now.grants.items) (A.answers acceptor.old)
-        (A.answers acceptor.new) (A.lending acceptor.old) (A.lending acceptor.new) ∥₁ }
+        (offer config.now.realms.items config.now.outbox) (pairs_of config.now.grants.items)
+        (A.answers acceptor.old) (A.answers acceptor.new) (A.lending acceptor.old)
+        (A.lending acceptor.new) ∥₁ }
 {
     serve_logged(rt, alloc, acceptor, config, None)
 }
@@ -88,8 +89,9 @@ pub fn serve_logged<R: Threads + Wait + RandomSource + Copy + Send + 'static, A:
     ensures streams { ∥ Served (Marked A.Shut)
         (sight A.Source.given A.Source.is_ended A.Source.calls A.Source.failures A.Sink.taken
         A.Sink.calls A.Sink.failures)
-        config.now.realms.items (pairs_of config.now.grants.items) (A.answers acceptor.old)
-        (A.answers acceptor.new) (A.lending acceptor.old) (A.lending acceptor.new) ∥₁ }
+        (offer config.now.realms.items config.now.outbox) (pairs_of config.now.grants.items)
+        (A.answers acceptor.old) (A.answers acceptor.new) (A.lending acceptor.old)
+        (A.lending acceptor.new) ∥₁ }
 {
     let plan = plan_of(alloc, config, log)?;
     let mut connection_table = ConnectionTable::new(alloc, plan)?;
@@ -276,10 +278,10 @@ fn take_back<A: Acceptor>(acceptor: &mut A, gone: Option<Gone<A::Source, A::Sink
     ensures answers { A.answers acceptor.new ≡ A.answers acceptor.old }
     ensures lending { MatchOption gone (A.lending acceptor.new ≡ A.lending acceptor.old)
         (λ gone. A.lending acceptor.new ≡ with_returned (A.lending acceptor.old)
-        (gone.source.last.value, gone.sink.last.value)) }
+        (returned gone.source.last.value gone.sink.last.value gone.ends)) }
 {
-    if let Some(Gone { source, sink }) = gone {
-        acceptor.take_back(source, sink);
+    if let Some(Gone { source, sink, ends }) = gone {
+        acceptor.take_back(source, sink, ends);
     }
 }
 

@@ -4,7 +4,7 @@ ghost use Rattle.std.specs.Prelude.{◌≡◌, ◌++◌, ◌∷◌, []};
 use crate::acceptor::{Accepted, Acceptor, Parts};
 use crate::account::Account;
 use crate::answer::Answer;
-use broker_threads::Closed;
+use broker_threads::{Closed, SessionEnds};
 use rawsocket::devices::{ReadSource, WriteSink};
 use realm_inbox::{GhostList, Shut};
 use std::alloc::{AllocError, Global};
@@ -113,7 +113,7 @@ fn parts_of(
 
 impl<R: Clock + Drop> Acceptor for TcpAcceptor<R> {
     ghost use Rattle.ghost_state.specs.GhostList.{items_of};
-    ghost use Rattle.threaded_server.specs.Lending.{lending_of, with_returned};
+    ghost use Rattle.threaded_server.specs.Lending.{lending_of, returned, with_returned};
 
     ghost answers = { λ a. items_of a.answers };
 
@@ -159,12 +159,13 @@ impl<R: Clock + Drop> Acceptor for TcpAcceptor<R> {
         &mut self,
         source: Closed<ReadSource<TcpHandle>>,
         sink: Closed<WriteSink<TcpHandle>>,
+        ends: Option<SessionEnds>,
     )
         ensures answers { items_of self.new.answers ≡ items_of self.old.answers }
-        ensures lending { lending_of self.new.account
-            ≡ with_returned (lending_of self.old.account) (source.last.value, sink.last.value) }
+        ensures lending { lending_of self.new.account ≡ with_returned (lending_of self.old.account)
+            (returned source.last.value sink.last.value ends) }
     {
-        self.account.take_back(source, sink);
+        self.account.take_back(source, sink, ends);
     }
 
     fn peer(&self, alloc: Global, stream: &TcpStream) -> Option<String> {

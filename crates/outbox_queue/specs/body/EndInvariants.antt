@@ -1,5 +1,5 @@
 -- What always holds of the two ends.
-use Rattle.std.specs.Prelude.{◌≡◌, ◌<◌, ℕ, true, Option, None, Some, List, [], length}
+use Rattle.std.specs.Prelude.{◌≡◌, ◌<◌, ◌≤◌, ℕ, true, Option, None, Some, List, [], length}
 use mathlib.Core.List.{IsPrefix}
 use Rattle.std.specs.Arc.{arc_value}
 use Rattle.atomic_table.specs.Seated.{TableId}
@@ -14,12 +14,14 @@ use Rattle.outbox_queue.specs.body.Vouching.{VouchesFor}
 
 module _ {T H : Type 0} (owed : H → ℕ → List T) (belongs : H → TableId → Type 0) where
   -- the adding end has a pass of its queue that adds alone; what was added begins what its history, which is of the chronicle,
-  -- owes the connection, and where nothing was added there is no history, and no step found the queue full; the connection and the count are those of the pass
+  -- owes the connection, and where nothing was added there is no history, and no step found the queue full; where one did, as many items were added as it holds, or more;
+  -- the connection and the count are those of the pass
   pub record IsAdding (e : Producer T H) : Type 0 where
     pub is_pass : IsPassOf (arc_value e.queue) e.place.pass
     pub adds : view e.place.pass ≡ adding (view e.place.pass).conn (view e.place.pass).chronicle (view e.place.pass).history (view e.place.pass).added
     pub capacity : 0 < ruled_capacity (arc_value e.queue)
     pub nothing_yet : (view e.place.pass).added ≡ [] → (e.place.finds ≡ 0) × ((view e.place.pass).history ≡ None)
+    pub room : 0 < e.place.finds → ruled_capacity (arc_value e.queue) ≤ length (view e.place.pass).added
     pub owes : Owes owed (view e.place.pass).history (view e.place.pass).conn (view e.place.pass).added
     pub is_of : IsOf belongs (view e.place.pass).history (view e.place.pass).chronicle
     pub conn : e.conn ≡ (view e.place.pass).conn
@@ -31,15 +33,17 @@ last_of None added = None
 last_of (Some came) added = Some (record { history = came.history; added = added; full_finds = came.finds.count })
 
 module _ {T H : Type 0} (owed : H → ℕ → List T) (is_over : H → ℕ → Type 0) (belongs : H → TableId → Type 0) where
-  -- the other end came over: its pass is one with this one's; what was taken begins what was added, and the history that came, if one did, vouches for that
-  pub record CameOver (v : View T H) (came : Came H) : Type 0 where
+  -- the other end came over: its pass is one with this one's; what was taken begins what was added, and the history that came, if one did, vouches for that;
+  -- where a step found the queue full, as many items were added as it holds, or more
+  pub record CameOver (capacity : ℕ) (v : View T H) (came : Came H) : Type 0 where
     pub adds : v.adds ≡ true
     pub begins : IsPrefix v.taken v.added
     pub vouches : VouchesFor owed is_over belongs came.history v.conn v.chronicle v.added came.finds.count
+    pub room : 0 < came.finds.count → capacity ≤ length v.added
 
-  abbrev pub MayHaveCome : View T H → Option (Came H) → Type 0
-  MayHaveCome v None = Unit {0}
-  MayHaveCome v (Some came) = CameOver v came
+  abbrev pub MayHaveCome : ℕ → View T H → Option (Came H) → Type 0
+  MayHaveCome capacity v None = Unit {0}
+  MayHaveCome capacity v (Some came) = CameOver capacity v came
 
   -- the taking end has a pass of its queue that takes; what was taken begins what the history seen, which is of the chronicle,
   -- owes the connection, which is that of the pass
@@ -50,4 +54,4 @@ module _ {T H : Type 0} (owed : H → ℕ → List T) (is_over : H → ℕ → T
     pub owes : Owes owed (view e.place.pass).seen (view e.place.pass).conn (view e.place.pass).taken
     pub is_of : IsOf belongs (view e.place.pass).seen (view e.place.pass).chronicle
     pub conn : e.conn ≡ (view e.place.pass).conn
-    pub last : MayHaveCome (view e.place.pass) e.came
+    pub last : MayHaveCome (ruled_capacity (arc_value e.queue)) (view e.place.pass) e.came

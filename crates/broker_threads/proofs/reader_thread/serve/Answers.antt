@@ -1,11 +1,12 @@
 use Rattle.session.specs.Opened.{session as session_of}
-use Rattle.broker_threads.specs.Streams.{sight, stream}
+use Rattle.std.specs.Arc.{arc_value}
+use Rattle.broker_threads.specs.Streams.{offer, sight, stream}
 use Rattle.broker_threads.proofs.StreamEnds.{talked}
 use Rattle.broker_threads.proofs.reader_thread.serve.Goals as goal
 
 pub returns : goal.returns
 returns g c =
     let see = sight g.I.Source.given g.I.Source.is_ended g.I.Source.calls g.I.Source.failures g.O.Sink.taken g.O.Sink.calls g.O.Sink.failures in
-    talked see c.args.realms.now (stream c.args.source c.args.sink c.args.posters.items) (session_of c.in-Ok.opened) c.open_session.new.source c.talk-talked.new.source c.open_session.new.sink c.in-Some.poster
+    talked see (offer c.args.realms.now (arc_value c.args.broker.plan.now).outbox) (stream c.args.source c.args.sink c.args.posters.items) (session_of c.in-Ok.opened) c.open_session.new.source c.talk-talked.new.source c.open_session.new.sink c.in-Some.poster
     c.talk-talked.result.poster c.of-2.result c.talk-talked.result.course c.take_poster.new.posters.items c.put_poster.new.posters.items c.in-Ok.ensures.opened c.in-Some.ensures.taken.0 c.in-Some.ensures.taken.1 c.put_poster.ensures c.of-2.ensures
     c.talk-talked.ensures

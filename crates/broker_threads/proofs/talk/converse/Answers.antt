@@ -5,5 +5,6 @@ use Rattle.broker_threads.proofs.talk.converse.Goals as goal
 
 pub returns : goal.returns
 returns g c =
-    posted_behind (start_of (session_of c.args.made.opened)) c.args.made.joining (g.I.Source.given c.args.source.now) (g.I.Source.given c.read_posts-read.new.source) c.args.poster c.post.new.self
-    c.read_posts-read.new.poster.poster.poster.poster c.read_posts-read.result c.in_default.ensures.posted c.in_default.ensures.same c.read_posts-read.ensures.posted
+    let i = g.I.Source in
+    posted_behind i.given i.is_ended i.calls i.failures (start_of (session_of c.args.made.opened)) c.args.made.joining c.args.source.now c.read_posts-read.new.source c.args.poster c.post.new.self
+    c.read_posts-read.new.poster.poster.poster.poster c.read_posts-read.result c.in_default.ensures.posted c.in_default.ensures.same c.read_posts-read.ensures.posted c.read_posts-read.ensures.ended c.read_posts-read.ensures.reads

@@ -1,5 +1,6 @@
 use Rattle.std.proofs.Common.{ap, ◌∙◌}
 use Rattle.ghost_state.specs.GhostList.{items_of}
+use Rattle.broker_threads.specs.Streams.{offer, offer_of}
 use Rattle.realm.specs.Grants.{pairs_of}
 use Rattle.threaded_server.proofs.ServeSteps.{nothing_served, served}
 use Rattle.threaded_server.proofs.serve.serve_logged.Goals as goal
@@ -8,10 +9,12 @@ pub returns-clause-streams : goal.returns-clause-streams
 returns-clause-streams g c =
     let made = c.in_ok-connection_table.ensures in
     let still = c.close.ensures.plan ∙ c.open_and_accept-served.ensures.plan in
-    let names = ap (λ p. p.value.realms.items) still ∙ ap (λ p. p.realms.items) made.plan ∙ c.in_ok-plan.ensures.realms in
+    let plan = c.in_ok-plan.plan in
+    let room = plan.room ∙ ap (λ k. k.outbox) c.in_ok-plan.ensures.config in
+    let same = ap (λ p. offer_of p.value) still ∙ ap offer_of made.plan ∙ (λ i. offer (c.in_ok-plan.ensures.realms i) (room i)) in
     let grants = ap (λ p. pairs_of p.value.config.value.grants.items) still ∙ ap (λ p. pairs_of p.config.value.grants.items) made.plan ∙ ap (λ k. pairs_of k.grants.items) c.in_ok-plan.ensures.config in
     let ends = c.finish.ensures in
-    served _ _ _ _ _ (items_of c.finish.result) _ _ _ _ _ _ _ _ _ _ made.lent made.unused.nothing c.open_and_accept-served.ensures.lent c.close.ensures.answers c.close.ensures.moves names grants ends.went ends.runs ends.apart ends.only_posted ends.tied
+    served _ _ _ _ _ (items_of c.finish.result) _ _ _ _ _ _ _ _ _ _ made.lent made.unused.nothing c.open_and_accept-served.ensures.lent c.close.ensures.answers c.close.ensures.moves same grants ends.went ends.runs ends.apart ends.only_posted ends.tied
 
 pub returns-in_err-plan-clause-streams : goal.returns-in_err-plan-clause-streams
 returns-in_err-plan-clause-streams g c = nothing_served _ _ _ _ _

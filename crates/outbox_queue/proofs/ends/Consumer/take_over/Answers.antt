@@ -1,6 +1,7 @@
-use Rattle.std.proofs.Common.{◌≡◌, ℕ, List, ap, ◌∙◌, sym, subst, refl}
+use Rattle.std.proofs.Common.{◌≡◌, ◌≤◌, ◌<◌, ℕ, List, length, ap, ◌∙◌, sym, subst, refl}
 use Rattle.std.specs.Prelude.{Option, Some}
-use Rattle.crossbeam_queue.specs.Passes.{view}
+use Rattle.std.specs.Arc.{arc_value}
+use Rattle.crossbeam_queue.specs.Passes.{view, ruled_capacity}
 use Rattle.outbox_queue.specs.Ends.{IsOf, IsVouched, Owes}
 use Rattle.outbox_queue.specs.declared.ends.Came.{Came}
 use Rattle.outbox_queue.specs.body.EndInvariants.{CameOver}
@@ -39,7 +40,10 @@ invariant_of-self g c =
     let belongs : IsOf o.is_of came.history from.chronicle = subst (λ (h : Option g.row.H.Denot). IsOf o.is_of h from.chronicle) (sym same.history) same.chronicle in
     let W : View g.row.T.Denot g.row.H.Denot → Type 0 = λ u. (waiting : List (Note g.row.T.Denot g.row.H.Denot)) × Waiting o.begins u waiting in
     let waits : W all = subst W (sym c.absorb.ensures.rule ∙ knows) c.absorb.ensures.fact in
-    let over = comes o.owed o.is_over o.is_of o.begins t from.conn from.chronicle end.history end.added came waits.0 own home vouched belongs waits.1 in
+    let here = ruled_capacity (arc_value c.self.inside.queue) in
+    let holds : end.capacity ≡ here = ap (λ e. e.capacity) same.end ∙ ap (λ w. w.capacity) c.requires.whose ∙ sym (ap (λ a. a.capacity) vi) in
+    let room : 0 < came.finds.count → here ≤ length end.added = λ rose. subst (λ n. n ≤ length end.added) holds (c.shows.ensures.room (subst (λ n. 0 < n) c.into_place-theirs.ensures.finds rose)) in
+    let over = comes o.owed o.is_over o.is_of o.begins here t from.conn from.chronicle end.history end.added came waits.0 own home vouched belongs waits.1 room in
     let moved = c.absorb.ensures.queue in
     record {
       is_pass = (moved.0 ∙ old.is_pass.0, moved.2 ∙ old.is_pass.1);
@@ -48,7 +52,7 @@ invariant_of-self g c =
       owes = subst (λ (u : View g.row.T.Denot g.row.H.Denot). Owes o.owed u.seen u.conn u.taken) (sym knows) old.owes;
       is_of = subst (λ (u : View g.row.T.Denot g.row.H.Denot). IsOf o.is_of u.seen u.chronicle) (sym knows) old.is_of;
       conn = old.conn ∙ sym (ap (λ u. u.conn) knows);
-      last = subst (λ (u : View g.row.T.Denot g.row.H.Denot). CameOver o.owed o.is_over o.is_of u came) (sym knows) over;
+      last = subst (λ (u : View g.row.T.Denot g.row.H.Denot). CameOver o.owed o.is_over o.is_of here u came) (sym knows) over;
     }
 
 pub returns : goal.returns

@@ -1,4 +1,4 @@
-use Rattle.std.proofs.Common.{◌≡◌, ℕ, ◌+◌, [], ◌∷◌, length, length-append, sym, ap, ◌∙◌, subst, arith, Some}
+use Rattle.std.proofs.Common.{◌≡◌, ◌<◌, ℕ, ◌+◌, [], ◌∷◌, length, length-append, sym, ap, ◌∙◌, subst, arith, Some}
 use Rattle.std.specs.Prelude.{slice_get}
 use Rattle.crossbeam_queue.specs.Passes.{view}
 use Rattle.outbox_queue.specs.Rule.{Grows, Belongs, with_added, adding}
@@ -30,6 +30,7 @@ invariant_of-self g c =
       adds = subst P (sym eq) (ap (λ u. with_added u x) old.adds);
       capacity = old.capacity;
       nothing_yet = λ none. absurd (omega (arith, ap length (sym (ap (λ u. u.added) eq) ∙ none), length-append v.added (x.item ∷ [])));
+      room = λ rose. omega (arith, old.room (subst (λ n. 0 < n) c.in-Ok.ensures.rule.1 rose), length-append v.added (x.item ∷ []), ap (λ u. length u.added) eq);
       owes = subst Q (sym eq) (owes_next o.begins o.owed o.owes_on v.history v.conn v.added x.history x.item old.owes (subst (λ h. Grows o.begins h (Some x.history)) (ap (λ a. a.history) is) c.requires.history) owes);
       is_of = subst C (sym eq) (subst (λ k. Belongs o.is_of x.history k) (ap (λ a. a.chronicle) is) c.requires.chronicle);
       conn = old.conn ∙ sym (ap (λ u. u.conn) eq);

@@ -6,11 +6,11 @@ use Rattle.threaded_server.proofs.RosterSteps.{seated_before}
 use Rattle.threaded_server.proofs.SeatSteps.{free_place, seat_given, seat_kept, still_seated}
 use Rattle.threaded_server.proofs.TableStanding.{back_standing, ended_standing, posters_there, reader_left, seat_asks, seat_standing, taken_at, untouched_standing}
 use Rattle.threaded_server.proofs.TableSteps.{lent_on, seated_adds, untouched_adds}
-use Rattle.threaded_server.specs.Overs.{Adds, Found, Went}
+use Rattle.threaded_server.specs.Overs.{Found, Went}
 use Rattle.threaded_server.specs.Posters.{AreAt, AreOf, lists_of}
 use Rattle.threaded_server.specs.Realms.{places_of, realms_of}
 use Rattle.threaded_server.specs.Roster.{halves_of}
-use Rattle.broker_threads.specs.Streams.{Reads, sight}
+use Rattle.broker_threads.specs.Streams.{Reads, offer_of, sight}
 use Rattle.threaded_server.specs.declared.over.Over.TheVariants.{Untouched}
 use Rattle.wamp_ids.specs.Numbers.{seat_of}
 use Rattle.threaded_server.proofs.connection_table.ConnectionTable.admit.Goals as goal
@@ -72,7 +72,7 @@ pub pass-requires-clause-went : goal.pass-requires-clause-went
 pass-requires-clause-went g c κs within =
     let table = c.args.self.now in
     let see = sight g.I.Source.given g.I.Source.is_ended g.I.Source.calls g.I.Source.failures g.O.Sink.taken g.O.Sink.calls g.O.Sink.failures in
-    subst (λ o. Went see table.roster.over.plan.value.realms.items o) (sym c.of-in-Ended.ensures) (ap (λ p. p.realms.items) (c.in-Ended.ensures.1.serves ∙ table.same), subst (λ ended. Reads see c.in-Ended.began.value ended) (sym c.of.ensures) c.in-Ended.ensures.2)
+    subst (λ o. Went see (offer_of table.roster.over.plan.value) o) (sym c.of-in-Ended.ensures) (ap offer_of (c.in-Ended.ensures.1.serves ∙ table.same), subst (λ ended. Reads see c.in-Ended.began.value ended) (sym c.of.ensures) c.in-Ended.ensures.2)
 
 pub pass-requires-clause-found : goal.pass-requires-clause-found
 pass-requires-clause-found g c κs within =
@@ -141,8 +141,8 @@ returns-in-Ended-clause-lent g c =
 
 pub returns-in-Ended-clause-over : goal.returns-in-Ended-clause-over
 returns-in-Ended-clause-over g c =
-    subst (λ source. Adds (items_of c.args.self.now.roster.over.streams) (items_of c.pass.new.self.over.streams) (source.last.value, c.take_in-gone.result.0.sink.last.value)) (sym c.take_in-gone.ensures.source)
-    (seated_adds (items_of c.args.self.now.roster.over.streams) (items_of c.pass.new.self.over.streams) c.in-Ended.began c.of.result c.in-Ended.ended c.of-in-Ended.result.value c.take_in-gone.result.0.sink c.pass.ensures.over c.of-in-Ended.ensures c.of.ensures c.take_in-gone.ensures.sink)
+    seated_adds (items_of c.args.self.now.roster.over.streams) (items_of c.pass.new.self.over.streams) c.in-Ended.began c.of.result c.in-Ended.ended c.of-in-Ended.result.value c.take_in-gone.result.0.source c.take_in-gone.result.0.sink
+    c.take_in-gone.result.0.ends c.pass.ensures.over c.of-in-Ended.ensures c.of.ensures c.take_in-gone.ensures.source c.take_in-gone.ensures.sink c.take_in-gone.ensures.ends
 
 pub returns-clause-lent : goal.returns-clause-lent
 returns-clause-lent g c =
@@ -150,4 +150,4 @@ returns-clause-lent g c =
 
 pub returns-clause-over : goal.returns-clause-over
 returns-clause-over g c =
-    untouched_adds (items_of c.args.self.now.roster.over.streams) (items_of c.let_go-gone.new.self.over.streams) c.in-Refused.halves c.let_go-gone.result.source.last.value c.let_go-gone.result.sink.last.value c.let_go-gone.ensures.over c.let_go-gone.ensures.source c.let_go-gone.ensures.sink
+    untouched_adds (items_of c.args.self.now.roster.over.streams) (items_of c.let_go-gone.new.self.over.streams) c.in-Refused.halves c.let_go-gone.result.source.last.value c.let_go-gone.result.sink.last.value c.let_go-gone.result.ends c.let_go-gone.ensures.over c.let_go-gone.ensures.source c.let_go-gone.ensures.sink c.let_go-gone.ensures.ends

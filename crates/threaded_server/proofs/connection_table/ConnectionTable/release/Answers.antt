@@ -1,10 +1,9 @@
-use Rattle.std.proofs.Common.{refl, sym, ap, ◌∙◌, subst}
+use Rattle.std.proofs.Common.{refl, sym, ap, ◌∙◌}
 use Rattle.ghost_state.specs.GhostList.{items_of}
 use Rattle.threaded_server.proofs.Numbering.{back_numbered, left_numbered, still_numbered}
 use Rattle.threaded_server.proofs.SeatSteps.{seat_left, still_seated}
 use Rattle.threaded_server.proofs.TableStanding.{entry_stood, left_standing, nobody_left, reader_left}
 use Rattle.threaded_server.proofs.TableSteps.{seated_adds}
-use Rattle.threaded_server.specs.Overs.{Adds}
 use Rattle.threaded_server.specs.Posters.{lists_of}
 use Rattle.threaded_server.specs.Realms.{places_of, realms_of}
 use Rattle.broker_threads.specs.Streams.{sight}
@@ -36,5 +35,4 @@ invariant_of-self-2 g c =
 pub returns-clause-over : goal.returns-clause-over
 returns-clause-over g c =
     let left = c.in_ok-conn.ensures.over in
-    subst (λ source. Adds (items_of c.args.self.now.roster.over.streams) (items_of c.join.new.self.over.streams) (source.last.value, c.take_in-gone.result.0.sink.last.value)) (sym c.take_in-gone.ensures.source)
-    (seated_adds _ _ left.entry.began left.left c.in_ok-conn.ended _ c.take_in-gone.result.0.sink left.over refl left.left_is c.take_in-gone.ensures.sink)
+    seated_adds _ _ left.entry.began left.left c.in_ok-conn.ended _ c.take_in-gone.result.0.source c.take_in-gone.result.0.sink c.take_in-gone.result.0.ends left.over refl left.left_is c.take_in-gone.ensures.source c.take_in-gone.ensures.sink c.take_in-gone.ensures.ends

@@ -1,0 +1,37 @@
+-- What a writer's thread gives back, by what its writer wrote.
+use Rattle.std.proofs.Common.{◌≡◌, ◌<◌, ℕ, List, sym, subst}
+use Rattle.connection.specs.Writer.{WritesSince, IsLater, IsWrittenBy, write_told}
+use Rattle.connection.specs.declared.writer.WriteEnd.TheVariants.{Stopped, Dropped}
+use Rattle.outbox_queue.specs.Ends.{Taking, TookUnvouched, TookWhole, Owes, IsOf, newest}
+use Rattle.outbox_queue.specs.Tied.{Kept}
+use Rattle.rawsocket.specs.Steps.{WholeSteps, meter}
+use Rattle.realm.specs.History.{History}
+use Rattle.session.specs.declared.messages.item.Item.{Item}
+use Rattle.broker_threads.specs.Writes.{BeginsKept, Writes, over_kept, owed_kept}
+use Rattle.broker_threads.specs.declared.writer_thread.Writer.{Writer}
+use Rattle.broker_threads.specs.declared.writer_thread.Written.{Written}
+
+module _ {O S : Type 0} (taken : O → List ℕ) (calls failures : O → ℕ) where
+  -- the drain and the sink as they were left, and what is known of them
+  pub wrote : (w : Writer O S) (done : Written O) (drain : Taking Item (Kept History)) (sink : O) → done.drain.value ≡ drain → done.sink.last.value ≡ sink → done.realm ≡ w.realm
+      → WritesSince w.drain.taken drain.taken (taken w.sink) (taken sink) (IsWrittenBy w.serializer w.limit done.end) → IsLater BeginsKept w.drain drain
+      → (done.end ≡ Stopped → w.drain.empty_finds < drain.empty_finds) → WholeSteps (meter (calls w.sink) (failures w.sink)) (meter (calls sink) (failures sink)) (write_told done.end)
+      → (done.end ≡ Stopped → TookWhole owed_kept over_kept drain) → (done.end ≡ Dropped → (w.drain.empty_finds < drain.empty_finds) × TookUnvouched owed_kept over_kept drain)
+      → done.seen ≡ newest drain → Owes owed_kept (newest drain) drain.conn drain.taken → IsOf (λ h chronicle. h.chronicle ≡ chronicle) (newest drain) drain.chronicle
+      → Writes taken calls failures w done
+  wrote w done drain sink e f realm written later stopped steps whole dropped seen owes of =
+      let D : Type 0 = Taking Item (Kept History) in
+      let here : done.drain.value ≡ drain = e in
+      record {
+        realm = realm;
+        written = subst (λ (d : D). WritesSince w.drain.taken d.taken (taken w.sink) (taken done.sink.last.value) (IsWrittenBy w.serializer w.limit done.end)) (sym here)
+            (subst (λ (o : O). WritesSince w.drain.taken drain.taken (taken w.sink) (taken o) (IsWrittenBy w.serializer w.limit done.end)) (sym f) written);
+        later = subst (λ (d : D). IsLater BeginsKept w.drain d) (sym here) later;
+        stopped = subst (λ (d : D). done.end ≡ Stopped → w.drain.empty_finds < d.empty_finds) (sym here) stopped;
+        steps = subst (λ (o : O). WholeSteps (meter (calls w.sink) (failures w.sink)) (meter (calls o) (failures o)) (write_told done.end)) (sym f) steps;
+        whole = subst (λ (d : D). done.end ≡ Stopped → TookWhole owed_kept over_kept d) (sym here) whole;
+        dropped = subst (λ (d : D). done.end ≡ Dropped → (w.drain.empty_finds < d.empty_finds) × TookUnvouched owed_kept over_kept d) (sym here) dropped;
+        seen = subst (λ (d : D). done.seen ≡ newest d) (sym here) seen;
+        owes = subst (λ (d : D). Owes owed_kept (newest d) d.conn d.taken) (sym here) owes;
+        of = subst (λ (d : D). IsOf (λ (h : Kept History) chronicle. h.chronicle ≡ chronicle) (newest d) d.chronicle) (sym here) of;
+      }
