@@ -12,7 +12,7 @@ mod words;
 mod work;
 
 pub use bounds::{crossing, may_be_sent, may_be_shared};
-pub use octets::{octets_of, spell, spelled, text_of};
+pub use octets::{hexadecimal, octets_of, spell, spelled, text_of};
 pub use table::{Table, tell_all};
 pub use words::{is_refused, line_of, number_of, part, part_of};
 pub use work::{Work, start};

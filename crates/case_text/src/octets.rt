@@ -58,6 +58,19 @@ pub fn text_of(alloc: Global, text: &str) -> io::Result<String> {
     }
 }
 
+// Adds an octet by two digits.
+fn put_digits(out: &mut String, octet: u8) -> io::Result<()> {
+    Ok(write!(out, "{octet:02x}")?)
+}
+
+/// Adds octets by two digits each.
+pub fn hexadecimal(out: &mut String, octets: &[u8]) -> io::Result<()> {
+    for octet in octets {
+        put_digits(out, *octet)?;
+    }
+    Ok(())
+}
+
 /// Adds the spelling of these octets.
 pub fn spell(out: &mut String, octets: &[u8]) -> io::Result<()> {
     for octet in octets {
@@ -67,7 +80,8 @@ pub fn spell(out: &mut String, octets: &[u8]) -> io::Result<()> {
         } else if octet >= 0x20 && octet < 0x7f {
             out.push(octet as char)?;
         } else {
-            write!(out, "\\{octet:02x}")?;
+            out.push('\\')?;
+            put_digits(out, octet)?;
         }
     }
     Ok(())

@@ -1,6 +1,6 @@
 //! What is seen of a message in its octets, in words: null, true, 5, "text", x0aff, [1,2], {"a":1}; what no tree carries by the levels
 //! that it may nest and its octets, as ?99:ca00000000. A value that doesn't begin as what it is has a `!` before it.
-use case_text::{line_of, octets_of, part, part_of, spell, text_of};
+use case_text::{hexadecimal, line_of, octets_of, part, part_of, spell, text_of};
 use msgpack_cursor::{Beginning, Dictionary, Elements, Seen, Value, message};
 use std::alloc::Global;
 use std::io;
@@ -161,13 +161,5 @@ pub fn quote(out: &mut String, text: &str) -> io::Result<()> {
     out.push('"')?;
     spell(out, text.as_bytes())?;
     out.push('"')?;
-    Ok(())
-}
-
-/// Adds octets by two digits each.
-fn hexadecimal(out: &mut String, octets: &[u8]) -> io::Result<()> {
-    for octet in octets {
-        write!(out, "{octet:02x}")?;
-    }
     Ok(())
 }

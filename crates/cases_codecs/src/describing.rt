@@ -1,5 +1,5 @@
 //! A tree in words: null, true, 5, "text", x0aff, [1,2], {"k":1}, and ? for what is not carried.
-use case_text::spell;
+use case_text::{hexadecimal, spell};
 use message_tree::Tree;
 use std::io;
 
@@ -19,12 +19,9 @@ pub fn quote(out: &mut String, octets: &[u8]) -> io::Result<()> {
 }
 
 /// Adds octets by two digits each, behind an x.
-pub fn hexadecimal(out: &mut String, octets: &[u8]) -> io::Result<()> {
+pub fn marked_octets(out: &mut String, octets: &[u8]) -> io::Result<()> {
     out.push('x')?;
-    for octet in octets {
-        write!(out, "{octet:02x}")?;
-    }
-    Ok(())
+    hexadecimal(out, octets)
 }
 
 /// Adds a tree in words, so many levels of it.
@@ -38,7 +35,7 @@ pub fn describe(out: &mut String, tree: &Tree, room: u8) -> io::Result<()> {
         Tree::Flag(flag) => out.push_str(if *flag { "true" } else { "false" })?,
         Tree::Whole(number) => write!(out, "{number}")?,
         Tree::Text(text) => quote(out, text.as_str().as_bytes())?,
-        Tree::Bytes(octets) => hexadecimal(out, octets)?,
+        Tree::Bytes(octets) => marked_octets(out, octets)?,
         Tree::List(items) => {
             out.push('[')?;
             let mut is_first = true;

@@ -1,5 +1,5 @@
 //! What is read of octets with no memory: values that are passed over, and tokens.
-use crate::describing::{hexadecimal, quote};
+use crate::describing::{marked_octets, quote};
 use case_text::{number_of, octets_of, part};
 use msgpack_codec::{Carriage, Passed, Token, first_token, pass};
 use std::alloc::Global;
@@ -63,7 +63,7 @@ fn describe_token(out: &mut String, token: Token) -> io::Result<()> {
         Token::Flag(flag) => out.push_str(if flag { "true" } else { "false" })?,
         Token::Whole(number) => write!(out, "{number}")?,
         Token::Text(text) => quote(out, text.as_bytes())?,
-        Token::Bytes(octets) => hexadecimal(out, octets)?,
+        Token::Bytes(octets) => marked_octets(out, octets)?,
         Token::List(count) => write!(out, "list {count}")?,
         Token::Dict(count) => write!(out, "dict {count}")?,
         Token::Uncarried => out.push('?')?,
