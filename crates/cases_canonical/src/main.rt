@@ -1,4 +1,4 @@
-//! Cases of MessagePack in canonical form (`msgpack_canonical`), of JSON written from that (`transcoder`), of values where they stand in
+//! Cases of MessagePack in canonical form (`msgpack_canonical`), of JSON written from that (`msgpack_to_json`), of values where they stand in
 //! octets (`msgpack_cursor`), and of JSON as MessagePack (`json_to_msgpack`), as lines of standard input; what each is answered
 //! by is printed. In octets `\7f` is an octet.
 //!

@@ -1,4 +1,4 @@
-//! Cases of `client` and `client_session`, as lines of standard input; what each is answered by is printed.
+//! Cases of `client_messages` and `client_session`, as lines of standard input; what each is answered by is printed.
 //!
 //! - `# TEXT` begins a case, and is printed as it stands.
 //! - `say JSON`: the message that says what a broker reads in this one.

@@ -2,7 +2,6 @@
 //!
 //! - `# TEXT` begins a case, and is printed as it stands. Its client speaks JSON and takes 512 octets in one payload.
 //! - `client SERIALIZER LIMIT`: another client, of `json` or `msgpack`.
-//! - `seats`: a new table; `take` takes a seat, `back CONN` gives one back, and `fill` takes all that are free.
 //! - What a connection is owed: `event SUBSCRIPTION PUBLICATION ARGUMENTS`, the arguments in JSON; `letters SUBSCRIPTION PUBLICATION N
 //!   LETTER`, an EVENT with one text of so many letters; `published REQUEST PUBLICATION`, `pong TEXT`, `goodbye`.
 //! - `write` writes all that, and tells what the device got and how it ended.

@@ -1,4 +1,4 @@
-//! Cases of `broker_commands`: of `replay`, of the command line and of grants, as lines of standard input; what each gives is printed.
+//! Cases of `replay`, of the command line and of grants, as lines of standard input; what each gives is printed.
 //!
 //! - `# TEXT` begins a case, and is printed as it stands.
 //! - `grants TEXT`: the grants, as the command line has them.

@@ -1,9 +1,10 @@
 //! A replay over devices that may fail.
 use crate::outcome::Outcome;
-use broker_commands::{Fault, read_grants, replay};
 use broker_config::{Config, Ids};
+use command_line::{Fault, read_grants};
 use rawsocket::devices::testing::{FailsAt, OneByOne};
 use rawsocket::devices::{MemorySource, Sink, Source, WriteSink};
+use replay::replay;
 use std::alloc::Global;
 use std::io;
 use wamp_ids::Topic;

@@ -1,6 +1,6 @@
 -- Connections whose posts go through an inbox, and are handled at once.
 use Rattle.std.specs.Prelude.{◌≡◌, ℕ, Option, Some, None, ⊤}
-use Rattle.session.specs.declared.messages.item.Item.{Item}
+use Rattle.wamp_messages.specs.declared.item.Item.{Item}
 use Rattle.realm.specs.History.{History}
 use Rattle.outbox_queue.specs.Ends.{Taking}
 use Rattle.outbox_queue.specs.Tied.{Kept}

@@ -1,6 +1,6 @@
 //! A history that one owner alone makes longer, and tokens of what it was, which may go to other threads and take no bytes.
 //!
-//! A [`Chronicle`] is made with nothing in it. [`Chronicle::record`] makes its history longer, and gives a [`Token`] of what it
+//! A [`Chronicle`] is made with nothing in it. [`Chronicle::record`] makes its history longer, and gives a [`HistoryToken`] of what it
 //! is then. [`Chronicle::check`] takes a token in, wherever that was meanwhile, and shows that the token's history begins the
 //! chronicle's. So who has the chronicle in the end can bring together what different threads saw of one history.
 //!
@@ -16,7 +16,7 @@ mod history;
 mod name;
 mod rule;
 
-pub use chronicle::{Chronicle, Token};
+pub use chronicle::{Chronicle, HistoryToken};
 pub use history::History;
 pub use name::Name;
-pub use rule::View;
+pub use rule::ChronicleView;

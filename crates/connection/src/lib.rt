@@ -10,18 +10,16 @@
 #![tactic(auto)]
 
 mod encoding_poster;
-mod fault;
+mod farewell_poster;
 mod in_use;
 mod pongs;
 mod reader;
-mod seats;
 mod weight;
 mod writer;
 
 pub use encoding_poster::EncodingPoster;
-pub use fault::Fault;
+pub use farewell_poster::FarewellPoster;
 pub use in_use::{InUse, Using};
 pub use pongs::{AskedPongs, OwedPongs, PongPoster, share_pongs};
 pub use reader::{ReadEnd, read_posts};
-pub use seats::Seats;
 pub use writer::{Watch, WriteEnd, write_items, write_watched};

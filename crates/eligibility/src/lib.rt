@@ -5,7 +5,7 @@
 #![tactic(auto)]
 
 mod fault;
-mod ids;
+mod id_set;
 pub mod laws;
 mod lists;
 mod numbers;

@@ -9,13 +9,13 @@ mod deep_keys;
 mod fit;
 mod leaves;
 mod lexer;
+mod literals;
 mod refusal;
 mod scan;
 mod token;
 mod transliteration;
 mod unescape;
 mod values;
-mod words;
 mod writing;
 
 pub use transliteration::{Transliteration, to_msgpack};

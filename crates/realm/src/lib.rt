@@ -14,11 +14,11 @@ mod events;
 mod fault;
 mod grants;
 mod joins;
+mod last_asked;
 pub mod laws;
 mod meta_events;
 mod publications;
 mod realm;
-mod seats;
 mod sessions;
 mod spare;
 mod state;
@@ -27,7 +27,7 @@ mod subscriptions;
 pub use entry::{Entry, says_with_word};
 pub use fault::Fault;
 pub use realm::{Realm, RealmConfig};
-pub use session::{
+pub use wamp_messages::{
     Args, CarriedArgs, Item, Lists, Publication, PublishOptions, Reason, Request, Said,
     SubscribeOptions, Who,
 };

@@ -20,6 +20,7 @@ mod delivery;
 mod entering;
 mod entries;
 mod handle;
+mod id_source;
 mod last_cut;
 pub mod laws;
 mod outcome;
@@ -33,10 +34,11 @@ mod stop;
 mod table;
 
 pub use actor::Actor;
+pub use id_source::IdSource;
 pub use outcome::Outcome;
 pub use realm_inbox::opening::inbox;
 pub use realm_inbox::{
-    Act, Door, GhostList, Halt, IdSource, InTurn, Inbox, Joining, Letter, Post, Poster, Posting,
-    RealmHistory, Seat, Shut, View, opening,
+    Act, Door, GhostList, Halt, InTurn, Inbox, InboxView, Joining, Letter, Post, Poster, Posting,
+    RealmHistory, Seat, Shut, opening,
 };
 pub use run::{Nobody, Onlooker};

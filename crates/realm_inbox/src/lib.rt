@@ -38,5 +38,5 @@ pub use history::{RealmChronicle, RealmHistory, RealmMoment};
 pub use joining::Joining;
 pub use letter::{Halt, Letter, Post};
 pub use posting::Posting;
-pub use rule::{InTurn, View};
-pub use transport::{IdSource, Shut};
+pub use rule::{InTurn, InboxView};
+pub use transport::Shut;

@@ -11,17 +11,16 @@ mod messages;
 mod opening;
 mod wire;
 
-pub use arguments::{Args, CarriedArgs, Decoded};
-pub use eligibility::{Lists, Who};
 pub use fault::Fault;
 pub use messages::from_client::{read_payload, read_said};
-pub use messages::item::{Item, Publication, Reason, Request};
-pub use messages::said::{Said, SaidKind};
 pub use messages::to_client::item_message;
 pub use opening::first_message::{abort_reason, abort_uri, first};
 pub use opening::hello::First;
 pub use opening::open_session;
 pub use opening::opened_session::Opened;
-pub use request_options::{PublishOptions, SubscribeOptions};
+pub use wamp_messages::{
+    Args, CarriedArgs, Decoded, Item, Lists, Publication, PublishOptions, Reason, Request, Said,
+    SaidKind, SubscribeOptions, Who,
+};
 pub use wire::item_frames::{write_item, write_payload};
 pub use wire::serializer::decode;

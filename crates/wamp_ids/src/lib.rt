@@ -16,7 +16,7 @@ mod topic;
 mod wide;
 
 pub use components::{dot_in, fits};
-pub use conn::{Conn, SEATS, seat};
+pub use conn::{Conn, SEATS, seat, seat_index};
 pub use fault::Fault;
 pub use id::Id;
 pub use pattern::{Pattern, Policy};

@@ -1,0 +1,36 @@
+//! What the text of a line means: a message of a client, or that its connection is gone.
+ghost use Rattle.std.specs.Prelude.{◌≡◌, IfOk};
+ghost use Rattle.replay.specs.Speech.{Hears};
+
+use crate::fault::Fault;
+use session::read_said;
+use std::alloc::{AllocError, Global};
+
+/// What the text of a line is.
+#[derive(Drop)]
+pub enum Speech {
+    /// `gone`: the connection is gone.
+    Gone,
+    /// A message of a client.
+    Said(session::Said),
+    /// Neither.
+    Noise,
+}
+
+/// What the text of a line is.
+pub fn read_speech(alloc: Global, text: &[u8]) -> Result<Speech, AllocError>
+    ensures heard { IfOk result (Hears text.now) }
+{
+    if text == b"gone".as_slice() {
+        return Ok(Speech::Gone);
+    }
+    match json_codec::decode(alloc, text) {
+        Ok(message) => match read_said(alloc, message) {
+            Ok(said) => Ok(Speech::Said(said)),
+            Err(session::Fault::NoMemory) => Err(AllocError),
+            Err(_) => Ok(Speech::Noise),
+        },
+        Err(json_codec::Fault::NoMemory) => Err(AllocError),
+        Err(_) => Ok(Speech::Noise),
+    }
+}
