@@ -112,7 +112,10 @@ impl Script {
         if config.realms.is_empty() {
             return Ok(None);
         }
-        Ok(replay(alloc, source, sink, &config).err())
+        match replay(alloc, source, sink, &config) {
+            Ok(()) => Ok(None),
+            Err(fault) => Ok(Some(Fault::from(fault))),
+        }
     }
 
     fn config(&self, alloc: Global) -> io::Result<Result<Config, Fault>> {
