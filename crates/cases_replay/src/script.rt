@@ -1,8 +1,8 @@
 //! A replay over devices that may fail.
 use crate::outcome::Outcome;
 use broker_config::{Config, Ids};
+use case_devices::{FailsAt, OneByOne};
 use command_line::{Fault, read_grants};
-use rawsocket::devices::testing::{FailsAt, OneByOne};
 use rawsocket::devices::{MemorySource, Sink, Source, WriteSink};
 use replay::replay;
 use std::alloc::Global;
