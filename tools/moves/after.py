@@ -24,3 +24,6 @@ edit("realm_core/proofs/Lib.antt", lambda text: text.replace("OutboxLemmas", "Se
 edit("msgpack_canonical/src/writing.rt", lambda text: re.sub(r"\bEntry\b", "WrittenEntry", text))
 # A replay has no such fault any more.
 os.remove(f"{CRATES}/replay/planted/bad_line_is_usage.edit")
+# Modules that were named for a type.
+for crate, old, new in (("arguments", "Held", "KeptArguments"), ("eligibility", "Ids", "IdSet")):
+    os.rename(f"{CRATES}/{crate}/specs/body/{old}.antt", f"{CRATES}/{crate}/specs/body/{new}.antt")

@@ -1,8 +1,8 @@
 //! A replay over devices that may fail.
 use crate::outcome::Outcome;
 use broker_config::{Config, Ids};
+use case_devices::{FailsAt, OneByOne};
 use command_line::{Fault, read_grants};
-use rawsocket::devices::testing::{FailsAt, OneByOne};
 use rawsocket::devices::{MemorySource, Sink, Source, WriteSink};
 use replay::replay;
 use std::alloc::Global;
@@ -112,7 +112,10 @@ impl Script {
         if config.realms.is_empty() {
             return Ok(None);
         }
-        Ok(replay(alloc, source, sink, &config).err())
+        match replay(alloc, source, sink, &config) {
+            Ok(()) => Ok(None),
+            Err(fault) => Ok(Some(Fault::from(fault))),
+        }
     }
 
     fn config(&self, alloc: Global) -> io::Result<Result<Config, Fault>> {

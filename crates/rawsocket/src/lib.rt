@@ -40,7 +40,6 @@ pub mod laws;
 
 pub use deframer::{Deframer, Fed, next_frame};
 pub use devices::device::{Sink, Source};
-pub use devices::ghost_octets::GhostOctets;
 pub use devices::memory::{MemorySink, MemorySource};
 pub use devices::no_octets::NoOctets;
 pub use devices::over_io::{ReadSource, WriteSink};

@@ -3,7 +3,7 @@ ghost use Rattle.std.specs.Prelude.{◌≡◌, ◌++◌, ℕ, true, cond, IfOk, 
 ghost use Rattle.realm.specs.History.{◌▷◌};
 ghost use Rattle.realm.specs.Sessions.{conn_of, live, may_come, may_join};
 ghost use Rattle.realm.specs.Words.{draws_word};
-ghost use Rattle.command_line.specs.Grants.{bytes_of};
+ghost use Rattle.realm.specs.Grants.{pairs_of};
 ghost use Rattle.replay.specs.Lines.{is_number};
 ghost use Rattle.replay.specs.Transcript.{PrintsEntry, PrintsMore, after, history_with, is_named, later, opening, refused, starting};
 ghost use Rattle.replay.specs.LineReplays.{PrintsOpening};
@@ -63,7 +63,7 @@ impl LineReplay {
         name: &Topic,
         grants: &[(String, String)],
     ) -> Result<LineReplay, AllocError>
-        ensures { IfOk result (λ script. script ≡ starting (bytes_of grants.now) name.now) }
+        ensures { IfOk result (λ script. script ≡ starting (pairs_of grants.now) name.now) }
     {
         let config = RealmConfig {
             name: name.try_copy(alloc)?,

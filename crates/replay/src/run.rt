@@ -1,6 +1,6 @@
 //! `replay`: reads the input to its end, and writes what each piece gives before it reads the next.
 ghost use Rattle.std.specs.Prelude.{◌≡◌, ◌≢◌, ◌++◌, ◌+◌, ◌<◌, ◌≤◌, ◌⊎◌, ℕ, [], length, take, true, IfErr, IfOk, OnErr, OnOk};
-ghost use Rattle.command_line.specs.Grants.{bytes_of};
+ghost use Rattle.realm.specs.Grants.{pairs_of};
 ghost use Rattle.replay.specs.Outcome.{BeginsReplay, IsReplayed, StopsAt, IsFresh, FromRealm, HasCause, read_told, write_told};
 ghost use Rattle.rawsocket.specs.Steps.{Steps, WholeSteps, meter, told_by};
 ghost use Rattle.session.specs.Opened.{AreUsedUp};
@@ -145,7 +145,7 @@ pub fn replay<I: Source, O: Sink>(
     requires { 0 < length config.now.realms.items }
     ensures ended { OnOk result (I.is_ended source.new ≡ true) }
     ensures told { OnOk result (FromRealm
-        config.now.realms.items (bytes_of config.now.grants.items)
+        config.now.realms.items (pairs_of config.now.grants.items)
         (λ start. IsReplayed start (record {
           given_before = I.given source.old;
           given = I.given source.new;
@@ -153,7 +153,7 @@ pub fn replay<I: Source, O: Sink>(
           taken = O.taken sink.new;
         }) [])) }
     ensures bad { (k : ℕ) → result ≡ Err (Fault.BadLine k)
-        → FromRealm config.now.realms.items (bytes_of config.now.grants.items)
+        → FromRealm config.now.realms.items (pairs_of config.now.grants.items)
         (λ start. StopsAt start (record {
           given_before = I.given source.old;
           given = I.given source.new;
@@ -161,7 +161,7 @@ pub fn replay<I: Source, O: Sink>(
           taken = O.taken sink.new;
         }) (I.is_ended source.new) [] k) }
     ensures begun { OnErr result (FromRealm
-        config.now.realms.items (bytes_of config.now.grants.items)
+        config.now.realms.items (pairs_of config.now.grants.items)
         (λ start. BeginsReplay start (record {
           given_before = I.given source.old;
           given = I.given source.new;

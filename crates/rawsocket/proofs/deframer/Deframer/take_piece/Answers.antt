@@ -2,7 +2,7 @@ use Rattle.std.proofs.Common.{◌≡◌, ◌-◌, ◌++◌, [], length, take, dr
 use Rattle.std.proofs.lemmas.List.{append-nil, length-take-le}
 use Rattle.rawsocket.specs.Frames.{Content, spelled}
 use Rattle.rawsocket.proofs.Stream.{header_then, header_begun, begun_short, no_payload, whole_view, stays_before_header, stays_at_fault, stays_unfinished, goes_on, payload_fits, payload_is}
-use Rattle.rawsocket.proofs.deframer.Deframer.add.Goals as goal
+use Rattle.rawsocket.proofs.deframer.Deframer.take_piece.Goals as goal
 
 pub returns-then-have-lt4-clause-held : goal.returns-then-have-lt4-clause-held
 returns-then-have-lt4-clause-held c =

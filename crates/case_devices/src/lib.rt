@@ -1,12 +1,14 @@
-//! For tests: devices round another one, and the frames of a stream in pieces.
+#![tactic(auto)]
+
+//! For drivers: devices round another one, which give and take one octet at a time, or fail at one call; and the frames of
+//! a stream in pieces.
 ghost use Rattle.std.specs.Prelude.{◌≡◌, ℕ, List, Some, IfOk, IfErr};
 ghost use Rattle.std.specs.List.{flat_map};
 ghost use Rattle.rawsocket.specs.Frames.{contents, fault_of, Reads};
 
-use crate::deframer::{Deframer, Fed};
-use crate::devices::device::{Sink, Source};
-use crate::fault::Fault;
 use ghost_state::GhostCount;
+use rawsocket::devices::{Sink, Source};
+use rawsocket::{Deframer, Fault, Fed};
 use std::alloc::Global;
 
 /// Gives or takes one octet at a time.
@@ -26,15 +28,7 @@ impl<D> OneByOne<D> {
 }
 
 impl<S: Source> Source for OneByOne<S> {
-    ghost given = { λ s. S.given s.device };
-
-    ghost left = { λ s. S.left s.device };
-
-    ghost is_ended = { λ s. S.is_ended s.device };
-
-    ghost calls = { λ s. S.calls s.device };
-
-    ghost failures = { λ s. S.failures s.device };
+    ghost seen = { λ s. S.seen s.device };
 
     fn read_some(&mut self, buffer: &mut [u8]) -> Result<usize, Fault> {
         let most = buffer.len().min(1);
@@ -43,13 +37,7 @@ impl<S: Source> Source for OneByOne<S> {
 }
 
 impl<S: Sink> Sink for OneByOne<S> {
-    ghost taken = { λ s. S.taken s.device };
-
-    ghost held = { λ s. S.held s.device };
-
-    ghost calls = { λ s. S.calls s.device };
-
-    ghost failures = { λ s. S.failures s.device };
+    ghost seen = { λ s. S.seen s.device };
 
     fn write_some(&mut self, octets: &[u8]) -> Result<usize, Fault> {
         let most = octets.len().min(1);
@@ -108,15 +96,10 @@ impl<D> FailsAt<D> {
 impl<S: Source> Source for FailsAt<S> {
     ghost use Rattle.std.specs.Prelude.{◌+◌};
 
-    ghost given = { λ s. S.given s.device };
-
-    ghost left = { λ s. S.left s.device };
-
-    ghost is_ended = { λ s. S.is_ended s.device };
-
-    ghost calls = { λ s. s.calls };
-
-    ghost failures = { λ s. s.failures + S.failures s.device };
+    ghost seen = { λ s. record (S.seen s.device) {
+      calls = s.calls;
+      failures = s.failures + (S.seen s.device).failures;
+    } };
 
     fn read_some(&mut self, buffer: &mut [u8]) -> Result<usize, Fault> {
         self.calls.tick();
@@ -131,13 +114,10 @@ impl<S: Source> Source for FailsAt<S> {
 impl<S: Sink> Sink for FailsAt<S> {
     ghost use Rattle.std.specs.Prelude.{◌+◌};
 
-    ghost taken = { λ s. S.taken s.device };
-
-    ghost held = { λ s. S.held s.device };
-
-    ghost calls = { λ s. s.calls };
-
-    ghost failures = { λ s. s.failures + S.failures s.device };
+    ghost seen = { λ s. record (S.seen s.device) {
+      calls = s.calls;
+      failures = s.failures + (S.seen s.device).failures;
+    } };
 
     fn write_some(&mut self, octets: &[u8]) -> Result<usize, Fault> {
         self.calls.tick();

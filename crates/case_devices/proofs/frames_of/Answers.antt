@@ -1,5 +1,5 @@
 use Rattle.rawsocket.proofs.DeframerLemmas.{pieces_step, pieces_done}
-use Rattle.rawsocket.proofs.devices.testing.frames_of.Goals as goal
+use Rattle.case_devices.proofs.frames_of.Goals as goal
 
 pub loop-piece-preserved : goal.loop-piece-preserved
 loop-piece-preserved c =
