@@ -1,7 +1,7 @@
 #![tactic(auto)]
 
-//! For drivers: devices round another one, which give and take one octet at a time, or fail at one call; and the frames of
-//! a stream in pieces.
+//! For drivers: devices round another one, which give and take one octet at a time, or fail at one call; and the frames
+//! of a stream in pieces.
 ghost use Rattle.std.specs.Prelude.{◌≡◌, ℕ, List, Some, IfOk, IfErr};
 ghost use Rattle.std.specs.List.{flat_map};
 ghost use Rattle.rawsocket.specs.Frames.{contents, fault_of, Reads};

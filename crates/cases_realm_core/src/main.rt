@@ -1,4 +1,4 @@
-//! Cases of `schedules`'s `World`, as lines of standard input; what each step did is printed.
+//! Cases of `realm_core`'s `World`, as lines of standard input; what each step did is printed.
 //!
 //! - `# TEXT` begins a case, and is printed as it stands.
 //! - `grant AUTHID ROLE` adds a grant; `world INBOX OUTBOX` makes a world of these capacities.

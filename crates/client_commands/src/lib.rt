@@ -1,9 +1,9 @@
 //! What `wampd subscribe` and `wampd publish` do, over any device.
 //!
-//! It stands on `client_session` for the session with a broker, on `client_messages` for wishes, and on `json_codec` for the values that are
-//! read and printed. Contracts say what is said to the broker and in which order, which line is printed for which event, and that
-//! each failure of a device is told, with nothing tried again after it; the device that notes go to is the one whose failures are
-//! passed over. Command lines, sockets and threads are for the crates above.
+//! The session with a broker is `client_session`'s. Contracts say what is said to the broker and in which order, which
+//! line is printed for which event, and that each failure of a device is told, with nothing tried again after it; the
+//! device that notes go to is the one whose failures are passed over. Command lines, sockets and threads are for the
+//! crates above.
 #![tactic(auto)]
 
 mod command;

@@ -1,9 +1,8 @@
 //! What a client that publishes and subscribes says to a broker, and what a broker says to it, as messages.
 //!
-//! It stands on `session`, the broker's half of the same messages, and on `message_tree`, `wamp_ids` and `eligibility`.
-//! Contracts say which message says each thing, that a broker reads it as just that, which options ask for which wishes,
-//! and what each message of a broker says; that a message of this broker says what the broker meant is a law. Frames,
-//! streams and the order of messages are for the crates above.
+//! `session` has the broker's half of the same messages. Contracts say which message says each thing, that a broker
+//! reads it as just that, which options ask for which wishes, and what each message of a broker says; that a message of
+//! this broker says what the broker meant is a law. Frames, streams and the order of messages are for the crates above.
 #![tactic(auto)]
 
 mod client_message;

@@ -1,7 +1,6 @@
 //! The words of the command line, and what is told of a fault.
 //!
-//! It stands on `clap`, on `broker_config` for what a broker is run with, on `client_commands` for what a client is asked for, and on `replay`
-//! for its faults; it needs no handle. Contracts say what a command line asks for, which fault is told and how.
+//! `clap` splits the words. Contracts say what a command line asks for, which fault is told and how.
 #![tactic(auto)]
 
 mod client_grammar;

@@ -1,10 +1,10 @@
 //! What a broker tells its operator: one line for each thing that happens to a connection, or to the broker.
 //!
-//! A line is `event key=value ..`, in printable ASCII, and ends in LF. A value is a number, a word, or a text in quotes, in which a
-//! quote, a backslash and what isn't printable ASCII are spelt by their octets, `\x0a`: so no word of a client's ends a line or a value.
+//! A line is `event key=value ..`, in printable ASCII, and ends in LF. A value is a number, a word, or a text in
+//! quotes, in which a quote, a backslash and what isn't printable ASCII are spelt by their octets, `\x0a`: so no word
+//! of a client's ends a line or a value.
 //!
-//! It stands on `session` (the faults), `rawsocket` (the serializations) and `wamp_ids`, and needs no handle. Contracts say of each line
-//! which octets it is.
+//! Contracts say of each line which octets it is.
 #![tactic(auto)]
 
 mod lines;

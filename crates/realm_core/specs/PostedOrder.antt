@@ -1,4 +1,4 @@
--- What was posted, and what of it entered the history, in which order.
+-- What was posted enters the history of a world in the order in which it was posted, for each connection.
 use Rattle.std.specs.Prelude.{ℕ, true, ◌≡◌}
 use Rattle.realm.specs.Laws.{BeginsList}
 use Rattle.realm.specs.PostedOrder.{posts_of, said_by, AreSome, joins_first_alone}

@@ -1,12 +1,14 @@
-//! The broker's core: a realm, which `serve` runs too, and that realm over every schedule: a realm, the posts that wait for it, and the queues of its
-//! sessions, one step at a time in any order.
+//! A realm over every schedule: the realm, the posts that wait for it, and the queues of its sessions, one step at a
+//! time, in any order.
 //!
-//! What each step does is a relation of `specs/`, one case for each kind of step; [`World`] is a body
-//! that meets it. [`laws`] has what holds of every history and of every world.
+//! The realm is [`Realm`], the same that the running broker's actor runs.
 //!
-//! It stands on `realm`. Contracts say of each step what it changes, and that the queues are those of the model; what was taken of a
-//! session's queue is then, by the laws, a beginning of what the history owes it. The headline is the clause `delivers` of
-//! [`World::run`].
+//! What each step does is a relation of `specs/`, one case for each kind of step; [`World`] is a body that meets it.
+//! [`laws`] has what holds of every history and of every world.
+//!
+//! Contracts say of each step what it changes, and that the queues are those of the model; what was taken of a
+//! session's queue is then, by the laws, a beginning of what the history owes it. The headline is the clause `delivers`
+//! of [`World::run`].
 #![tactic(auto)]
 
 mod copy;

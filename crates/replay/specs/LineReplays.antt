@@ -1,4 +1,4 @@
--- What holds of every replay.
+-- What a replay keeps between two lines, and what the first line of a number prints.
 use Rattle.std.specs.Prelude.{◌≡◌, ℕ, true, ◌&&◌, List, ◌++◌, None, Some}
 use Rattle.std.specs.declared.option.Option.{Option}
 use Rattle.std.specs.List.{list_all}

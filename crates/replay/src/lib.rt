@@ -1,7 +1,7 @@
 //! `replay`: the transcript of lines, in one realm and one thread.
 //!
-//! It stands on `realm_core`, and on `broker_config` for what a broker is run with; it needs no handle. Contracts say what a transcript is
-//! of the lines that were read, which fault is told, and what stands written then.
+//! What a broker is run with stands in `broker_config`. Contracts say what a transcript is of the lines that were read,
+//! which fault is told, and what stands written then.
 #![tactic(auto)]
 
 mod fault;

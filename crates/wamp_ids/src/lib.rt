@@ -1,8 +1,8 @@
-//! WAMP's identifiers: session, publication, subscription and request ids, connection numbers,
-//! topics, and the patterns of subscriptions.
+//! WAMP's identifiers: session, publication, subscription and request ids, connection numbers, topics, and the patterns
+//! of subscriptions.
 //!
-//! It stands on no other crate. Contracts say which numbers and texts each type holds, that reading one gives exactly
-//! those, and which topics a pattern matches.
+//! Contracts say which numbers and texts each type holds, that reading one gives exactly those, and which topics a
+//! pattern matches.
 #![tactic(auto)]
 
 mod ascii;

@@ -1,8 +1,8 @@
-//! What clients say and what the broker owes them, as types; and what the options of a request ask for, read once, as soon as
-//! their message is read, from the octets of MessagePack where they stand or from a dictionary.
+//! What clients say and what the broker owes them, as types; and what the options of a request ask for, read once, as
+//! soon as their message is read, from the octets of MessagePack where they stand or from a dictionary.
 //!
-//! The octets of messages are `session`'s. Contracts say what each option asks for, by its name and its kind, and that both ways of
-//! reading give the same.
+//! The octets of messages are `session`'s. Contracts say what each option asks for, by its name and its kind, and that
+//! both ways of reading give the same.
 #![tactic(auto)]
 
 mod item;

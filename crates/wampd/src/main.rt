@@ -1,7 +1,8 @@
-//! `wampd`: a publish-subscribe broker for WAMP. The command line asks for help, a replay, a running broker, or a client of one.
+//! `wampd`: a publish-subscribe broker for WAMP. The command line asks for help, a replay, a running broker, or a
+//! client of one.
 //!
-//! It stands on `broker_server`, whose commands and faults are those of `replay` and `command_line`, on `client_commands` and on `rawsocket`. Contracts say
-//! that help is printed whole, what is told of a fault, and which exit status it has.
+//! The commands are those of `broker_server` and `client_commands`. Contracts say that help is printed
+//! whole, what is told of a fault, and which exit status it has.
 #![tactic(auto)]
 
 ghost use Rattle.std.specs.Prelude.{◌≡◌, ◌≢◌, ◌<◌, ◌≤◌, ◌+◌, ◌++◌, Err, IfErr, OnOk, length};
