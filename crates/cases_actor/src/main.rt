@@ -16,6 +16,13 @@
 //! - `threads COUNT`: four connections publish so many times each, in a thread each, and a thread for each takes what
 //!   it is given, while the actor runs. Told is how many items are others than a realm gives for the same entries in
 //!   the actor's order.
+//!
+//! Of the end of a session's outbox, the actor's `settle`:
+//!
+//! - `pair` makes an actor of a realm `r.one`, and the connections 1 and 2, which alone post; each post is handled
+//!   before the next one is made. So it is known which post came through, and which outbox a drain is the other end
+//!   of. `join`, `said`, `ping`, `spoilt`, `gone`, `stop`, `take` and `holds` are as above.
+//! - `settle CONN` puts the outbox of the connection together with its drain, and tells the items that are left.
 #![tactic(auto)]
 
 mod acts;
@@ -27,6 +34,7 @@ mod publishing;
 mod replaying;
 mod room;
 mod seating;
+mod settling;
 mod threads;
 
 use case::Case;

@@ -7,3 +7,4 @@ pub mod ProgressLemmas
 pub mod FaultCauses
 pub mod OneTranscript
 pub mod NumbersAreDecimal
+pub mod SpeechLemmas

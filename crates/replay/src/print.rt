@@ -1,13 +1,11 @@
 //! What a replay prints.
-ghost use Rattle.std.specs.Prelude.{◌≡◌, ◌++◌, OnOk};
+ghost use Rattle.std.specs.Prelude.{◌≡◌, ◌++◌, IfOk, OnOk};
 ghost use Rattle.session.specs.ToClient.{message_of};
-ghost use Rattle.json_codec.specs.Encoder.{json_text};
 ghost use Rattle.replay.specs.Transcript.{ended, item_text, printed, printed_all};
-ghost use Rattle.message_tree.specs.Meaning.{meaning};
 
 use itoa::Buffer;
-use message_tree::Message;
-use session::{Item, item_message};
+use rawsocket::Serializer;
+use session::{Item, write_payload};
 use std::alloc::{AllocError, Global};
 use wamp_ids::Conn;
 
@@ -30,6 +28,21 @@ pub fn print_end(out: &mut Vec<u8>, number: Conn) -> Result<(), AllocError>
     print(out, number, b"end")
 }
 
+/// The text of an item: its message, as a client gets it that speaks JSON. A PONG is none, and has no text.
+#[tactic(auto, using(crate::proofs::PrintLemmas::payload_is_text))]
+fn text_of(alloc: Global, item: &Item) -> Result<Vec<u8>, AllocError>
+    ensures { IfOk result (λ text. text.items ≡ item_text (message_of item.now)) }
+{
+    let mut text = Vec::new(alloc);
+    if let Item::Pong(_) = item {
+        return Ok(text);
+    }
+    match write_payload(alloc, Serializer::Json, item, &mut text) {
+        Ok(()) => Ok(text),
+        Err(_) => Err(AllocError),
+    }
+}
+
 /// The line of an item.
 pub fn print_item(
     alloc: Global,
@@ -40,26 +53,8 @@ pub fn print_item(
     ensures printed { OnOk result (out.new.items ≡ out.old.items ++ printed
         number (item_text (message_of item.now))) }
 {
-    match item_message(alloc, item)? {
-        Some(message) => print_message(alloc, out, number, &message),
-        None => print(out, number, b""),
-    }
-}
-
-/// The line of a message.
-fn print_message(
-    alloc: Global,
-    out: &mut Vec<u8>,
-    number: Conn,
-    message: &Message,
-) -> Result<(), AllocError>
-    ensures printed { OnOk result (out.new.items ≡ out.old.items ++ printed
-        number (json_text (meaning message.now))) }
-{
-    match json_codec::encode(alloc, message) {
-        Ok(text) => print(out, number, &text),
-        Err(_) => Err(AllocError),
-    }
+    let text = text_of(alloc, item)?;
+    print(out, number, &text)
 }
 
 /// The lines of what was given.

@@ -3,7 +3,8 @@ ghost use Rattle.std.specs.Prelude.{◌≡◌, IfOk};
 ghost use Rattle.replay.specs.Speech.{Hears};
 
 use crate::fault::Fault;
-use session::read_said;
+use rawsocket::Serializer;
+use session::read_payload;
 use std::alloc::{AllocError, Global};
 
 /// What the text of a line is.
@@ -17,20 +18,17 @@ pub enum Speech {
     Noise,
 }
 
-/// What the text of a line is.
+/// What the text of a line is. A message is read as a client's is that speaks JSON.
+#[tactic(auto, using(crate::proofs::SpeechLemmas::said_is_heard, crate::proofs::SpeechLemmas::nothing_is_noise))]
 pub fn read_speech(alloc: Global, text: &[u8]) -> Result<Speech, AllocError>
     ensures heard { IfOk result (Hears text.now) }
 {
     if text == b"gone".as_slice() {
         return Ok(Speech::Gone);
     }
-    match json_codec::decode(alloc, text) {
-        Ok(message) => match read_said(alloc, message) {
-            Ok(said) => Ok(Speech::Said(said)),
-            Err(session::Fault::NoMemory) => Err(AllocError),
-            Err(_) => Ok(Speech::Noise),
-        },
-        Err(json_codec::Fault::NoMemory) => Err(AllocError),
+    match read_payload(alloc, Serializer::Json, text) {
+        Ok(said) => Ok(Speech::Said(said)),
+        Err(session::Fault::NoMemory) => Err(AllocError),
         Err(_) => Ok(Speech::Noise),
     }
 }
