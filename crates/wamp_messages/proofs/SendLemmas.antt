@@ -1,6 +1,6 @@
 -- What a client says, what is published and what is owed may go to other threads and be read by several.
 use denote.Param.Send.{IsSend, IsSync, sendable}
-use denote.Param.SendFields.{variants_send, variants_sync}
+use denote.Param.SendFields.{declared_send, declared_sync, variants_send, variants_sync}
 use Rattle.std.proofs.Crossing.{crosses}
 use Rattle.std.proofs.MapsCrossing.{crosses as maps}
 use Rattle.message_tree.proofs.shared.Shared.TheSendSync as shared_law
@@ -43,10 +43,10 @@ publish_options_sync : IsSync options.the_row
 publish_options_sync = search (lists_sync, sendable) depth 60 fits 20000
 
 publish_send : IsSend publish.the_row
-publish_send = search (publish_options_send, text_send, args_send, sendable) depth 60 fits 20000
+publish_send = declared_send publish.the_type (search sendable, (publish_options_send, (search (text_send, sendable) depth 60, (search (args_send, sendable) depth 60, tt))))
 
 publish_sync : IsSync publish.the_row
-publish_sync = search (publish_options_sync, text_sync, args_sync, crosses, sendable) depth 60 fits 20000
+publish_sync = declared_sync publish.the_type (search (crosses, sendable) depth 60, (publish_options_sync, (search (text_sync, sendable) depth 60, (search (args_sync, sendable) depth 60, tt))))
 
 subscribe_options_send : IsSend asking.the_row
 subscribe_options_send = search (crosses, sendable) depth 60 fits 20000
