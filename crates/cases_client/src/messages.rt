@@ -1,7 +1,7 @@
 //! What a client says, from a message that a broker reads.
 use client_messages::ClientMessage;
 use message_tree::{Dict, Message, Options, Tree};
-use session::{Fault, Said, read_said};
+use session::{Fault, Publish, Said, read_said};
 use std::alloc::{AllocError, Global};
 
 /// The third element, where it is a dictionary.
@@ -21,12 +21,14 @@ pub fn client_message(alloc: Global, message: Message) -> Result<ClientMessage, 
         Said::Hello { realm, authid } => ClientMessage::Hello { realm, authid },
         Said::Abort => ClientMessage::Abort,
         Said::Goodbye => ClientMessage::Goodbye,
-        Said::Publish {
-            request,
-            options: _,
-            topic,
-            args,
-        } => ClientMessage::Publish {
+        Said::Publish(
+            Publish {
+                request,
+                options: _,
+                topic,
+                args,
+            },
+        ) => ClientMessage::Publish {
             request,
             options,
             topic,

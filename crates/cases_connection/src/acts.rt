@@ -113,7 +113,7 @@ impl Posting<Nowhere> for Log {
 
 fn published_by(act: Act<Nowhere>) -> Option<CarriedArgs> {
     match act {
-        Act::Said(Said::Publish { args, .. }) => CarriedArgs::of(args).ok(),
+        Act::Said(Said::Publish(publish)) => CarriedArgs::of(publish.args).ok(),
         _ => None,
     }
 }
@@ -136,11 +136,11 @@ fn tell_said(out: &mut String, said: &Said) -> io::Result<()> {
         Said::Hello { .. } => Ok(out.push_str("hello")?),
         Said::Abort => Ok(out.push_str("abort")?),
         Said::Goodbye => Ok(out.push_str("goodbye")?),
-        Said::Publish { request, topic, .. } => tell_request(
+        Said::Publish(publish) => tell_request(
             out,
             "publish",
-            request.value(),
-            topic.as_str(),
+            publish.request.value(),
+            publish.topic.as_str(),
         ),
         Said::Subscribe { request, topic, .. } => tell_request(
             out,

@@ -15,7 +15,7 @@ fn args_of(alloc: Global, json: &str) -> Option<CarriedArgs> {
     let text = format!(in alloc; "[16,1,{{}},\"a.b\",{json}]").ok()?;
     let message = json_codec::decode(alloc, text.as_bytes()).ok()?;
     match read_said(alloc, message).ok()? {
-        Said::Publish { args, .. } => CarriedArgs::of(args).ok(),
+        Said::Publish(publish) => CarriedArgs::of(publish.args).ok(),
         _ => None,
     }
 }

@@ -24,7 +24,7 @@ fn listed(alloc: Global) -> io::Result<String> {
 pub fn args_of(alloc: Global, json: &str) -> Option<Args> {
     let message = json_codec::decode(alloc, json.as_bytes()).ok()?;
     match read_said(alloc, message).ok()? {
-        Said::Publish { args, .. } => Some(args),
+        Said::Publish(publish) => Some(publish.args),
         _ => None,
     }
 }

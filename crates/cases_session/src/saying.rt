@@ -2,7 +2,7 @@
 use crate::asking::{publish_options, subscribe_options};
 use message_tree::{Message, Text, Tree};
 use rawsocket::Serializer;
-use session::{Args, Fault, Said, decode, read_payload, read_said};
+use session::{Args, Fault, Publish, Said, decode, read_payload, read_said};
 use std::alloc::Global;
 use std::io;
 use wamp_ids::Id;
@@ -39,22 +39,7 @@ fn in_words(alloc: Global, said: Said) -> io::Result<String> {
         Said::Hello { realm, authid } => hello(alloc, realm, authid),
         Said::Abort => Ok(String::from_str(alloc, "abort\n")?),
         Said::Goodbye => Ok(String::from_str(alloc, "goodbye\n")?),
-        Said::Publish {
-            request,
-            options,
-            topic,
-            args,
-        } => {
-            let options = publish_options(alloc, &options)?;
-            let args = args_in_words(alloc, &args)?;
-            asked(
-                alloc,
-                ("publish", options.as_str()),
-                request,
-                topic,
-                args.as_str(),
-            )
-        }
+        Said::Publish(publish) => published(alloc, publish),
         Said::Subscribe {
             request,
             options,
@@ -68,6 +53,18 @@ fn in_words(alloc: Global, said: Said) -> io::Result<String> {
             subscription,
         } => unsubscribe(alloc, request, subscription),
     }
+}
+
+fn published(alloc: Global, publish: Publish) -> io::Result<String> {
+    let options = publish_options(alloc, &publish.options)?;
+    let args = args_in_words(alloc, &publish.args)?;
+    asked(
+        alloc,
+        ("publish", options.as_str()),
+        publish.request,
+        publish.topic,
+        args.as_str(),
+    )
 }
 
 /// A text within a line: a line feed in it is spelled.

@@ -6,12 +6,12 @@ ghost use Rattle.realm_inbox.specs.Posted.{with_acts};
 use crate::in_use::InUse;
 use rawsocket::Serializer;
 use realm_inbox::{Act, Posting, Shut};
-use session::{Args, Said};
 use std::alloc::Global;
 use std::sync::Wait;
+use wamp_messages::{Publish, Said};
 
 /// Posts what a client does by way of `poster`. The arguments of a PUBLISH get the octets beside them that they are in an EVENT in JSON
-/// ([`Args::with_json`]), where two live sessions or more use JSON beside the publisher's; so the writers of its receivers copy octets, and
+/// ([`session::Args::with_json`]), where two live sessions or more use JSON beside the publisher's; so the writers of its receivers copy octets, and
 /// the work is done by the publisher's reader, beside the realm's actor.
 ///
 /// What is posted is the same to every contract. Where memory is refused for the octets, the arguments are posted without them. A
@@ -60,24 +60,20 @@ fn encoded_said(alloc: Global, said: Said) -> Said
     ensures { result ≡ said }
 {
     match said {
-        Said::Publish {
-            request,
-            options,
-            topic,
-            args,
-        } => {
-            let args = if options.retain == Some(true) {
-                args
-            } else {
-                args.with_json(alloc)
-            };
-            Said::Publish {
-                request,
-                options,
-                topic,
-                args,
-            }
-        }
+        Said::Publish(publish) => Said::Publish(encoded_publish(alloc, publish)),
         other => other,
+    }
+}
+
+// The same PUBLISH.
+fn encoded_publish(alloc: Global, publish: Publish) -> Publish
+    ensures { result ≡ publish }
+{
+    if publish.options.retain == Some(true) {
+        return publish;
+    }
+    Publish {
+        args: publish.args.with_json(alloc),
+        ..publish
     }
 }

@@ -13,7 +13,7 @@ const URI_TIMES: usize = 64;
 // How many octets the topic or the pattern has that was said. None where there is none.
 fn uri_octets(said: &Said) -> usize {
     match said {
-        Said::Publish { topic, .. } => topic.as_str().len(),
+        Said::Publish(publish) => publish.topic.as_str().len(),
         Said::Subscribe { topic, .. } => topic.as_str().len(),
         _ => 0,
     }

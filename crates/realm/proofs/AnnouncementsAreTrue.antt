@@ -92,8 +92,8 @@ truthful h (Join d word authid) p is_history is reserved = inl (came h d word au
 truthful h (Said d word (Hello realm authid)) p is_history is reserved = inr (went h (Said d word (Hello realm authid)) d word p (hello h d word realm authid) is)
 truthful h (Said d word Abort) p is_history is reserved = inr (went h (Said d word Abort) d word p (abort h d word) is)
 truthful h (Said d word Goodbye) p is_history is reserved = inr (went h (Said d word Goodbye) d word p (goodbye h d word) is)
-truthful h (Said d word (Publish request options topic args)) p is_history is reserved =
-    both (is_reserved p.topic) reserved (by-someone (who h d) _ p (λ w made answer. unreserved _ word w topic args (accepted_options_of options) made answer) is)
+truthful h (Said d word (Publish asks)) p is_history is reserved =
+    both (is_reserved p.topic) reserved (by-someone (who h d) _ p (λ w made answer. unreserved _ word w asks.topic asks.args (accepted_options_of asks.options) made answer) is)
 truthful h (Said d word (Subscribe request options topic)) p is_history is reserved = absurd (cc)
 truthful h (Said d word (Unsubscribe request n)) p is_history is reserved = absurd (cc)
 truthful h (Ping d payload) p is_history is reserved = absurd (cc)

@@ -15,6 +15,7 @@ use Rattle.retained.specs.Store.{retained_of, has_room, may_be_retained, set_top
 use Rattle.retained.proofs.Lemmas.{retained-more, has_room-retained}
 use Rattle.eligibility.specs.declared.who.Who.{Who}
 use Rattle.wamp_messages.specs.Arguments.{Arguments}
+use Rattle.wamp_messages.specs.declared.publish.Publish.{Publish as Publishing}
 use Rattle.wamp_messages.specs.declared.said.Said.TheVariants.{Hello, Publish, Subscribe, Unsubscribe}
 use Rattle.wamp_messages.specs.declared.said.Said.TheVariants as say
 use Rattle.wamp_messages.specs.declared.item.Publication.{Publication}
@@ -175,10 +176,10 @@ turns-ping s c payload given is h agrees come = record {
 }
 
 -- a PUBLISH
-kept-next : (h : History) (c word request : ℕ) (options : PublishOptions) (topic : List ℕ) (args : Arguments)
-    → kept (h ▷ Said c word (Publish request options topic args)) ≡ if_retained (published h c word options topic args) ++ kept h
+kept-next : (h : History) (c word : ℕ) (asks : Publishing)
+    → kept (h ▷ Said c word (Publish asks)) ≡ if_retained (published h c word asks.options asks.topic asks.args) ++ kept h
 unfolding kept
-kept-next h c word request options topic args = refl
+kept-next h c word asks = refl
 
 refused-items : (c request : ℕ) (flag : Option Bool) (reason : Reason) → refused c request flag reason ≡ all_for c (publish_reply request flag (Err reason))
 refused-items c request None reason = refl
@@ -201,15 +202,15 @@ told-first s c request None made = refl
 told-first s c request (Some true) made = refl
 told-first s c request (Some false) made = refl
 
-gives-published : (h : History) (s : State) (c word request : ℕ) (options : PublishOptions) (topic : List ℕ) (args : Arguments) (made : Made) → Agrees h s
-    → published h c word options topic args ≡ Ok made
-    → GivesExactly h (Said c word (Publish request options topic args)) (told s c request options.acknowledge made.publication)
-gives-published h s c word request options topic args made agrees accepted =
-    gives-told h s (Said c word (Publish request options topic args)) (acknowledged request options.acknowledge made) made.publication
-    (told s c request options.acknowledge made.publication) agrees
-    (ap (publish_reply request options.acknowledge) accepted ∙ acknowledged-reply request options.acknowledge made)
+gives-published : (h : History) (s : State) (c word : ℕ) (asks : Publishing) (made : Made) → Agrees h s
+    → published h c word asks.options asks.topic asks.args ≡ Ok made
+    → GivesExactly h (Said c word (Publish asks)) (told s c asks.request asks.options.acknowledge made.publication)
+gives-published h s c word asks made agrees accepted =
+    gives-told h s (Said c word (Publish asks)) (acknowledged asks.request asks.options.acknowledge made) made.publication
+    (told s c asks.request asks.options.acknowledge made.publication) agrees
+    (ap (publish_reply asks.request asks.options.acknowledge) accepted ∙ acknowledged-reply asks.request asks.options.acknowledge made)
     (λ d. rw accepted refl)
-    (told-first s c request options.acknowledge made)
+    (told-first s c asks.request asks.options.acknowledge made)
 
 -- what a PUBLISH makes, by what is kept
 abbrev made_of : State → ℕ → ℕ → PublishOptions → List ℕ → Arguments → Who → Result Made Reason
@@ -221,24 +222,24 @@ published-same h s c word options topic args w agrees is =
     let room_is : has_room s.store topic ≡ may_be_retained (kept h) topic = ap (λ x. has_room x topic) agrees.store ∙ has_room-retained (kept h) topic in
     rw (is, room_is) refl
 
-turned-published : (h : History) (s t : State) (c word request : ℕ) (options : PublishOptions) (topic : List ℕ) (args : Arguments) (given : List (ℕ × Item)) (r : Result Made Reason)
-    → Agrees h s → live h c ≡ true → published h c word options topic args ≡ r → IsPublished (record { old = s; new = t; given = given }) (record { conn = c; request = request }) options.acknowledge r
-    → Turned h (Said c word (Publish request options topic args)) s t given
-turned-published h s t c word request options topic args given (Err reason) agrees come answer is =
-    let e = Said c word (Publish request options topic args) in
+turned-published : (h : History) (s t : State) (c word : ℕ) (asks : Publishing) (given : List (ℕ × Item)) (r : Result Made Reason)
+    → Agrees h s → live h c ≡ true → published h c word asks.options asks.topic asks.args ≡ r → IsPublished (record { old = s; new = t; given = given }) (record { conn = c; request = asks.request }) asks.options.acknowledge r
+    → Turned h (Said c word (Publish asks)) s t given
+turned-published h s t c word asks given (Err reason) agrees come answer is =
+    let e = Said c word (Publish asks) in
     record {
-      gives = gives-reply h e given (is.0 ∙ (refused-items c request options.acknowledge reason ∙ ap (λ r. all_for c (publish_reply request options.acknowledge r)) (sym answer))) (λ d. rw answer refl);
-      agrees = rw is.1 (agrees-kept h e s s agrees come refl (publish h c word request options topic args) (publish-held h c word request options topic args) refl refl refl refl
-          (agrees.store ∙ ap retained_of (sym (kept-next h c word request options topic args ∙ ap (λ r. if_retained r ++ kept h) answer))));
+      gives = gives-reply h e given (is.0 ∙ (refused-items c asks.request asks.options.acknowledge reason ∙ ap (λ r. all_for c (publish_reply asks.request asks.options.acknowledge r)) (sym answer))) (λ d. rw answer refl);
+      agrees = rw is.1 (agrees-kept h e s s agrees come refl (publish h c word asks) (publish-held h c word asks) refl refl refl refl
+          (agrees.store ∙ ap retained_of (sym (kept-next h c word asks ∙ ap (λ r. if_retained r ++ kept h) answer))));
       grown = rw is.1 (no-more s.sessions);
       shrunk = λ silent. absurd (cc);
     }
-turned-published h s t c word request options topic args given (Ok made) agrees come answer is =
-    let e = Said c word (Publish request options topic args) in
+turned-published h s t c word asks given (Ok made) agrees come answer is =
+    let e = Said c word (Publish asks) in
     record {
-      gives = rw is.0 (gives-published h s c word request options topic args made agrees answer);
-      agrees = rw is.1 (agrees-kept h e s (record s { store = stored s made }) agrees come refl (publish h c word request options topic args) (publish-held h c word request options topic args) refl refl refl refl
-          (sym (ap retained_of (kept-next h c word request options topic args ∙ ap (λ r. if_retained r ++ kept h) answer) ∙ at made.retained)));
+      gives = rw is.0 (gives-published h s c word asks made agrees answer);
+      agrees = rw is.1 (agrees-kept h e s (record s { store = stored s made }) agrees come refl (publish h c word asks) (publish-held h c word asks) refl refl refl refl
+          (sym (ap retained_of (kept-next h c word asks ∙ ap (λ r. if_retained r ++ kept h) answer) ∙ at made.retained)));
       grown = rw is.1 (no-more s.sessions);
       shrunk = λ silent. absurd (cc);
     }
@@ -247,13 +248,13 @@ turned-published h s t c word request options topic args given (Ok made) agrees 
     at true = retained-more made.publication (kept h) ∙ ap (set_topic made.publication) (sym agrees.store)
     at false = sym agrees.store
 
-pub turns-published : (s t : State) (c word request : ℕ) (options : PublishOptions) (topic : List ℕ) (args : Arguments) (given : List (ℕ × Item))
-    → ((w : Who) → session_of s.sessions c ≡ Some w → IsPublished (record { old = s; new = t; given = given }) (record { conn = c; request = request }) options.acknowledge (made_of s c word options topic args w))
-    → Turns s (Said c word (Publish request options topic args)) t given
-turns-published s t c word request options topic args given is h agrees come =
+pub turns-published : (s t : State) (c word : ℕ) (asks : Publishing) (given : List (ℕ × Item))
+    → ((w : Who) → session_of s.sessions c ≡ Some w → IsPublished (record { old = s; new = t; given = given }) (record { conn = c; request = asks.request }) asks.options.acknowledge (made_of s c word asks.options asks.topic asks.args w))
+    → Turns s (Said c word (Publish asks)) t given
+turns-published s t c word asks given is h agrees come =
     let lives = session-lives h s c agrees come in
-    let same = published-same h s c word options topic args lives.0 agrees lives.1 in
-    turned-published h s t c word request options topic args given (made_of s c word options topic args lives.0) agrees come same (is lives.0 (agrees.sessions c ∙ lives.1))
+    let same = published-same h s c word asks.options asks.topic asks.args lives.0 agrees lives.1 in
+    turned-published h s t c word asks given (made_of s c word asks.options asks.topic asks.args lives.0) agrees come same (is lives.0 (agrees.sessions c ∙ lives.1))
 
 -- a SUBSCRIBE
 filter-both : (f g : Publication → Bool) (ps : List Publication) → filter g (filter f ps) ≡ filter (λ p. f p && g p) ps

@@ -56,7 +56,7 @@ module _ (P : Publication → Type 0) where
   reply-none h (Said c word (Hello realm authid)) = (tt, tt)
   reply-none h (Said c word say.Abort) = tt
   reply-none h (Said c word say.Goodbye) = (tt, tt)
-  reply-none h (Said c word (Publish request options topic args)) = publish-none request options.acknowledge (published h c word options topic args)
+  reply-none h (Said c word (Publish asks)) = publish-none asks.request asks.options.acknowledge (published h c word asks.options asks.topic asks.args)
   reply-none h (Said c word (Subscribe request options topic)) =
       subscribe-none request (number (h ▷ Said c word (Subscribe request options topic))) (subscribed h c options topic)
   reply-none h (Said c word (Unsubscribe request n)) = unsubscribe-none request (holds_number h c n)

@@ -179,8 +179,8 @@ module _ (Backs : ℕ → Type 0) where
   reply-plain seen h (Said c word (Hello realm authid)) = (tt, tt)
   reply-plain seen h (Said c word say.Abort) = tt
   reply-plain seen h (Said c word say.Goodbye) = (tt, tt)
-  reply-plain seen h (Said c word (Publish request options topic args)) =
-      publish-plain seen request options.acknowledge (published h c word options topic args)
+  reply-plain seen h (Said c word (Publish asks)) =
+      publish-plain seen asks.request asks.options.acknowledge (published h c word asks.options asks.topic asks.args)
   reply-plain seen h (Said c word (Subscribe request options topic)) =
       subscribe-plain seen request (number (h ▷ Said c word (Subscribe request options topic))) (subscribed h c options topic)
   reply-plain seen h (Said c word (Unsubscribe request n)) = unsubscribe-plain seen request (holds_number h c n)

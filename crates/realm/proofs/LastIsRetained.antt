@@ -3,11 +3,10 @@ use Rattle.std.proofs.Common.{◌≡◌, ℕ, Bool, true, false, cond, eqb, List
 use Rattle.std.specs.declared.result.Result.{Result}
 use Rattle.std.specs.Result.{result_ok}
 use Rattle.std.specs.List.{filter}
-use Rattle.wamp_messages.specs.declared.publish_options.PublishOptions.{PublishOptions}
 use Rattle.wamp_ids.specs.Pattern.{PatternText, matches}
 use Rattle.retained.specs.Store.{last_of_each, by_topic, put_by_topic, is_before}
 use Rattle.retained.proofs.Lemmas.{last_alone}
-use Rattle.wamp_messages.specs.Arguments.{Arguments}
+use Rattle.wamp_messages.specs.declared.publish.Publish.{Publish as Publishing}
 use Rattle.wamp_messages.specs.declared.said.Said.TheVariants.{Publish}
 use Rattle.wamp_messages.specs.declared.item.Publication.{Publication}
 use Rattle.wamp_messages.specs.declared.item.Item.{Item}
@@ -83,13 +82,13 @@ among-events p n pattern (s ∷ ss) among fits = at (matches s.1 p.topic) refl a
     at false is (inl here) later = absurd (let other : matches pattern p.topic ≡ false = ap (λ x. matches x.1 p.topic) here ∙ is in cc)
     at false is (inr there) later = later there
 
-published-sent : (h : History) (d word request : ℕ) (options : PublishOptions) (topic : List ℕ) (args : Arguments) (made : Made) → published h d word options topic args ≡ Ok made
+published-sent : (h : History) (d word : ℕ) (asks : Publishing) (made : Made) → published h d word asks.options asks.topic asks.args ≡ Ok made
     → (c n : ℕ) (pattern : PatternText) → IsAmong (n, pattern) (held h c) → matches pattern made.publication.topic ≡ true → admits_who made.publication (who h c) ≡ true
-    → IsAmong (Event n made.publication (names_topic pattern.policy) false) (yield h (Said d word (Publish request options topic args)) c)
+    → IsAmong (Event n made.publication (names_topic pattern.policy) false) (yield h (Said d word (Publish asks)) c)
 unfolding yield
-published-sent h d word request options topic args made accepted c n pattern among fits admits =
-    among-more (Event n made.publication (names_topic pattern.policy) false) (cond (eqb d c) (reply h (Said d word (Publish request options topic args))) [])
-    (sent_events (option_map (λ m. m.publication) (result_ok (published h d word options topic args))) (who h c) (held h c))
+published-sent h d word asks made accepted c n pattern among fits admits =
+    among-more (Event n made.publication (names_topic pattern.policy) false) (cond (eqb d c) (reply h (Said d word (Publish asks))) [])
+    (sent_events (option_map (λ m. m.publication) (result_ok (published h d word asks.options asks.topic asks.args))) (who h c) (held h c))
     (rw (accepted, admits) (among-events made.publication n pattern (held h c) among fits))
 
 grown : (h : History) (e : Entry) (p : Publication) → WasSent h p → WasSent (h ▷ e) p
@@ -97,10 +96,7 @@ grown h e p s = record {
   before = s.before;
   conn = s.conn;
   word = s.word;
-  request = s.request;
-  options = s.options;
-  topic = s.topic;
-  args = s.args;
+  asks = s.asks;
   begins = longer s.begins;
   made = s.made;
   sent = s.sent;
@@ -109,34 +105,31 @@ grown h e p s = record {
 sent-kept : (h : History) (p : Publication) → IsAmong p (kept h) → WasSent h p
 unfolding kept
 sent-kept (begun grants) p among = absurd among
-sent-kept (h ▷ Said d word (Publish request options topic args)) p among =
-    at (published h d word options topic args) refl among (sent-kept h p)
+sent-kept (h ▷ Said d word (Publish asks)) p among =
+    at (published h d word asks.options asks.topic asks.args) refl among (sent-kept h p)
   where
     e : Entry
-    e = Said d word (Publish request options topic args)
+    e = Said d word (Publish asks)
 
-    at : (r : Result Made Reason) → published h d word options topic args ≡ r → IsAmong p (if_retained r ++ kept h) → (IsAmong p (kept h) → WasSent h p)
-        → WasSent (h ▷ Said d word (Publish request options topic args)) p
+    at : (r : Result Made Reason) → published h d word asks.options asks.topic asks.args ≡ r → IsAmong p (if_retained r ++ kept h) → (IsAmong p (kept h) → WasSent h p)
+        → WasSent (h ▷ Said d word (Publish asks)) p
     at (Err reason) is there later = grown h e p (later there)
     at (Ok made) is there later = to_be made.retained refl there
       where
         whole : made.retained ≡ true → p ≡ made.publication → ◌≡◌ {A = Result Made Reason} (Ok made) (Ok (record { publication = p; retained = true }))
         whole retain here = ap (λ b. Ok (record { publication = made.publication; retained = b })) retain ∙ ap (λ q. Ok (record { publication = q; retained = true })) (sym here)
 
-        to_be : (b : Bool) → made.retained ≡ b → IsAmong p (cond b (made.publication ∷ []) [] ++ kept h) → WasSent (h ▷ Said d word (Publish request options topic args)) p
+        to_be : (b : Bool) → made.retained ≡ b → IsAmong p (cond b (made.publication ∷ []) [] ++ kept h) → WasSent (h ▷ Said d word (Publish asks)) p
         to_be false retain rest = grown h e p (later rest)
         to_be true retain (inr rest) = grown h e p (later rest)
         to_be true retain (inl here) = record {
           before = h;
           conn = d;
           word = word;
-          request = request;
-          options = options;
-          topic = topic;
-          args = args;
+          asks = asks;
           begins = same;
           made = is ∙ whole retain here;
-          sent = rw here (published-sent h d word request options topic args made is);
+          sent = rw here (published-sent h d word asks made is);
         }
 sent-kept (h ▷ e) p among = grown h e p (sent-kept h p among)
 

@@ -29,7 +29,7 @@ own-events h (Join d word authid) c ending = absurd (cc)
 own-events h (Said d word (Hello realm authid)) c ending = own-departure h d c word (and_parts (eqb d c) true ending).0
 own-events h (Said d word Abort) c ending = own-departure h d c word (and_parts (eqb d c) true ending).0
 own-events h (Said d word Goodbye) c ending = own-departure h d c word (and_parts (eqb d c) true ending).0
-own-events h (Said d word (Publish request options topic args)) c ending = absurd (let no = (and_parts (eqb d c) false ending).1 in cc)
+own-events h (Said d word (Publish asks)) c ending = absurd (let no = (and_parts (eqb d c) false ending).1 in cc)
 own-events h (Said d word (Subscribe request options topic)) c ending = absurd (let no = (and_parts (eqb d c) false ending).1 in cc)
 own-events h (Said d word (Unsubscribe request n)) c ending = absurd (let no = (and_parts (eqb d c) false ending).1 in cc)
 own-events h (Ping d payload) c ending = absurd (cc)

@@ -2,10 +2,9 @@
 use Rattle.std.proofs.Common.{◌≡◌, ℕ, cond, not, ◌&&◌, eqb, List, refl, None}
 use Rattle.std.specs.declared.option.Option.{Option}
 use Rattle.std.proofs.Math.Bool.{and-true, and-false}
-use Rattle.wamp_messages.specs.declared.publish_options.PublishOptions.{PublishOptions}
 use Rattle.wamp_messages.specs.declared.subscribe_options.SubscribeOptions.{SubscribeOptions}
 use Rattle.wamp_ids.specs.Pattern.{PatternText}
-use Rattle.wamp_messages.specs.Arguments.{Arguments}
+use Rattle.wamp_messages.specs.declared.publish.Publish.{Publish as Publishing}
 use Rattle.wamp_messages.specs.declared.said.Said.TheVariants.{Hello, Abort, Goodbye, Publish, Subscribe, Unsubscribe}
 use Rattle.realm.specs.declared.entry.Entry.{Entry}
 use Rattle.realm.specs.declared.entry.Entry.TheVariants.{Join, Said, Ping, Spoilt, Gone, Cut, Closed}
@@ -90,13 +89,13 @@ pub ping-kept : (h : History) (c : ℕ) (payload : List ℕ) → kept (h ▷ Pin
 unfolding kept
 ping-kept h c payload = refl
 
-pub publish : (h : History) (c w request : ℕ) (options : PublishOptions) (topic : List ℕ) (args : Arguments) → KeepsSessions h (Said c w (Publish request options topic args))
+pub publish : (h : History) (c w : ℕ) (asks : Publishing) → KeepsSessions h (Said c w (Publish asks))
 unfolding who
-publish h c w request options topic args = record { who = λ d. rw (and-false (eqb c d)) refl; joined = refl }
+publish h c w asks = record { who = λ d. rw (and-false (eqb c d)) refl; joined = refl }
 
-pub publish-held : (h : History) (c w request : ℕ) (options : PublishOptions) (topic : List ℕ) (args : Arguments) → KeepsHeld h (Said c w (Publish request options topic args))
+pub publish-held : (h : History) (c w : ℕ) (asks : Publishing) → KeepsHeld h (Said c w (Publish asks))
 unfolding holds opened
-publish-held h c w request options topic args = record {
+publish-held h c w asks = record {
   holds = λ d p. rw (and-false (eqb c d)) (and-true (holds h d p));
   opened = refl;
 }

@@ -61,8 +61,8 @@ drawn h (Join c word authid) p is = (refl, drew word _ p (arrived word (result_o
 drawn h (Said c word (Hello realm authid)) p is = (refl, drew word _ p (departed word (who h c)) is)
 drawn h (Said c word Abort) p is = (refl, drew word _ p (departed word (who h c)) is)
 drawn h (Said c word Goodbye) p is = (refl, drew word _ p (departed word (who h c)) is)
-drawn h (Said c word (Publish request options topic args)) p is =
-    (refl, drew word (made_publication (published h c word options topic args)) p (by-someone word (who h c) _ (λ w. of-publish _ word w topic args (accepted_options_of options))) is)
+drawn h (Said c word (Publish asks)) p is =
+    (refl, drew word (made_publication (published h c word asks.options asks.topic asks.args)) p (by-someone word (who h c) _ (λ w. of-publish _ word w asks.topic asks.args (accepted_options_of asks.options))) is)
 drawn h (Said c word (Subscribe request options topic)) p is = absurd (cc)
 drawn h (Said c word (Unsubscribe request n)) p is = absurd (cc)
 drawn h (Ping c payload) p is = absurd (cc)

@@ -77,9 +77,9 @@ own-publisher h (Join c word authid) p is =
 own-publisher h (Said c word (Hello realm authid)) p is = the-publisher c _ p (departed c word (who h c) (who-conn h c)) is
 own-publisher h (Said c word Abort) p is = the-publisher c _ p (departed c word (who h c) (who-conn h c)) is
 own-publisher h (Said c word Goodbye) p is = the-publisher c _ p (departed c word (who h c) (who-conn h c)) is
-own-publisher h (Said c word (Publish request options topic args)) p is =
-    the-publisher c (made_publication (published h c word options topic args)) p
-    (by-someone c (who h c) _ (who-conn h c) (λ w. of-publish _ word w topic args (accepted_options_of options))) is
+own-publisher h (Said c word (Publish asks)) p is =
+    the-publisher c (made_publication (published h c word asks.options asks.topic asks.args)) p
+    (by-someone c (who h c) _ (who-conn h c) (λ w. of-publish _ word w asks.topic asks.args (accepted_options_of asks.options))) is
 own-publisher h (Said c word (Subscribe request options topic)) p is = absurd (cc)
 own-publisher h (Said c word (Unsubscribe request n)) p is = absurd (cc)
 own-publisher h (Ping c payload) p is = absurd (cc)

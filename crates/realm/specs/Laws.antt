@@ -1,7 +1,6 @@
 -- What holds of every history.
 use Rattle.std.specs.Prelude.{ℕ, ℤ, Bool, true, false, ◌==◌, ◌&&◌, ◌≡◌, ◌≢◌, ◌≤◌, ◌<◌, ⊤, ◌⊎◌, take, List, [], ◌∷◌, ◌++◌, None, Some, Ok, option_map}
 use Rattle.std.specs.List.{list_any}
-use Rattle.wamp_messages.specs.declared.publish_options.PublishOptions.{PublishOptions}
 use Rattle.wamp_ids.specs.Numbers.{id_of_word}
 use Rattle.wamp_ids.specs.Pattern.{PatternText, matches}
 use Rattle.wamp_ids.specs.Uri.{is_reserved}
@@ -10,7 +9,7 @@ use Rattle.eligibility.specs.Lists.{has_number}
 use Rattle.retained.specs.Store.{of_topic}
 use Rattle.realm.specs.declared.entry.Entry.{Entry}
 use Rattle.realm.specs.declared.entry.Entry.TheVariants.{Said}
-use Rattle.wamp_messages.specs.Arguments.{Arguments}
+use Rattle.wamp_messages.specs.declared.publish.Publish.{Publish as Publishing}
 use Rattle.wamp_messages.specs.declared.said.Said.TheVariants as say
 use Rattle.wamp_messages.specs.declared.item.Publication.{Publication}
 use Rattle.wamp_messages.specs.declared.item.Item.{Item}
@@ -126,14 +125,11 @@ pub record WasSent (h : History) (p : Publication) : Type 0 where
   pub before : History
   pub conn : ℕ
   pub word : ℕ
-  pub request : ℕ
-  pub options : PublishOptions
-  pub topic : List ℕ
-  pub args : Arguments
-  pub begins : Begins (before ▷ Said conn word (say.Publish request options topic args)) h
-  pub made : published before conn word options topic args ≡ Ok (record { publication = p; retained = true })
+  pub asks : Publishing
+  pub begins : Begins (before ▷ Said conn word (say.Publish asks)) h
+  pub made : published before conn word asks.options asks.topic asks.args ≡ Ok (record { publication = p; retained = true })
   pub sent : (c n : ℕ) (pattern : PatternText) → IsAmong (n, pattern) (held before c) → matches pattern p.topic ≡ true → admits_who p (who before c) ≡ true
-      → IsAmong (Event n p (names_topic pattern.policy) false) (yield before (Said conn word (say.Publish request options topic args)) c)
+      → IsAmong (Event n p (names_topic pattern.policy) false) (yield before (Said conn word (say.Publish asks)) c)
 
 -- what a new subscriber is given as retained was sent, when it was published, to each session that held a matching pattern then
 abbrev pub RetainedWasSent : Type 0

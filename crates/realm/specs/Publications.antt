@@ -67,8 +67,8 @@ if_retained (Ok made) = cond made.retained (made.publication ∷ []) []
 -- the publications of the accepted PUBLISHes of h with `retain`, the newest first
 unfoldable pub kept : History → List Publication
 kept (begun grants) = []
-kept (h ▷ Said c word (Publish request options topic args)) =
-    if_retained (published_after (kept h) (who h c) word options topic args) ++ kept h
+kept (h ▷ Said c word (Publish asks)) =
+    if_retained (published_after (kept h) (who h c) word asks.options asks.topic asks.args) ++ kept h
 kept (h ▷ e) = kept h
 
 -- the retained publications after h: the last of each topic, in ascending bytes of the topics

@@ -29,7 +29,7 @@ abbrev pub is_last_word : spoken.Said → Bool
 is_last_word (Hello realm authid) = true
 is_last_word Abort = true
 is_last_word Goodbye = true
-is_last_word (Publish request options topic args) = false
+is_last_word (Publish asks) = false
 is_last_word (Subscribe request options topic) = false
 is_last_word (Unsubscribe request subscription) = false
 

@@ -11,7 +11,7 @@ abbrev pub is_publish : spoken.Said → Bool
 is_publish (Hello realm authid) = false
 is_publish Abort = false
 is_publish Goodbye = false
-is_publish (Publish request options topic args) = true
+is_publish (Publish asks) = true
 is_publish (Subscribe request options topic) = false
 is_publish (Unsubscribe request subscription) = false
 

@@ -49,8 +49,8 @@ reply h (Join c word authid) = welcome (admission h c word authid)
 reply h (Said c word (Hello realm authid)) = Abort ProtocolViolation ∷ []
 reply h (Said c word say.Abort) = []
 reply h (Said c word say.Goodbye) = Goodbye GoodbyeAndOut ∷ []
-reply h (Said c word (Publish request options topic args)) =
-    publish_reply request options.acknowledge (published h c word options topic args)
+reply h (Said c word (Publish asks)) =
+    publish_reply asks.request asks.options.acknowledge (published h c word asks.options asks.topic asks.args)
 reply h (Said c word (Subscribe request options topic)) =
     subscribe_reply request (number (h ▷ Said c word (Subscribe request options topic))) (subscribed h c options topic) ∷ []
 reply h (Said c word (Unsubscribe request n)) = unsubscribe_reply request (holds_number h c n) ∷ []
@@ -66,7 +66,7 @@ publication_of h (Join c word authid) = option_map (arrival word) (result_ok (ad
 publication_of h (Said c word (Hello realm authid)) = option_map (departure word) (who h c)
 publication_of h (Said c word say.Abort) = option_map (departure word) (who h c)
 publication_of h (Said c word say.Goodbye) = option_map (departure word) (who h c)
-publication_of h (Said c word (Publish request options topic args)) = option_map (λ made. made.publication) (result_ok (published h c word options topic args))
+publication_of h (Said c word (Publish asks)) = option_map (λ made. made.publication) (result_ok (published h c word asks.options asks.topic asks.args))
 publication_of h (Said c word (Subscribe request options topic)) = None
 publication_of h (Said c word (Unsubscribe request n)) = None
 publication_of h (Ping c payload) = None

@@ -114,22 +114,7 @@ fn answer_said(
             let last = Item::Goodbye(Reason::GoodbyeAndOut);
             leave(alloc, state, conn, word, Some(last))
         }
-        Said::Publish {
-            request,
-            options,
-            topic,
-            args,
-        } => {
-            let asked = PublishRequest {
-                conn,
-                word,
-                request,
-                options,
-                topic,
-                args,
-            };
-            publish(alloc, state, asked)
-        }
+        Said::Publish(what) => publish(alloc, state, PublishRequest { conn, word, what }),
         Said::Subscribe {
             request,
             options,

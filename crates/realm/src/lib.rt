@@ -46,6 +46,6 @@ pub use entry::{Entry, says_with_word};
 pub use fault::Fault;
 pub use realm::{Realm, RealmConfig};
 pub use wamp_messages::{
-    Args, CarriedArgs, Item, Lists, Publication, PublishOptions, Reason, Request, Said,
+    Args, CarriedArgs, Item, Lists, Publication, Publish, PublishOptions, Reason, Request, Said,
     SubscribeOptions, Who,
 };

@@ -17,17 +17,16 @@ use message_tree::{Shared, Text};
 use retained::Store;
 use std::alloc::Global;
 use wamp_ids::{Conn, Id, Topic};
-use wamp_messages::{Args, CarriedArgs, Item, Publication, PublishOptions, Reason, Request, Who};
+use wamp_messages::{
+    Args, CarriedArgs, Item, Publication, Publish, PublishOptions, Reason, Request, Who,
+};
 
-/// A PUBLISH. Answering spends it: its lists, topic and arguments are moved.
+/// A PUBLISH, and the word of its publication's id. Answering spends it: its lists, topic and arguments are moved.
 #[derive(Drop)]
 pub struct PublishRequest {
     pub conn: Conn,
     pub word: u64,
-    pub request: Id,
-    pub options: PublishOptions,
-    pub topic: Text,
-    pub args: Args,
+    pub what: Publish,
 }
 
 /// Who asks, and whether for an answer; where its option has a wrong type, it doesn't.
@@ -236,19 +235,18 @@ pub fn publish(alloc: Global, state: &mut State, asked: PublishRequest) -> Resul
     requires held { AreHeld state.old.sessions state.old.index.rows }
     ensures ok { IfOk result (λ given. (w : Who) → session_of state.old.sessions asked.conn ≡ Some w
         → IsPublished (record { old = state.old; new = state.new; given = given.items })
-        (record { conn = asked.conn; request = asked.request }) asked.options.acknowledge
-        (published_by (has_room state.old.store asked.topic) asked.word w asked.topic asked.args
-        (accepted_options_of asked.options))) }
+        (record { conn = asked.conn; request = asked.what.request }) asked.what.options.acknowledge
+        (published_by (has_room state.old.store asked.what.topic) asked.word w asked.what.topic
+        asked.what.args (accepted_options_of asked.what.options))) }
     ensures unchanged { OnErr result (state.new ≡ state.old) }
 {
-    let PublishRequest {
-        conn,
-        word,
+    let PublishRequest { conn, word, what } = asked;
+    let Publish {
         request,
         options,
         topic,
         args,
-    } = asked;
+    } = what;
     let requester = Requester {
         conn,
         request,

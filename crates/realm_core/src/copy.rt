@@ -4,7 +4,7 @@ ghost use Rattle.std.specs.Prelude.{◌≡◌, IfOk};
 use message_tree::Text;
 use realm::Entry;
 use std::alloc::{AllocError, Global};
-use wamp_messages::Said;
+use wamp_messages::{Publish, Said};
 
 /// A copy of an optional text.
 fn copy_of_text(alloc: Global, text: &Option<Text>) -> Result<Option<Text>, AllocError>
@@ -14,6 +14,18 @@ fn copy_of_text(alloc: Global, text: &Option<Text>) -> Result<Option<Text>, Allo
         None => Ok(None),
         Some(text) => Ok(Some(text.try_copy(alloc)?)),
     }
+}
+
+/// A copy of a PUBLISH.
+fn copy_of_publish(alloc: Global, publish: &Publish) -> Result<Publish, AllocError>
+    ensures { IfOk result (λ copy. copy ≡ publish.now) }
+{
+    Ok(Publish {
+        request: publish.request,
+        options: publish.options.twin()?,
+        topic: publish.topic.try_copy(alloc)?,
+        args: publish.args.try_copy(alloc)?,
+    })
 }
 
 /// A copy of what a client said.
@@ -27,17 +39,7 @@ fn copy_of_said(alloc: Global, said: &Said) -> Result<Said, AllocError>
         }),
         Said::Abort => Ok(Said::Abort),
         Said::Goodbye => Ok(Said::Goodbye),
-        Said::Publish {
-            request,
-            options,
-            topic,
-            args,
-        } => Ok(Said::Publish {
-            request: *request,
-            options: options.twin()?,
-            topic: topic.try_copy(alloc)?,
-            args: args.try_copy(alloc)?,
-        }),
+        Said::Publish(publish) => Ok(Said::Publish(copy_of_publish(alloc, publish)?)),
         Said::Subscribe {
             request,
             options,

@@ -20,8 +20,8 @@ mod step;
 mod world;
 
 pub use realm::{
-    Args, CarriedArgs, Entry, Fault, Item, Lists, Publication, PublishOptions, Realm, RealmConfig,
-    Reason, Request, Said, SubscribeOptions, Who, says_with_word,
+    Args, CarriedArgs, Entry, Fault, Item, Lists, Publication, Publish, PublishOptions, Realm,
+    RealmConfig, Reason, Request, Said, SubscribeOptions, Who, says_with_word,
 };
 pub use step::{Step, Stepped};
 pub use world::{Run, World};

@@ -72,7 +72,7 @@ no-first : (said : Said) (realms : List (List ℕ)) → is_hello said ≡ false 
 no-first (say.Hello realm authid) realms other = absurd (cc)
 no-first say.Abort realms other = refl
 no-first say.Goodbye realms other = refl
-no-first (say.Publish request options topic args) realms other = refl
+no-first (say.Publish asks) realms other = refl
 no-first (say.Subscribe request options topic) realms other = refl
 no-first (say.Unsubscribe request subscription) realms other = refl
 

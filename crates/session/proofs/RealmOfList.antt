@@ -27,7 +27,7 @@ first_within : (realms : List (List ℕ)) (said : Said) (asked : ℕ × Option (
 first_within realms (Hello realm authid) asked e = place_within realms realm authid asked (position (λ r. bytes_eq r realm) realms) refl e
 first_within realms Abort asked e = absurd (cc)
 first_within realms Goodbye asked e = absurd (cc)
-first_within realms (Publish request options topic args) asked e = absurd (cc)
+first_within realms (Publish asks) asked e = absurd (cc)
 first_within realms (Subscribe request options topic) asked e = absurd (cc)
 first_within realms (Unsubscribe request subscription) asked e = absurd (cc)
 

@@ -83,7 +83,7 @@ ending said ds = and_then (first dict_of ds) (λ details more. and_then (first t
 unfoldable pub publish : Items → Option Said
 publish ds =
     and_then (first id_of ds) (λ request more. and_then (first publish_options_in more) (λ options others. and_then (first text_of others) (λ topic rest.
-    option_map (Publish request options topic) (arguments_of rest))))
+    option_map (λ args. Publish (record { request = request; options = options; topic = topic; args = args })) (arguments_of rest))))
 
 -- Request, Options, Topic
 unfoldable pub subscribe : Items → Option Said

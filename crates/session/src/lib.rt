@@ -35,8 +35,8 @@ pub use opening::hello::First;
 pub use opening::open_session;
 pub use opening::opened_session::Opened;
 pub use wamp_messages::{
-    Args, CarriedArgs, Decoded, Item, Lists, Publication, PublishOptions, Reason, Request, Said,
-    SaidKind, SubscribeOptions, Who,
+    Args, CarriedArgs, Decoded, Item, Lists, Publication, Publish, PublishOptions, Reason, Request,
+    Said, SaidKind, SubscribeOptions, Who,
 };
 pub use wire::item_frames::{write_item, write_payload};
 pub use wire::serializer::decode;

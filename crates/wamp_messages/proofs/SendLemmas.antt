@@ -1,6 +1,6 @@
 -- What a client says, what is published and what is owed may go to other threads and be read by several.
 use denote.Param.Send.{IsSend, IsSync, sendable}
-use denote.Param.SendFields.{variants_send, variants_sync}
+use denote.Param.SendFields.{declared_send, declared_sync, variants_send, variants_sync}
 use Rattle.std.proofs.Crossing.{crosses}
 use Rattle.std.proofs.MapsCrossing.{crosses as maps}
 use Rattle.message_tree.proofs.shared.Shared.TheSendSync as shared_law
@@ -8,6 +8,7 @@ use Rattle.message_tree.specs.contracts.shared.Shared as shared
 use Rattle.eligibility.proofs.who.Who.TheSendSync as who_law
 use Rattle.eligibility.specs.contracts.lists.Lists as lists
 use Rattle.eligibility.specs.contracts.lists.Named as named
+use Rattle.wamp_messages.specs.contracts.publish.Publish as publish
 use Rattle.wamp_messages.specs.contracts.publish_options.PublishOptions as options
 use Rattle.wamp_messages.specs.contracts.subscribe_options.SubscribeOptions as asking
 use Rattle.wamp_messages.specs.contracts.item.Item as item
@@ -40,6 +41,12 @@ publish_options_send = search (lists_send, sendable) depth 60 fits 20000
 
 publish_options_sync : IsSync options.the_row
 publish_options_sync = search (lists_sync, sendable) depth 60 fits 20000
+
+publish_send : IsSend publish.the_row
+publish_send = declared_send publish.the_type (search sendable, (publish_options_send, (search (text_send, sendable) depth 60, (search (args_send, sendable) depth 60, tt))))
+
+publish_sync : IsSync publish.the_row
+publish_sync = declared_sync publish.the_type (search (crosses, sendable) depth 60, (publish_options_sync, (search (text_sync, sendable) depth 60, (search (args_sync, sendable) depth 60, tt))))
 
 subscribe_options_send : IsSend asking.the_row
 subscribe_options_send = search (crosses, sendable) depth 60 fits 20000
@@ -79,7 +86,7 @@ said_send = variants_send said.enum (
     (
       tt,
       (
-        (search sendable, (publish_options_send, (search (text_send, sendable) depth 60, (search (args_send, sendable) depth 60, tt)))),
+        (publish_send, tt),
         (
           (search sendable, (subscribe_options_send, (search (text_send, sendable) depth 60, tt))),
           (
@@ -100,7 +107,7 @@ said_sync = variants_sync said.enum (
     (
       tt,
       (
-        (search (crosses, sendable) depth 60, (publish_options_sync, (search (text_sync, sendable) depth 60, (search (args_sync, sendable) depth 60, tt)))),
+        (publish_sync, tt),
         (
           (search (crosses, sendable) depth 60, (subscribe_options_sync, (search (text_sync, sendable) depth 60, tt))),
           (

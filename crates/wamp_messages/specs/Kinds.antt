@@ -8,6 +8,6 @@ abbrev pub kind_of : Said → SaidKind
 kind_of (Hello realm authid) = Violation
 kind_of Abort = Farewell
 kind_of Goodbye = Farewell
-kind_of (Publish request options topic args) = Publication
+kind_of (Publish asks) = Publication
 kind_of (Subscribe request options topic) = Request
 kind_of (Unsubscribe request subscription) = Request

@@ -7,6 +7,7 @@
 
 mod item;
 mod kinds;
+mod publish;
 mod publish_options;
 mod publish_values;
 mod said;
@@ -16,6 +17,7 @@ mod subscribe_values;
 pub use arguments::{Args, CarriedArgs, Decoded};
 pub use eligibility::{Lists, Who};
 pub use item::{Item, Publication, Reason, Request};
+pub use publish::Publish;
 pub use publish_options::PublishOptions;
 pub use said::{Said, SaidKind};
 pub use subscribe_options::SubscribeOptions;

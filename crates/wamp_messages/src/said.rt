@@ -2,9 +2,8 @@
 ghost use Rattle.std.specs.Prelude.{◌≡◌};
 ghost use Rattle.wamp_messages.specs.Kinds.{kind_of};
 
-use crate::publish_options::PublishOptions;
+use crate::publish::Publish;
 use crate::subscribe_options::SubscribeOptions;
-use arguments::Args;
 use message_tree::Text;
 use wamp_ids::Id;
 
@@ -23,16 +22,7 @@ pub enum Said {
     /// GOODBYE: it closes the session.
     Goodbye,
     /// PUBLISH.
-    Publish {
-        /// The request's id.
-        request: Id,
-        /// What its options ask for.
-        options: PublishOptions,
-        /// The topic's URI, as it was sent.
-        topic: Text,
-        /// Arguments and ArgumentsKw.
-        args: Args,
-    },
+    Publish(Publish),
     /// SUBSCRIBE.
     Subscribe {
         /// The request's id.
@@ -73,7 +63,7 @@ impl Said {
             Said::Hello { .. } => SaidKind::Violation,
             Said::Abort => SaidKind::Farewell,
             Said::Goodbye => SaidKind::Farewell,
-            Said::Publish { .. } => SaidKind::Publication,
+            Said::Publish(_) => SaidKind::Publication,
             Said::Subscribe { .. } => SaidKind::Request,
             Said::Unsubscribe { .. } => SaidKind::Request,
         }

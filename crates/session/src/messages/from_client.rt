@@ -18,7 +18,7 @@ use msgpack_codec::Refusal;
 use msgpack_cursor::{Unread, message as message_in};
 use rawsocket::Serializer;
 use std::alloc::Global;
-use wamp_messages::Said;
+use wamp_messages::{Publish, Said};
 
 /// What a client's message says (WAMP, "Messages"). The message is spent.
 ///
@@ -171,12 +171,12 @@ fn publish<E: Elements>(alloc: Global, mut elements: E) -> Result<Said, Fault>
     let options = elements.publish_options(alloc)?;
     let topic = elements.text(alloc)?;
     let args = elements.arguments(alloc)?;
-    Ok(Said::Publish {
+    Ok(Said::Publish(Publish {
         request,
         options,
         topic,
         args,
-    })
+    }))
 }
 
 #[tactic(auto, unfolding(crate::specs::FromClient::subscribe))]

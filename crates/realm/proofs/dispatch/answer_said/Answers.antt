@@ -23,7 +23,7 @@ returns-in-Goodbye-clause-ok c =
 pub returns-in-Publish-clause-ok : goal.returns-in-Publish-clause-ok
 returns-in-Publish-clause-ok c =
     rw c.in-Publish.is (IfOk-weaker c.publish.result _ _
-    (λ given is. turns-published c.args.state.now c.publish.new.state c.args.conn c.args.word c.in-Publish.request c.in-Publish.options c.in-Publish.topic c.in-Publish.args given.items is)
+    (λ given is. turns-published c.args.state.now c.publish.new.state c.args.conn c.args.word c.in-Publish.what given.items is)
     c.publish.ensures.ok)
 
 pub returns-in-Subscribe-clause-ok : goal.returns-in-Subscribe-clause-ok

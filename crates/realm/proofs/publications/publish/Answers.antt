@@ -1,6 +1,6 @@
 use Rattle.std.proofs.Common.{ap, refl, ◌∙◌}
 use Rattle.std.proofs.lemmas.Result.{IfOk-weaker}
-use Rattle.realm.specs.body.Transitions.{made_with, refused}
+use Rattle.realm.specs.body.Transitions.{made_with}
 use Rattle.realm.proofs.publications.publish.Goals as goal
 
 pub returns-in-Err-clause-ok : goal.returns-in-Err-clause-ok
