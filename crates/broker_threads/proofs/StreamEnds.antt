@@ -28,7 +28,7 @@ module _ {I O S : Type 0} (see : Sight I O) (offer : Offer) where
   opened_as : (before : Stream I O S) (source source_now : I) (sink sink_now : O) (session : Session) → see.reading source_now ≡ see.reading source → sink_now ≡ sink → IsOpened see offer before source sink session → IsOpened see offer before source_now sink_now session
   opened_as before source source_now sink sink_now session e f h =
       let same : exchange (see.reading source).given (see.writing sink).taken ≡ exchange (see.reading source_now).given (see.writing sink_now).taken =
-          ap (λ (r : Reading). exchange r.given (see.writing sink).taken) (sym e) ∙ ap (λ (o : O). exchange (see.reading source_now).given (see.writing o).taken) (sym f) in
+      ap (λ (r : Reading). exchange r.given (see.writing sink).taken) (sym e) ∙ ap (λ (o : O). exchange (see.reading source_now).given (see.writing o).taken) (sym f) in
       record {
         opens = subst (λ (x : Exchange). OpensSince offer.names (exchange (see.reading before.source).given (see.writing before.sink).taken) x (Ok session)) same h.opens;
         same = record { read = ap (λ (r : Reading). r.name) e ∙ h.same.read; written = ap (λ (o : O). (see.writing o).name) f ∙ h.same.written };

@@ -1,9 +1,9 @@
 //! A link to a broker whose octets are prepared.
 use crate::hearing::in_words;
 use crate::messages::client_message;
+use case_devices::{FailsAt, OneByOne};
 use case_text::{is_refused, octets_of, spelled};
 use client_session::{ClientMessage, Fault, Link, Serializer};
-use case_devices::{FailsAt, OneByOne};
 use rawsocket::devices::{MemorySource, Sink, Source, WriteSink};
 use rawsocket::{Kind, write_frame};
 use std::alloc::Global;

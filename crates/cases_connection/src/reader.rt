@@ -1,9 +1,9 @@
 //! The reader's end of a case.
 use crate::acts::{Log, Nowhere};
 use crate::client::{Client, Devices, Manner};
+use case_devices::{FailsAt, OneByOne};
 use connection::{EncodingPoster, InUse, ReadEnd, read_posts};
 use rawsocket::Deframer;
-use case_devices::{FailsAt, OneByOne};
 use rawsocket::devices::{MemorySource, Source};
 use session::{CarriedArgs, Opened};
 use std::alloc::{AllocError, Global};

@@ -138,7 +138,7 @@ module _ {I O S : Type 0} where
       lent : (k : ℕ) × (slice_get served.lent k ≡ Some (before_of over))
       lent =
           let back = Contains-permutation (map before_of served.streams) served.lent (before_of over) (IsPermutation-sym served.lent (map before_of served.streams) served.went.each)
-              (contains_at (map before_of served.streams) i (before_of over) (map_get before_of served.streams i over at)) in
+          (contains_at (map before_of served.streams) i (before_of over) (map_get before_of served.streams i over at)) in
           (back.0, slice_get-get_or served.lent back.0 (before_of over) back.1 ∙ ap Some back.2)
 
       by_name : KeepsNames see (before_of over) ((after_of over).source, (after_of over).sink)
