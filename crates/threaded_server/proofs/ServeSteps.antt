@@ -1,5 +1,5 @@
 -- What the accepting thread does, step by step.
-use Rattle.std.proofs.Common.{◌≡◌, ◌+◌, ◌<◌, ℕ, List, [], ◌∷◌, ◌++◌, All, Result, refl, sym, ap, ◌∙◌, subst, append-nil, arith}
+use Rattle.std.proofs.Common.{◌≡◌, ◌+◌, ◌<◌, ℕ, List, [], ◌∷◌, ◌++◌, All, Result, get_or, refl, sym, ap, ◌∙◌, subst, append-nil, arith}
 use Rattle.std.proofs.Math.Logic.{∥∥₁_map}
 use Rattle.std.proofs.lemmas.List.Elements.{All-nil}
 use Rattle.std.proofs.lemmas.List.Sorted.{IsPermutation-refl}
@@ -63,7 +63,7 @@ module _ {I O S : Type 0} where
         lent_are = whole.lent;
         returned_are = whole.returned;
         went = gone;
-        own = λ i d within. ∥∥₁_map (gone.went i d within) (λ w. (over_goes_on see offer _ w).same);
+        own = λ i d within. ∥∥₁_map (gone.went i d within) (λ w. (over_goes_on see offer (get_or whole.over i d) w).same);
         runs = runs;
         each_ran = subst (λ (g : Grants). All (λ run. IsRun g run) runs) alike each_ran;
         apart = subst (λ (o : List (Over I O S)). AreApart (conns_of o)) over apart;
