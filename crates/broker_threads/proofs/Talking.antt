@@ -3,7 +3,8 @@ use Rattle.std.proofs.Common.{◌≡◌, ℕ, Bool, true, List, [], ◌∷◌, �
 use Rattle.connection.specs.Reader.{Start, ReadsSince, ReadsUntil, IsReadBy}
 use Rattle.connection.specs.declared.reader.ReadEnd.{ReadEnd}
 use Rattle.connection.specs.declared.reader.ReadEnd.TheVariants.{Ended}
-use Rattle.rawsocket.specs.Steps.{meter}
+use Rattle.rawsocket.specs.Devices.{Reading}
+use Rattle.rawsocket.specs.Steps.{read_meter}
 use Rattle.realm_inbox.proofs.PosterLemmas.{posts_on}
 use Rattle.realm_inbox.specs.EndViews.{posted, posted_by, poster_conn, inbox_of_poster}
 use Rattle.realm_inbox.specs.Posted.{Posted}
@@ -22,15 +23,15 @@ use Rattle.broker_threads.specs.declared.talk.Refused.TheVariants as refused
 use Rattle.broker_threads.specs.declared.talk.Session.{Session as TheSession}
 use Rattle.broker_threads.specs.declared.writer_thread.Writer.{Writer}
 
-module _ {I S : Type 0} (given : I → List ℕ) (is_ended : I → Bool) (calls failures : I → ℕ) where
+module _ {I S : Type 0} (seen : I → Reading) where
   -- the Join was posted, and behind it what was read
   pub posted_behind : (begun : Start) (joining : Joining S) (source_before source : I) (before between now : Poster S) (end : ReadEnd)
       → posted between ≡ posted before ++ (poster_conn before, Join joining) ∷ [] → (poster_conn between ≡ poster_conn before) × (inbox_of_poster between ≡ inbox_of_poster before)
-      → ReadsSince (given source_before) (given source) (posted_by between) (posted_by now) (IsReadBy begun end) → (end ≡ Ended → is_ended source ≡ true)
-      → ReadsUntil (meter (calls source_before) (failures source_before)) (meter (calls source) (failures source)) end
-      → Converses given is_ended calls failures begun joining (passage source_before before) (passage source now) end
+      → ReadsSince (seen source_before).given (seen source).given (posted_by between) (posted_by now) (IsReadBy begun end) → (end ≡ Ended → (seen source).is_ended ≡ true)
+      → ReadsUntil (read_meter (seen source_before)) (read_meter (seen source)) end
+      → Converses seen begun joining (passage source_before before) (passage source now) end
   posted_behind begun joining source_before source before between now end e same h ended reads = inl (record {
-    posted = subst (λ (p : Posted S). ReadsSince (given source_before) (given source) p (posted_by now) (IsReadBy begun end)) (posts_on (Ok tt) (Join joining) before between e same) h;
+    posted = subst (λ (p : Posted S). ReadsSince (seen source_before).given (seen source).given p (posted_by now) (IsReadBy begun end)) (posts_on (Ok tt) (Join joining) before between e same) h;
     ended = ended;
     reads = reads;
   })
@@ -38,12 +39,12 @@ module _ {I S : Type 0} (given : I → List ℕ) (is_ended : I → Bool) (calls 
   -- the Join came back
   pub came_back : (begun : Start) (joining : Joining S) (source : I) (before now : Poster S) (back : Act S) (end : ReadEnd) → (back ≡ Join joining) × (posted now ≡ posted before)
       → (poster_conn now ≡ poster_conn before) × (inbox_of_poster now ≡ inbox_of_poster before)
-      → Converses given is_ended calls failures begun joining (passage source before) (passage source now) end
+      → Converses seen begun joining (passage source before) (passage source now) end
   came_back begun joining source before now back end e same = let r = posts_on (Err back) (Join joining) before now e same in inr (refl, r.1)
 
-  pub from_start : (begun other : Start) (joining : Joining S) (before now : Passage I S) (end : ReadEnd) → begun ≡ other → Converses given is_ended calls failures begun joining before now end
-      → Converses given is_ended calls failures other joining before now end
-  from_start begun other joining before now end e h = subst (λ (b : Start). Converses given is_ended calls failures b joining before now end) e h
+  pub from_start : (begun other : Start) (joining : Joining S) (before now : Passage I S) (end : ReadEnd) → begun ≡ other → Converses seen begun joining before now end
+      → Converses seen other joining before now end
+  from_start begun other joining before now end e h = subst (λ (b : Start). Converses seen b joining before now end) e h
 
 module _ {O S : Type 0} where
   -- the same writer, by another name
@@ -53,11 +54,11 @@ module _ {O S : Type 0} where
 module _ {I O S : Type 0} (see : Sight I O) where
   -- no writer runs for it
   pub none_begun : (session : TheSession O S) (source : I) (poster now : Poster S) (cause : Refused O) (course : Course O)
-      → now ≡ poster → course ≡ course_of cause → IsRefused see.taken see.writes see.write_failures session poster cause
+      → now ≡ poster → course ≡ course_of cause → IsRefused see.writing session poster cause
       → Talks see (room_of session) (session_of session.opened) session.sink (passage source poster) (passage source now) course
   none_begun session source poster now cause course e f h =
       subst (λ (c : Course O). Talks see (room_of session) (session_of session.opened) session.sink (passage source poster) (passage source now) c) (sym f) (by_cause cause h)
     where
-      by_cause : (r : Refused O) → IsRefused see.taken see.writes see.write_failures session poster r → Talks see (room_of session) (session_of session.opened) session.sink (passage source poster) (passage source now) (course_of r)
+      by_cause : (r : Refused O) → IsRefused see.writing session poster r → Talks see (room_of session) (session_of session.opened) session.sink (passage source poster) (passage source now) (course_of r)
       by_cause (refused.Memory closed) w = (ap (passage source) e, w)
       by_cause (refused.Thread written) w = record { joining = w.joining; writer = w.writer; begins = w.begins; converses = inr (refl, ap posted_by e); writes = w.writes }

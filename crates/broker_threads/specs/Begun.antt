@@ -1,5 +1,6 @@
 -- How a session begins.
-use Rattle.std.specs.Prelude.{◌≡◌, ℕ, List}
+use Rattle.std.specs.Prelude.{◌≡◌, ℕ}
+use Rattle.rawsocket.specs.Devices.{Writing}
 use Rattle.std.specs.Arc.{arc_value}
 use Rattle.connection.specs.declared.reader.ReadEnd.TheVariants.{NoMemory}
 use Rattle.realm_inbox.specs.declared.ends.Poster.{Poster}
@@ -31,13 +32,13 @@ module _ {O S : Type 0} where
     pub begins : Begins (room_of session) (session_of session.opened) session.sink poster made.joining writer
     pub start : start_of (session_of made.opened) ≡ start_of (session_of session.opened)
 
-module _ {O S : Type 0} (taken : O → List ℕ) (calls failures : O → ℕ) where
+module _ {O S : Type 0} (seen : O → Writing) where
   -- it was run, though nobody joins by its outbox
   pub record WritesAlone (session : Session O S) (poster : Poster S) (written : Written O) : Type 0 where
     pub joining : Joining S
     pub writer : Writer O S
     pub begins : Begins (room_of session) (session_of session.opened) session.sink poster joining writer
-    pub writes : Writes taken calls failures writer written
+    pub writes : Writes seen writer written
 
   -- no writer runs for a session: its sink is let go of as it was, or the writer has written, though nobody joins
   abbrev pub IsRefused : Session O S → Poster S → Refused O → Type 0

@@ -5,7 +5,8 @@ use Rattle.connection.specs.declared.reader.ReadEnd.{ReadEnd}
 use Rattle.realm_inbox.specs.declared.ends.Poster.{Poster}
 use Rattle.session.specs.Opened.{AreUsedUp, BeginsOpening, Exchange, HasCause, OpensSince, Session, exchange, is_decided}
 use Rattle.session.specs.declared.fault.Fault.{Fault}
-pub use Rattle.broker_threads.specs.Sights.{Sight, sight}
+pub use Rattle.broker_threads.specs.Sights.{KeepsNames, Sight, sight}
+use Rattle.rawsocket.specs.Devices.{ReadFails, WriteFails}
 use Rattle.broker_threads.specs.Talks.{TalksOn, passage}
 use Rattle.broker_threads.specs.declared.closed.Closed.{Closed}
 use Rattle.broker_threads.specs.declared.course.Course.{Course}
@@ -44,19 +45,21 @@ IsUntouched sink (Served end written) = ⊥
 
 -- what was read and written so far
 abbrev pub exchanged : {I O : Type 0} → Sight I O → I → O → Exchange
-exchanged see source sink = exchange (see.given source) (see.taken sink)
+exchanged see source sink = exchange (see.reading source).given (see.writing sink).taken
 
 module _ {I O S : Type 0} (see : Sight I O) (offer : Offer) where
-  -- a session was opened: what was read up to its HELLO asks for it, and what was written is the answer
-  abbrev pub IsOpened : Stream I O S → I → O → Session → Type 0
-  IsOpened before source sink session = OpensSince offer.names (exchanged see before.source before.sink) (exchanged see source sink) (Ok session)
+  -- a session was opened: what was read up to its HELLO asks for it, and what was written is the answer; the stream is the same
+  pub record IsOpened (before : Stream I O S) (source : I) (sink : O) (session : Session) : Type 0 where
+    pub opens : OpensSince offer.names (exchanged see before.source before.sink) (exchanged see source sink) (Ok session)
+    pub same : KeepsNames see (before.source, before.sink) (source, sink)
 
   -- no session was opened, for this fault: where the octets decide it, what they ask for was written; else a beginning of that, and the fault has its cause
   pub record IsNotOpened (before : Stream I O S) (source : I) (sink : O) (fault : Fault) : Type 0 where
     pub decided : is_decided fault ≡ true → OpensSince offer.names (exchanged see before.source before.sink) (exchanged see source sink) (Err fault)
     pub begun : BeginsOpening offer.names (exchanged see before.source before.sink) (exchanged see source sink)
-    pub cause : HasCause (see.is_ended source) (see.read_failures before.source < see.read_failures source) (see.write_failures before.sink < see.write_failures sink)
-        (AreUsedUp (see.reads before.source) (see.reads source) ⊎ AreUsedUp (see.writes before.sink) (see.writes sink)) fault
+    pub cause : HasCause (see.reading source).is_ended (ReadFails (see.reading before.source) (see.reading source)) (WriteFails (see.writing before.sink) (see.writing sink))
+        (AreUsedUp (see.reading before.source).calls (see.reading source).calls ⊎ AreUsedUp (see.writing before.sink).calls (see.writing sink).calls) fault
+    pub same : KeepsNames see (before.source, before.sink) (source, sink)
 
   -- a session was opened, and served by the poster of the realm that its HELLO names, and by no other
   pub record IsServed (before : Stream I O S) (source : I) (posters : List (Option (Poster S))) (end : ReadEnd) (written : Written O) : Type 0 where

@@ -3,7 +3,8 @@ use Rattle.std.specs.Prelude.{◌≡◌, ◌⊎◌, ℕ, Bool, true, min, List, 
 use Rattle.connection.specs.Reader.{Start, start, ReadsSince, ReadsUntil, IsReadBy}
 use Rattle.connection.specs.declared.reader.ReadEnd.{ReadEnd}
 use Rattle.connection.specs.declared.reader.ReadEnd.TheVariants.{Ended}
-use Rattle.rawsocket.specs.Steps.{meter}
+use Rattle.rawsocket.specs.Devices.{Reading}
+use Rattle.rawsocket.specs.Steps.{read_meter}
 use Rattle.realm_inbox.specs.EndViews.{home_of_poster, posted_by, poster_conn}
 use Rattle.realm_inbox.specs.Posted.{with_acts}
 use Rattle.realm_inbox.specs.declared.act.Act.TheVariants.{Join}
@@ -29,13 +30,13 @@ pub record Passage (I S : Type 0) : Type 0 where
 abbrev pub passage : {I S : Type 0} → I → Poster S → Passage I S
 passage source poster = record { source = source; poster = poster }
 
-module _ {I S : Type 0} (given : I → List ℕ) (is_ended : I → Bool) (calls failures : I → ℕ) where
+module _ {I S : Type 0} (seen : I → Reading) where
   -- The Join was posted, and behind it what was read, up to this end: Ended only where the stream told its end. No failure was passed over, unless nobody receives any more, and
   -- behind one nothing was read
   pub record ReadsOn (begun : Start) (joining : Joining S) (before now : Passage I S) (end : ReadEnd) : Type 0 where
-    pub posted : ReadsSince (given before.source) (given now.source) (with_acts (posted_by before.poster) (Join joining ∷ [])) (posted_by now.poster) (IsReadBy begun end)
-    pub ended : end ≡ Ended → is_ended now.source ≡ true
-    pub reads : ReadsUntil (meter (calls before.source) (failures before.source)) (meter (calls now.source) (failures now.source)) end
+    pub posted : ReadsSince (seen before.source).given (seen now.source).given (with_acts (posted_by before.poster) (Join joining ∷ [])) (posted_by now.poster) (IsReadBy begun end)
+    pub ended : end ≡ Ended → (seen now.source).is_ended ≡ true
+    pub reads : ReadsUntil (read_meter (seen before.source)) (read_meter (seen now.source)) end
 
   -- or it came back, and nothing was read
   abbrev pub Converses : Start → Joining S → Passage I S → Passage I S → ReadEnd → Type 0
@@ -60,8 +61,8 @@ module _ {I O S : Type 0} (see : Sight I O) (room : ℕ) where
     pub joining : Joining S
     pub writer : Writer O S
     pub begins : Begins room session sink before.poster joining writer
-    pub converses : Converses see.given see.is_ended see.reads see.read_failures (start_of session) joining before now end
-    pub writes : Writes see.taken see.writes see.write_failures writer written
+    pub converses : Converses see.reading (start_of session) joining before now end
+    pub writes : Writes see.writing writer written
 
   -- or no writer could be made, and nothing was read, posted or written
   abbrev pub Talks : Session → O → Passage I S → Passage I S → Course O → Type 0

@@ -56,7 +56,7 @@ impl<
 > Task for Reader<I, O, S> {
     type Done = Ended<I, O, S>;
 
-    ghost does = { λ r ended. Reads (sight I.given I.is_ended I.calls I.failures O.taken O.calls O.failures) r ended };
+    ghost does = { λ r ended. Reads (sight I.seen O.seen) r ended };
 }
 
 impl<
@@ -67,7 +67,7 @@ impl<
     /// Serves the connection until it is over: both its threads, when it returns, but for what is left of this one. The stream is closed
     /// then, unless the realm's actor is about to let go of it.
     pub fn run<R: Threads + Wait + Copy + Send + 'static>(self, rt: R) -> Ended<I, O, S>
-        ensures { Reads (sight I.given I.is_ended I.calls I.failures O.taken O.calls O.failures) self result }
+        ensures { Reads (sight I.seen O.seen) self result }
     {
         let Reader {
             alloc,
@@ -127,7 +127,7 @@ fn serve<
     transport: &S,
     mut posters: Posters<S>,
 ) -> Ended<I, O, S>
-    ensures { GoesBy (sight I.given I.is_ended I.calls I.failures O.taken O.calls O.failures)
+    ensures { GoesBy (sight I.seen O.seen)
         (offer realms.now (arc_value broker.entry.plan.now).outbox) (stream source sink posters.items)
         result.source result.posters.items result.course }
 {

@@ -71,7 +71,7 @@ pub fn talk<
     O: Sink + Drop + Send + 'static,
     S: Shut + Send + 'static,
 >(rt: R, session: Session<O, S>, source: &mut I, poster: Poster<S>) -> Talked<O, S>
-    ensures { Talks (sight I.given I.is_ended I.calls I.failures O.taken O.calls O.failures)
+    ensures { Talks (sight I.seen O.seen)
         (room_of session.entry) (session_of session.entry.opened) session.entry.sink
         (passage source.old poster) (passage source.new result.poster) result.course }
 {
@@ -143,7 +143,7 @@ fn converse<R: Wait, I: Source, S: Shut>(
 ) -> Conversed<S>
     requires own { made.joining.outbox.conn ≡ poster_conn poster }
     requires home { made.joining.outbox.chronicle ≡ home_of_poster poster }
-    ensures { Converses I.given I.is_ended I.calls I.failures (start_of (session_of made.opened))
+    ensures { Converses I.seen (start_of (session_of made.opened))
         made.joining (passage source.old poster) (passage source.new result.poster) result.read }
 {
     let Made {
@@ -249,7 +249,7 @@ fn begin<
 >(rt: R, session: Session<O, S>, poster: &Poster<S>) -> Result<Begun<O, S>, Refused<O>>
     ensures { MatchResult result
         (λ b. IsMade session.entry poster.now b.made b.writer.promise.0.value)
-        (λ refused. IsRefused O.taken O.calls O.failures session.entry poster.now refused) }
+        (λ refused. IsRefused O.seen session.entry poster.now refused) }
 {
     let (made, writer) = match make(session, poster) {
         Ok(parts) => parts,

@@ -89,7 +89,7 @@ impl<O: Sink + Drop + Send + 'static, S: Shut> Task for Writer<O, S> {
 
     type Done = Written<O>;
 
-    ghost does = { λ w done. Writes O.taken O.calls O.failures w done };
+    ghost does = { λ w done. Writes O.seen w done };
 }
 
 impl<R: Wait + Copy, O: Sink + Drop + Send + 'static, S: Shut> Work<R> for Writer<O, S> {
@@ -97,7 +97,7 @@ impl<R: Wait + Copy, O: Sink + Drop + Send + 'static, S: Shut> Work<R> for Write
 
     /// Writes what the session is owed, and shuts the transport.
     fn run(self, rt: R) -> Written<O>
-        ensures { Writes O.taken O.calls O.failures self result }
+        ensures { Writes O.seen self result }
     {
         let Writer {
             alloc,

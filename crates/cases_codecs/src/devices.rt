@@ -8,9 +8,9 @@
 //! - `held-back`, `no-room`, `failing-flush`, in `sending.rt`: writers that do so.
 //!
 //! `never` is a call that isn't made.
+use case_devices::{FailsAt, OneByOne};
 use case_text::{number_of, part, spell};
 use rawsocket::Fault;
-use case_devices::{FailsAt, OneByOne};
 use rawsocket::devices::{
     MemorySink, MemorySource, ReadSource, Sink, Source, Turns, read_turn, write_all,
 };

@@ -2,13 +2,13 @@
 use crate::faults::faults;
 use crate::told::Outcome;
 use crate::values::value;
+use case_devices::{FailsAt, OneByOne};
 use case_text::{Table, is_refused, line_of, number_of, octets_of};
 use client_commands::{
     Arguments, Contact, Fault, PublishCommand, PublishWishes, Serializer, SubscribeCommand,
     SubscribeWishes, publish, subscribe, value_of,
 };
 use message_tree::{Content, Text, Tree};
-use case_devices::{FailsAt, OneByOne};
 use rawsocket::devices::{MemorySource, Sink, Source, WriteSink};
 use rawsocket::{Kind, write_frame};
 use std::alloc::Global;

@@ -13,13 +13,7 @@ pub struct Fed<R: Wait + Copy, O> {
 }
 
 impl<R: Wait + Copy, O: Sink> Sink for Fed<R, O> {
-    ghost taken = { λ s. O.taken s.device };
-
-    ghost held = { λ s. O.held s.device };
-
-    ghost calls = { λ s. O.calls s.device };
-
-    ghost failures = { λ s. O.failures s.device };
+    ghost seen = { λ s. O.seen s.device };
 
     fn write_some(&mut self, octets: &[u8]) -> Result<usize, Fault> {
         self.device.write_some(octets)

@@ -9,7 +9,7 @@ use Rattle.client_messages.specs.declared.wishes.SubscribeWishes.{SubscribeWishe
 use Rattle.client_messages.specs.declared.heard.Heard.{Heard}
 use Rattle.client_messages.specs.declared.heard.Heard.TheVariants.{Abort}
 use Rattle.client_session.specs.Handshake.{Replies}
-use Rattle.client_session.specs.Hearing.{Ear, HearsNext, Line, Terms, ear, heard_at, terms}
+use Rattle.client_session.specs.Hearing.{Ear, HearsNext, Line, Terms, ear, terms}
 use Rattle.client_session.specs.Saying.{saying}
 use Rattle.client_session.specs.Sessions.{IsUnwelcome, Welcomed}
 use Rattle.client_session.specs.declared.fault.Fault as link_faults
@@ -41,12 +41,12 @@ by-refusal s realm authid before now linked limit (no_session.Failed fault) repl
 
 pub turned-away : (s : Serializer) (realm : List ℕ) (authid : Option (List ℕ)) (before now linked : Exchange) (link : Line) (taken : List ℕ) (refusal : NoSession) (fault : Fault) → Replies s before linked (Ok link.limit)
     → link ≡ record { serializer = s; limit = link.limit; waiting = []; held = [] } → taken ≡ linked.taken ++ saying link.serializer (Hello realm authid)
-    → IsUnwelcome (terms link.serializer link.limit) (heard_at link linked.given taken) now.given now.taken refusal
+    → IsUnwelcome (terms link.serializer link.limit) (ear link.waiting link.held linked.given taken) now.given now.taken refusal
     → fault ≡ of_opening refusal → is_of_message fault ≡ true → IsTurnedAway s realm authid before now fault
 turned-away s realm authid before now linked link taken refusal fault replies new wrote w fault_is =
     let said : taken ≡ linked.taken ++ saying s (Hello realm authid) = subst (λ (l : Line). taken ≡ linked.taken ++ saying l.serializer (Hello realm authid)) new wrote in
     let fresh : IsUnwelcome (terms s link.limit) (ear [] [] linked.given taken) now.given now.taken refusal =
-    subst (λ (l : Line). IsUnwelcome (terms l.serializer l.limit) (heard_at l linked.given taken) now.given now.taken refusal) new w in
+    subst (λ (l : Line). IsUnwelcome (terms l.serializer l.limit) (ear l.waiting l.held linked.given taken) now.given now.taken refusal) new w in
     subst (λ f. is_of_message f ≡ true → IsTurnedAway s realm authid before now f) (sym fault_is)
     (by-refusal s realm authid before now linked link.limit refusal replies (subst (λ xs. IsUnwelcome (terms s link.limit) (ear [] [] linked.given xs) now.given now.taken refusal) said fresh))
 

@@ -2,7 +2,7 @@
 -- one stands first.
 use Rattle.std.specs.Prelude.{◌≡◌, ◌==◌, ◌+◌, ◌-◌, ℕ, zero, suc, ⊤, Bool, true, false, List, [], ◌∷◌, ◌++◌, ◌⊎◌, length, get_or, None, Some, Ok, if◌then◌else◌}
 use Rattle.std.specs.declared.option.Option.{Option}
-use Rattle.rawsocket.specs.Devices.{GrowsByBeginning}
+use Rattle.rawsocket.specs.Devices.{GrowsByBeginning, Reading, Writing}
 use Rattle.rawsocket.specs.declared.handshake.Serializer.{Serializer}
 use Rattle.session.specs.Opened.{Exchange, exchange}
 use Rattle.wamp_messages.specs.Arguments.{Arguments}
@@ -30,7 +30,11 @@ terms_of session = terms session.line.serializer session.line.limit
 
 -- what a session has read and heard, at these octets read and written
 abbrev pub standing : Welcomed → List ℕ → List ℕ → Ear
-standing session given taken = heard_at session.line given taken
+standing session given taken = ear session.line.waiting session.line.held given taken
+
+-- by what is seen of its streams
+abbrev pub standing_of : Welcomed → Reading → Writing → Ear
+standing_of session source sink = heard_at session.line source sink
 
 -- the same, with more octets written
 abbrev pub writing : Ear → List ℕ → Ear

@@ -1,5 +1,6 @@
 -- What the faults of a command tell of each device.
 use Rattle.std.specs.Prelude.{◌≡◌, ◌+◌, ◌||◌, ℕ, ⊤, Bool, true, false}
+use Rattle.rawsocket.specs.Devices.{Reading, Writing}
 use Rattle.rawsocket.specs.Steps.{Told, Fine, Failed, NoTurn, failures_told}
 use Rattle.client_session.specs.Faults.{read_told, write_told}
 use Rattle.client_session.specs.declared.fault.Fault as link_faults
@@ -100,9 +101,13 @@ output_told WriteFault = Failed
 output_told TooManyTurns = NoTurn
 output_told _ = Fine
 
--- no failure of a device was passed over, and none was tried again
-abbrev pub AreFailuresTold : ℕ → ℕ → Told → Type 0
-AreFailuresTold before now told = now ≡ before + failures_told told
+-- no failure of the device that is read was passed over, and none was tried again
+abbrev pub ReadFailuresTold : Reading → Reading → Told → Type 0
+ReadFailuresTold before now told = now.failures ≡ before.failures + failures_told told
+
+-- nor of the device that is written
+abbrev pub WriteFailuresTold : Writing → Writing → Told → Type 0
+WriteFailuresTold before now told = now.failures ≡ before.failures + failures_told told
 
 -- want of memory, or a fault of the link
 abbrev pub IsOfLink : Fault → Type 0

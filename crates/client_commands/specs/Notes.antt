@@ -1,13 +1,14 @@
 -- What is told beside the lines: which topics are subscribed to.
 use Rattle.std.specs.Prelude.{◌≡◌, ◌≤◌, ℕ, List, [], ◌∷◌, ◌++◌, codes}
+use Rattle.rawsocket.specs.Devices.{Writing}
 
 -- what a device of notes took, and how often it failed
 pub record Noting : Type 0 where
   pub taken : List ℕ
   pub failures : ℕ
 
-abbrev pub noting : List ℕ → ℕ → Noting
-noting taken failures = record { taken = taken; failures = failures }
+abbrev pub noting : Writing → Noting
+noting sink = record { taken = sink.taken; failures = sink.failures }
 
 -- the note of a topic that is subscribed to: a line
 abbrev pub note_of : List ℕ → List ℕ

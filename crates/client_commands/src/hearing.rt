@@ -1,11 +1,11 @@
 //! What is said and heard in a session, with the faults of a command.
 ghost use Rattle.std.specs.Prelude.{◌≡◌, ◌++◌, IfErr, IfOk, OnOk, Ok};
-ghost use Rattle.rawsocket.specs.Devices.{GrowsByBeginning};
-ghost use Rattle.rawsocket.specs.Steps.{Fine, WholeSteps, meter, told_by};
-ghost use Rattle.session.specs.Opened.{exchange};
+ghost use Rattle.rawsocket.specs.Devices.{Takes, TakesBeginning};
+ghost use Rattle.rawsocket.specs.Steps.{Fine, ReadSteps, WriteSteps, told_by};
+ghost use Rattle.session.specs.Opened.{exchanged};
 ghost use Rattle.client_session.specs.Hearing.{HearsNext};
 ghost use Rattle.client_session.specs.Saying.{saying};
-ghost use Rattle.client_commands.specs.Acts.{Continues, standing, terms_of};
+ghost use Rattle.client_commands.specs.Acts.{Continues, standing_of, terms_of};
 ghost use Rattle.client_commands.specs.Faults.{IsNoEnd, IsOfBroker, IsOfHere, IsOfLink, IsOfNoContents, IsOfNoMessage, TellsEnd, of_message, sink_told, source_told};
 
 use crate::fault::Fault;
@@ -20,9 +20,9 @@ pub(crate) fn say<O: Sink>(
     sink: &mut O,
     said: ClientMessage,
 ) -> Result<(), Fault>
-    ensures said { OnOk result (O.taken sink.new
-        ≡ O.taken sink.old ++ saying link.now.serializer said) }
-    ensures begun { GrowsByBeginning (O.taken sink.old) (O.taken sink.new)
+    ensures said { OnOk result
+        (Takes (O.seen sink.old) (O.seen sink.new) (saying link.now.serializer said)) }
+    ensures begun { TakesBeginning (O.seen sink.old) (O.seen sink.new)
         (saying link.now.serializer said) }
     ensures unread { told_by source_told result ≡ Fine }
     ensures link { IfErr result IsOfLink }
@@ -30,8 +30,7 @@ pub(crate) fn say<O: Sink>(
     ensures carried { IfErr result IsOfNoContents }
     ensures unended { IfErr result IsNoEnd }
     ensures aside { IfErr result IsOfBroker }
-    ensures writes { WholeSteps (meter (O.calls sink.old) (O.failures sink.old))
-        (meter (O.calls sink.new) (O.failures sink.new)) (told_by sink_told result) }
+    ensures writes { WriteSteps (O.seen sink.old) (O.seen sink.new) (told_by sink_told result) }
 {
     match link.say(alloc, sink, said) {
         Ok(()) => Ok(()),
@@ -47,19 +46,17 @@ pub(crate) fn hear<I: Source, O: Sink>(
     sink: &mut O,
 ) -> Result<Heard, Fault>
     ensures next { IfOk result (λ heard. HearsNext (terms_of session.old)
-        (standing session.old (I.given source.old) (O.taken sink.old))
-        (standing session.new (I.given source.new) (O.taken sink.new)) (Ok heard)) }
-    ensures goes_on { Continues (exchange (I.given source.old) (O.taken sink.old))
-        (exchange (I.given source.new) (O.taken sink.new)) }
+        (standing_of session.old (I.seen source.old) (O.seen sink.old))
+        (standing_of session.new (I.seen source.new) (O.seen sink.new)) (Ok heard)) }
+    ensures goes_on { Continues (exchanged (I.seen source.old) (O.seen sink.old))
+        (exchanged (I.seen source.new) (O.seen sink.new)) }
     ensures unblamed { IfErr result IsOfNoMessage }
     ensures carried { IfErr result IsOfNoContents }
-    ensures gone { IfErr result (TellsEnd (I.is_ended source.new)) }
+    ensures gone { IfErr result (TellsEnd (I.seen source.new).is_ended) }
     ensures aside { IfErr result IsOfBroker }
     ensures terms { terms_of session.new ≡ terms_of session.old }
-    ensures reads { WholeSteps (meter (I.calls source.old) (I.failures source.old))
-        (meter (I.calls source.new) (I.failures source.new)) (told_by source_told result) }
-    ensures writes { WholeSteps (meter (O.calls sink.old) (O.failures sink.old))
-        (meter (O.calls sink.new) (O.failures sink.new)) (told_by sink_told result) }
+    ensures reads { ReadSteps (I.seen source.old) (I.seen source.new) (told_by source_told result) }
+    ensures writes { WriteSteps (O.seen sink.old) (O.seen sink.new) (told_by sink_told result) }
 {
     match session.hear(alloc, source, sink) {
         Ok(heard) => Ok(heard),

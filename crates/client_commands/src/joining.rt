@@ -1,10 +1,10 @@
 //! The way into a session.
 ghost use Rattle.std.specs.Prelude.{◌≡◌, IfErr, IfOk, true};
 ghost use Rattle.rawsocket.specs.Steps.{told_by};
-ghost use Rattle.session.specs.Opened.{exchange};
+ghost use Rattle.session.specs.Opened.{exchanged};
 ghost use Rattle.client_messages.specs.declared.client_message.ClientMessage.TheVariants.{Hello as HelloSaid};
 ghost use Rattle.client_commands.specs.Acts.{IsTurnedAway, Joins};
-ghost use Rattle.client_commands.specs.Faults.{AreFailuresTold, IsOfBroker, IsOfNoContents, TellsEnd, is_of_message, sink_told, source_told};
+ghost use Rattle.client_commands.specs.Faults.{IsOfBroker, IsOfNoContents, ReadFailuresTold, TellsEnd, WriteFailuresTold, is_of_message, sink_told, source_told};
 
 use crate::command::Contact;
 use crate::fault::Fault;
@@ -43,19 +43,19 @@ pub(crate) fn join<I: Source, O: Sink>(
     source: &mut I,
     sink: &mut O,
 ) -> Result<ClientSession, Fault>
-    ensures joined { IfOk result (λ session. Joins contact.now.serializer contact.now.realm contact.now.authid
-        (exchange (I.given source.old) (O.taken sink.old))
-        (exchange (I.given source.new) (O.taken sink.new)) session) }
-    ensures cause { IfErr result (λ fault. is_of_message fault ≡ true
-        → IsTurnedAway contact.now.serializer contact.now.realm contact.now.authid
-        (exchange (I.given source.old) (O.taken sink.old))
-        (exchange (I.given source.new) (O.taken sink.new)) fault) }
+    ensures joined { IfOk result (λ session. Joins contact.now.serializer contact.now.realm
+        contact.now.authid (exchanged (I.seen source.old) (O.seen sink.old))
+        (exchanged (I.seen source.new) (O.seen sink.new)) session) }
+    ensures cause { IfErr result (λ fault. is_of_message fault ≡ true → IsTurnedAway
+        contact.now.serializer contact.now.realm contact.now.authid
+        (exchanged (I.seen source.old) (O.seen sink.old))
+        (exchanged (I.seen source.new) (O.seen sink.new)) fault) }
     ensures carried { IfErr result IsOfNoContents }
-    ensures gone { IfErr result (TellsEnd (I.is_ended source.new)) }
+    ensures gone { IfErr result (TellsEnd (I.seen source.new).is_ended) }
     ensures aside { IfErr result IsOfBroker }
-    ensures reads { AreFailuresTold (I.failures source.old) (I.failures source.new)
+    ensures reads { ReadFailuresTold (I.seen source.old) (I.seen source.new)
         (told_by source_told result) }
-    ensures writes { AreFailuresTold (O.failures sink.old) (O.failures sink.new)
+    ensures writes { WriteFailuresTold (O.seen sink.old) (O.seen sink.new)
         (told_by sink_told result) }
 {
     let Ok(said) = hello(alloc, contact) else {

@@ -1,11 +1,11 @@
 //! The way out of a session.
 ghost use Rattle.std.specs.Prelude.{◌≡◌, ◌++◌, IfErr, OnOk, true};
-ghost use Rattle.rawsocket.specs.Devices.{GrowsByBeginning};
+ghost use Rattle.rawsocket.specs.Devices.{Takes, TakesBeginning};
 ghost use Rattle.rawsocket.specs.Steps.{Fine, told_by};
-ghost use Rattle.session.specs.Opened.{exchange};
+ghost use Rattle.session.specs.Opened.{exchanged};
 ghost use Rattle.client_session.specs.Saying.{saying};
-ghost use Rattle.client_commands.specs.Acts.{Continues, IsCaused, Leaves, may_come, standing, terms_of, writing};
-ghost use Rattle.client_commands.specs.Faults.{AreFailuresTold, IsNoEnd, IsOfBroker, IsOfNoContents, TellsEnd, is_of_message, sink_told, source_told};
+ghost use Rattle.client_commands.specs.Acts.{Continues, IsCaused, Leaves, may_come, standing_of, terms_of, writing};
+ghost use Rattle.client_commands.specs.Faults.{IsNoEnd, IsOfBroker, IsOfNoContents, ReadFailuresTold, TellsEnd, WriteFailuresTold, is_of_message, sink_told, source_told};
 
 use crate::fault::Fault;
 use crate::hearing::{fault_of, hear, say};
@@ -36,20 +36,20 @@ pub(crate) fn leave<I: Source, O: Sink>(
     sink: &mut O,
 ) -> Result<(), Fault>
     ensures left { OnOk result (Leaves (terms_of session.old)
-        (standing session.old (I.given source.old) (O.taken sink.old))
-        (standing session.new (I.given source.new) (O.taken sink.new))) }
-    ensures goes_on { Continues (exchange (I.given source.old) (O.taken sink.old))
-        (exchange (I.given source.new) (O.taken sink.new)) }
-    ensures cause { IfErr result (IsCaused (terms_of session.old)
-        (writing (standing session.old (I.given source.old) (O.taken sink.old))
+        (standing_of session.old (I.seen source.old) (O.seen sink.old))
+        (standing_of session.new (I.seen source.new) (O.seen sink.new))) }
+    ensures goes_on { Continues (exchanged (I.seen source.old) (O.seen sink.old))
+        (exchanged (I.seen source.new) (O.seen sink.new)) }
+    ensures cause { IfErr result (IsCaused (terms_of session.old) (writing
+        (standing_of session.old (I.seen source.old) (O.seen sink.old))
         (saying session.old.line.serializer ClientMessage.Goodbye))
-        (exchange (I.given source.new) (O.taken sink.new))) }
+        (exchanged (I.seen source.new) (O.seen sink.new))) }
     ensures carried { IfErr result IsOfNoContents }
-    ensures gone { IfErr result (TellsEnd (I.is_ended source.new)) }
+    ensures gone { IfErr result (TellsEnd (I.seen source.new).is_ended) }
     ensures aside { IfErr result IsOfBroker }
-    ensures reads { AreFailuresTold (I.failures source.old) (I.failures source.new)
+    ensures reads { ReadFailuresTold (I.seen source.old) (I.seen source.new)
         (told_by source_told result) }
-    ensures writes { AreFailuresTold (O.failures sink.old) (O.failures sink.new)
+    ensures writes { WriteFailuresTold (O.seen sink.old) (O.seen sink.new)
         (told_by sink_told result) }
 {
     if let Err(fault) = say(alloc, session.link(), sink, ClientMessage::Goodbye) {
@@ -79,16 +79,16 @@ pub(crate) fn answer_goodbye<O: Sink>(
     sink: &mut O,
     reason: Text,
 ) -> Fault
-    ensures answered { result ≡ Fault.Closed reason
-        → O.taken sink.new ≡ O.taken sink.old ++ saying session.now.line.serializer ClientMessage.Goodbye }
-    ensures begun { GrowsByBeginning (O.taken sink.old) (O.taken sink.new)
+    ensures answered { result ≡ Fault.Closed reason → Takes (O.seen sink.old) (O.seen sink.new)
+        (saying session.now.line.serializer ClientMessage.Goodbye) }
+    ensures begun { TakesBeginning (O.seen sink.old) (O.seen sink.new)
         (saying session.now.line.serializer ClientMessage.Goodbye) }
     ensures closed { is_of_message result ≡ true → result ≡ Fault.Closed reason }
     ensures carried { IsOfNoContents result }
     ensures unended { IsNoEnd result }
     ensures unread { source_told result ≡ Fine }
     ensures aside { IsOfBroker result }
-    ensures writes { AreFailuresTold (O.failures sink.old) (O.failures sink.new)
+    ensures writes { WriteFailuresTold (O.seen sink.old) (O.seen sink.new)
         (sink_told result) }
 {
     match say(alloc, session.link(), sink, ClientMessage::Goodbye) {

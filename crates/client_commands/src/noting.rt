@@ -20,8 +20,8 @@ pub(crate) fn note_of(alloc: Global, topic: &Text) -> Result<Vec<u8>, AllocError
 /// Tells a note, and passes it on. A device that fails is passed over, so that nobody misses an event for it; a beginning of the
 /// note is told then.
 pub(crate) fn tell<N: Sink>(notes: &mut N, note: &[u8])
-    ensures { IsNoted note.now (noting (N.taken notes.old) (N.failures notes.old))
-        (noting (N.taken notes.new) (N.failures notes.new)) }
+    ensures { IsNoted note.now (noting (N.seen notes.old))
+        (noting (N.seen notes.new)) }
 {
     let mut rest = note;
     while !rest.is_empty() {

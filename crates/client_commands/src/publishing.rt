@@ -1,13 +1,13 @@
 //! `publish`.
 ghost use Rattle.std.specs.Prelude.{◌≡◌, ◌≢◌, ◌⊎◌, ◌<◌, ◌++◌, ◌+◌, ℕ, List, [], IfOk, IfErr, OnOk, Some, false, length, true};
-ghost use Rattle.rawsocket.specs.Steps.{WholeSteps, failures_told, meter, told_by};
-ghost use Rattle.session.specs.Opened.{exchange};
+ghost use Rattle.rawsocket.specs.Steps.{ReadSteps, failures_told, told_by};
+ghost use Rattle.session.specs.Opened.{exchanged};
 ghost use Rattle.client_messages.specs.declared.heard.Heard.TheVariants.{Published as PublishedHeard};
 ghost use Rattle.client_session.specs.Hearing.{Ear};
-ghost use Rattle.client_commands.specs.Acts.{Acknowledges, IsPublished, IsTurnedAway, publication, standing, terms_of};
+ghost use Rattle.client_commands.specs.Acts.{Acknowledges, IsPublished, IsTurnedAway, publication, standing_of, terms_of};
 ghost use Rattle.client_commands.specs.Ends.{EndsAtLine, EndsInAll, EndsInInput, EndsInLines, EndsInWords, EndsPublishing, HearsAnother, IsUnacknowledged};
 ghost use Rattle.client_commands.specs.Lines.{IsPublishedOf, IsReadToEnd, Publishes, PublishesAll, PublishesInput, PublishesLine};
-ghost use Rattle.client_commands.specs.Faults.{AreFailuresTold, IsOfBroker, IsOfNoContents, TellsEnd, input_told, is_blamed, is_of_message, output_told, sink_told, source_told};
+ghost use Rattle.client_commands.specs.Faults.{IsOfBroker, IsOfNoContents, ReadFailuresTold, TellsEnd, WriteFailuresTold, input_told, is_blamed, is_of_message, output_told, sink_told, source_told};
 
 use crate::command::{Arguments, PublishCommand};
 use crate::fault::Fault;
@@ -31,19 +31,19 @@ fn await_published<I: Source, O: Sink>(
     request: Id,
 ) -> Result<(), Fault>
     ensures published { OnOk result (Acknowledges true (terms_of session.old) request
-        (standing session.old (I.given source.old) (O.taken sink.old))
-        (standing session.new (I.given source.new) (O.taken sink.new))) }
-    ensures another { IfErr result (λ fault. is_of_message fault ≡ true
-        → HearsAnother (terms_of session.old) request
-        (standing session.old (I.given source.old) (O.taken sink.old))
-        (standing session.new (I.given source.new) (O.taken sink.new)) fault) }
+        (standing_of session.old (I.seen source.old) (O.seen sink.old))
+        (standing_of session.new (I.seen source.new) (O.seen sink.new))) }
+    ensures another { IfErr result (λ fault. is_of_message fault ≡ true → HearsAnother
+        (terms_of session.old) request
+        (standing_of session.old (I.seen source.old) (O.seen sink.old))
+        (standing_of session.new (I.seen source.new) (O.seen sink.new)) fault) }
     ensures carried { IfErr result IsOfNoContents }
-    ensures gone { IfErr result (TellsEnd (I.is_ended source.new)) }
+    ensures gone { IfErr result (TellsEnd (I.seen source.new).is_ended) }
     ensures terms { terms_of session.new ≡ terms_of session.old }
     ensures aside { IfErr result IsOfBroker }
-    ensures reads { AreFailuresTold (I.failures source.old) (I.failures source.new)
+    ensures reads { ReadFailuresTold (I.seen source.old) (I.seen source.new)
         (told_by source_told result) }
-    ensures writes { AreFailuresTold (O.failures sink.old) (O.failures sink.new)
+    ensures writes { WriteFailuresTold (O.seen sink.old) (O.seen sink.new)
         (told_by sink_told result) }
 {
     let heard = match hear(alloc, session, source, sink) {
@@ -97,20 +97,21 @@ fn publish_as<I: Source, O: Sink>(
     request: Id,
     args: Args,
 ) -> Result<(), Fault>
-    ensures published { OnOk result (IsPublished command.now.wishes command.now.topic (terms_of session.old) request args
-        (standing session.old (I.given source.old) (O.taken sink.old))
-        (standing session.new (I.given source.new) (O.taken sink.new))) }
-    ensures unacknowledged { IfErr result (λ fault. is_of_message fault ≡ true
-        → IsUnacknowledged command.now.wishes command.now.topic (terms_of session.old) request args
-        (standing session.old (I.given source.old) (O.taken sink.old))
-        (standing session.new (I.given source.new) (O.taken sink.new)) fault) }
+    ensures published { OnOk result (IsPublished command.now.wishes command.now.topic
+        (terms_of session.old) request args
+        (standing_of session.old (I.seen source.old) (O.seen sink.old))
+        (standing_of session.new (I.seen source.new) (O.seen sink.new))) }
+    ensures unacknowledged { IfErr result (λ fault. is_of_message fault ≡ true → IsUnacknowledged
+        command.now.wishes command.now.topic (terms_of session.old) request args
+        (standing_of session.old (I.seen source.old) (O.seen sink.old))
+        (standing_of session.new (I.seen source.new) (O.seen sink.new)) fault) }
     ensures carried { IfErr result IsOfNoContents }
-    ensures gone { IfErr result (TellsEnd (I.is_ended source.new)) }
+    ensures gone { IfErr result (TellsEnd (I.seen source.new).is_ended) }
     ensures terms { terms_of session.new ≡ terms_of session.old }
     ensures aside { IfErr result IsOfBroker }
-    ensures reads { AreFailuresTold (I.failures source.old) (I.failures source.new)
+    ensures reads { ReadFailuresTold (I.seen source.old) (I.seen source.new)
         (told_by source_told result) }
-    ensures writes { AreFailuresTold (O.failures sink.old) (O.failures sink.new)
+    ensures writes { WriteFailuresTold (O.seen sink.old) (O.seen sink.new)
         (told_by sink_told result) }
 {
     let Ok(said) = publication(alloc, command, request, args) else {
@@ -134,23 +135,23 @@ fn publish_line<I: Source, O: Sink>(
     sink: &mut O,
     progress: &mut Progress,
 ) -> Result<(), Fault>
-    ensures published { OnOk result (PublishesLine command.now.wishes command.now.topic command.now.kwargs (terms_of session.old)
-        (progress.old.count + 1) progress.old.rest.items
-        (standing session.old (I.given source.old) (O.taken sink.old))
-        (standing session.new (I.given source.new) (O.taken sink.new))) }
+    ensures published { OnOk result (PublishesLine command.now.wishes command.now.topic
+        command.now.kwargs (terms_of session.old) (progress.old.count + 1) progress.old.rest.items
+        (standing_of session.old (I.seen source.old) (O.seen sink.old))
+        (standing_of session.new (I.seen source.new) (O.seen sink.new))) }
     ensures rest { OnOk result (progress.new.rest.items ≡ []) }
     ensures count { OnOk result (progress.new.count ≡ progress.old.count + 1) }
-    ensures ends { IfErr result (λ fault. is_blamed fault ≡ true
-        → EndsAtLine command.now.wishes command.now.topic command.now.kwargs (terms_of session.old)
-        (progress.old.count + 1) progress.old.rest.items
-        (standing session.old (I.given source.old) (O.taken sink.old))
-        (standing session.new (I.given source.new) (O.taken sink.new)) fault) }
-    ensures gone { IfErr result (TellsEnd (I.is_ended source.new)) }
+    ensures ends { IfErr result (λ fault. is_blamed fault ≡ true → EndsAtLine command.now.wishes
+        command.now.topic command.now.kwargs (terms_of session.old) (progress.old.count + 1)
+        progress.old.rest.items
+        (standing_of session.old (I.seen source.old) (O.seen sink.old))
+        (standing_of session.new (I.seen source.new) (O.seen sink.new)) fault) }
+    ensures gone { IfErr result (TellsEnd (I.seen source.new).is_ended) }
     ensures terms { terms_of session.new ≡ terms_of session.old }
     ensures aside { IfErr result IsOfBroker }
-    ensures reads { AreFailuresTold (I.failures source.old) (I.failures source.new)
+    ensures reads { ReadFailuresTold (I.seen source.old) (I.seen source.new)
         (told_by source_told result) }
-    ensures writes { AreFailuresTold (O.failures sink.old) (O.failures sink.new)
+    ensures writes { WriteFailuresTold (O.seen sink.old) (O.seen sink.new)
         (told_by sink_told result) }
 {
     let number = progress.count + 1;
@@ -182,26 +183,26 @@ fn publish_piece<I: Source, O: Sink>(
     progress: &mut Progress,
     piece: &[u8],
 ) -> Result<(), Fault>
-    ensures published { OnOk result ((before : Ear) (input : List ℕ)
-        → IsPublishedOf command.now.wishes command.now.topic command.now.kwargs (terms_of session.old) before
-        (standing session.old (I.given source.old) (O.taken sink.old))
-        input progress.old.rest.items progress.old.count
-        → IsPublishedOf command.now.wishes command.now.topic command.now.kwargs (terms_of session.old) before
-        (standing session.new (I.given source.new) (O.taken sink.new))
+    ensures published { OnOk result ((before : Ear) (input : List ℕ) → IsPublishedOf
+        command.now.wishes command.now.topic command.now.kwargs (terms_of session.old) before
+        (standing_of session.old (I.seen source.old) (O.seen sink.old)) input
+        progress.old.rest.items progress.old.count → IsPublishedOf command.now.wishes
+        command.now.topic command.now.kwargs (terms_of session.old) before
+        (standing_of session.new (I.seen source.new) (O.seen sink.new))
         (input ++ piece.now) progress.new.rest.items progress.new.count) }
-    ensures ends { IfErr result (λ fault. is_blamed fault ≡ true → (before : Ear) (input : List ℕ)
-        → IsPublishedOf command.now.wishes command.now.topic command.now.kwargs (terms_of session.old) before
-        (standing session.old (I.given source.old) (O.taken sink.old))
-        input progress.old.rest.items progress.old.count
-        → EndsInLines command.now.wishes command.now.topic command.now.kwargs (terms_of session.old) before
-        (standing session.new (I.given source.new) (O.taken sink.new))
+    ensures ends { IfErr result (λ fault. is_blamed fault ≡ true → (before : Ear) (input : List ℕ) →
+        IsPublishedOf command.now.wishes command.now.topic command.now.kwargs (terms_of session.old)
+        before (standing_of session.old (I.seen source.old) (O.seen sink.old)) input
+        progress.old.rest.items progress.old.count → EndsInLines command.now.wishes
+        command.now.topic command.now.kwargs (terms_of session.old) before
+        (standing_of session.new (I.seen source.new) (O.seen sink.new))
         (input ++ piece.now) false fault) }
-    ensures gone { IfErr result (TellsEnd (I.is_ended source.new)) }
+    ensures gone { IfErr result (TellsEnd (I.seen source.new).is_ended) }
     ensures terms { terms_of session.new ≡ terms_of session.old }
     ensures aside { IfErr result IsOfBroker }
-    ensures reads { AreFailuresTold (I.failures source.old) (I.failures source.new)
+    ensures reads { ReadFailuresTold (I.seen source.old) (I.seen source.new)
         (told_by source_told result) }
-    ensures writes { AreFailuresTold (O.failures sink.old) (O.failures sink.new)
+    ensures writes { WriteFailuresTold (O.seen sink.old) (O.seen sink.new)
         (told_by sink_told result) }
 {
     let mut left = piece;
@@ -232,27 +233,26 @@ fn publish_last<I: Source, O: Sink>(
     sink: &mut O,
     progress: &mut Progress,
 ) -> Result<(), Fault>
-    ensures published { OnOk result ((before : Ear) (input given_before given : List ℕ)
-        → given ≡ given_before ++ input
-        → IsPublishedOf command.now.wishes command.now.topic command.now.kwargs (terms_of session.old) before
-        (standing session.old (I.given source.old) (O.taken sink.old))
-        input progress.old.rest.items progress.old.count
-        → PublishesInput command.now.wishes command.now.topic command.now.kwargs (terms_of session.old) before
-        (standing session.new (I.given source.new) (O.taken sink.new))
-        given_before given) }
-    ensures ends { IfErr result (λ fault. is_blamed fault ≡ true → (before : Ear) (input : List ℕ)
-        → IsPublishedOf command.now.wishes command.now.topic command.now.kwargs (terms_of session.old) before
-        (standing session.old (I.given source.old) (O.taken sink.old))
-        input progress.old.rest.items progress.old.count
-        → EndsInLines command.now.wishes command.now.topic command.now.kwargs (terms_of session.old) before
-        (standing session.new (I.given source.new) (O.taken sink.new))
-        input true fault) }
-    ensures gone { IfErr result (TellsEnd (I.is_ended source.new)) }
+    ensures published { OnOk result ((before : Ear) (input given_before given : List ℕ) → given ≡
+        given_before ++ input → IsPublishedOf command.now.wishes command.now.topic
+        command.now.kwargs (terms_of session.old) before
+        (standing_of session.old (I.seen source.old) (O.seen sink.old)) input
+        progress.old.rest.items progress.old.count → PublishesInput command.now.wishes
+        command.now.topic command.now.kwargs (terms_of session.old) before
+        (standing_of session.new (I.seen source.new) (O.seen sink.new)) given_before
+        given) }
+    ensures ends { IfErr result (λ fault. is_blamed fault ≡ true → (before : Ear) (input : List ℕ) →
+        IsPublishedOf command.now.wishes command.now.topic command.now.kwargs (terms_of session.old)
+        before (standing_of session.old (I.seen source.old) (O.seen sink.old)) input
+        progress.old.rest.items progress.old.count → EndsInLines command.now.wishes
+        command.now.topic command.now.kwargs (terms_of session.old) before
+        (standing_of session.new (I.seen source.new) (O.seen sink.new)) input true fault) }
+    ensures gone { IfErr result (TellsEnd (I.seen source.new).is_ended) }
     ensures terms { terms_of session.new ≡ terms_of session.old }
     ensures aside { IfErr result IsOfBroker }
-    ensures reads { AreFailuresTold (I.failures source.old) (I.failures source.new)
+    ensures reads { ReadFailuresTold (I.seen source.old) (I.seen source.new)
         (told_by source_told result) }
-    ensures writes { AreFailuresTold (O.failures sink.old) (O.failures sink.new)
+    ensures writes { WriteFailuresTold (O.seen sink.old) (O.seen sink.new)
         (told_by sink_told result) }
 {
     if progress.rest.is_empty() {
@@ -275,24 +275,24 @@ fn publish_pieces<I: Source, O: Sink, J: Source>(
     requires fresh { progress.old.rest.items ≡ [] }
     requires none { progress.old.count ≡ 0 }
     requires wide { 0 < length buffer.old }
-    ensures published { OnOk result (PublishesInput command.now.wishes command.now.topic command.now.kwargs (terms_of session.old)
-        (standing session.old (I.given source.old) (O.taken sink.old))
-        (standing session.new (I.given source.new) (O.taken sink.new))
-        (J.given input.old) (J.given input.new)) }
-    ensures ended { OnOk result (J.is_ended input.new ≡ true) }
-    ensures ends { IfErr result (λ fault. is_blamed fault ≡ true
-        → EndsInInput command.now.wishes command.now.topic command.now.kwargs (terms_of session.old)
-        (standing session.old (I.given source.old) (O.taken sink.old))
-        (standing session.new (I.given source.new) (O.taken sink.new))
-        (J.given input.old) (J.given input.new) (J.is_ended input.new) fault) }
-    ensures gone { IfErr result (TellsEnd (I.is_ended source.new)) }
+    ensures published { OnOk result (PublishesInput command.now.wishes command.now.topic
+        command.now.kwargs (terms_of session.old)
+        (standing_of session.old (I.seen source.old) (O.seen sink.old))
+        (standing_of session.new (I.seen source.new) (O.seen sink.new))
+        (J.seen input.old).given (J.seen input.new).given) }
+    ensures ended { OnOk result ((J.seen input.new).is_ended ≡ true) }
+    ensures ends { IfErr result (λ fault. is_blamed fault ≡ true → EndsInInput command.now.wishes
+        command.now.topic command.now.kwargs (terms_of session.old)
+        (standing_of session.old (I.seen source.old) (O.seen sink.old))
+        (standing_of session.new (I.seen source.new) (O.seen sink.new))
+        (J.seen input.old).given (J.seen input.new).given (J.seen input.new).is_ended fault) }
+    ensures gone { IfErr result (TellsEnd (I.seen source.new).is_ended) }
     ensures terms { terms_of session.new ≡ terms_of session.old }
-    ensures reads { AreFailuresTold (I.failures source.old) (I.failures source.new)
+    ensures reads { ReadFailuresTold (I.seen source.old) (I.seen source.new)
         (told_by source_told result) }
-    ensures writes { AreFailuresTold (O.failures sink.old) (O.failures sink.new)
+    ensures writes { WriteFailuresTold (O.seen sink.old) (O.seen sink.new)
         (told_by sink_told result) }
-    ensures lines { WholeSteps (meter (J.calls input.old) (J.failures input.old))
-        (meter (J.calls input.new) (J.failures input.new)) (told_by input_told result) }
+    ensures lines { ReadSteps (J.seen input.old) (J.seen input.new) (told_by input_told result) }
     ensures unprinted { failures_told (told_by output_told result) ≡ 0 }
 {
     let mut turns = Turns::new();
@@ -325,24 +325,24 @@ fn publish_lines<I: Source, O: Sink, J: Source>(
     sink: &mut O,
     input: &mut J,
 ) -> Result<(), Fault>
-    ensures published { OnOk result (PublishesInput command.now.wishes command.now.topic command.now.kwargs (terms_of session.old)
-        (standing session.old (I.given source.old) (O.taken sink.old))
-        (standing session.new (I.given source.new) (O.taken sink.new))
-        (J.given input.old) (J.given input.new)) }
-    ensures ended { OnOk result (J.is_ended input.new ≡ true) }
-    ensures ends { IfErr result (λ fault. is_blamed fault ≡ true
-        → EndsInInput command.now.wishes command.now.topic command.now.kwargs (terms_of session.old)
-        (standing session.old (I.given source.old) (O.taken sink.old))
-        (standing session.new (I.given source.new) (O.taken sink.new))
-        (J.given input.old) (J.given input.new) (J.is_ended input.new) fault) }
-    ensures gone { IfErr result (TellsEnd (I.is_ended source.new)) }
+    ensures published { OnOk result (PublishesInput command.now.wishes command.now.topic
+        command.now.kwargs (terms_of session.old)
+        (standing_of session.old (I.seen source.old) (O.seen sink.old))
+        (standing_of session.new (I.seen source.new) (O.seen sink.new))
+        (J.seen input.old).given (J.seen input.new).given) }
+    ensures ended { OnOk result ((J.seen input.new).is_ended ≡ true) }
+    ensures ends { IfErr result (λ fault. is_blamed fault ≡ true → EndsInInput command.now.wishes
+        command.now.topic command.now.kwargs (terms_of session.old)
+        (standing_of session.old (I.seen source.old) (O.seen sink.old))
+        (standing_of session.new (I.seen source.new) (O.seen sink.new))
+        (J.seen input.old).given (J.seen input.new).given (J.seen input.new).is_ended fault) }
+    ensures gone { IfErr result (TellsEnd (I.seen source.new).is_ended) }
     ensures terms { terms_of session.new ≡ terms_of session.old }
-    ensures reads { AreFailuresTold (I.failures source.old) (I.failures source.new)
+    ensures reads { ReadFailuresTold (I.seen source.old) (I.seen source.new)
         (told_by source_told result) }
-    ensures writes { AreFailuresTold (O.failures sink.old) (O.failures sink.new)
+    ensures writes { WriteFailuresTold (O.seen sink.old) (O.seen sink.new)
         (told_by sink_told result) }
-    ensures lines { WholeSteps (meter (J.calls input.old) (J.failures input.old))
-        (meter (J.calls input.new) (J.failures input.new)) (told_by input_told result) }
+    ensures lines { ReadSteps (J.seen input.old) (J.seen input.new) (told_by input_told result) }
     ensures unprinted { failures_told (told_by output_told result) ≡ 0 }
 {
     let Ok(mut buffer) = vec![in alloc; 0; PIECE] else {
@@ -373,20 +373,20 @@ fn publish_words<I: Source, O: Sink>(
     sink: &mut O,
     words: &Content,
 ) -> Result<(), Fault>
-    ensures published { OnOk result (IsPublished command.now.wishes command.now.topic (terms_of session.old) 1
-        (record { args = Some words.now; kwargs = command.now.kwargs })
-        (standing session.old (I.given source.old) (O.taken sink.old))
-        (standing session.new (I.given source.new) (O.taken sink.new))) }
-    ensures ends { IfErr result (λ fault. is_blamed fault ≡ true
-        → EndsInWords command.now.wishes command.now.topic command.now.kwargs (terms_of session.old) words.now
-        (standing session.old (I.given source.old) (O.taken sink.old))
-        (standing session.new (I.given source.new) (O.taken sink.new)) fault) }
-    ensures gone { IfErr result (TellsEnd (I.is_ended source.new)) }
+    ensures published { OnOk result (IsPublished command.now.wishes command.now.topic
+        (terms_of session.old) 1 (record { args = Some words.now; kwargs = command.now.kwargs })
+        (standing_of session.old (I.seen source.old) (O.seen sink.old))
+        (standing_of session.new (I.seen source.new) (O.seen sink.new))) }
+    ensures ends { IfErr result (λ fault. is_blamed fault ≡ true → EndsInWords command.now.wishes
+        command.now.topic command.now.kwargs (terms_of session.old) words.now
+        (standing_of session.old (I.seen source.old) (O.seen sink.old))
+        (standing_of session.new (I.seen source.new) (O.seen sink.new)) fault) }
+    ensures gone { IfErr result (TellsEnd (I.seen source.new).is_ended) }
     ensures terms { terms_of session.new ≡ terms_of session.old }
     ensures aside { IfErr result IsOfBroker }
-    ensures reads { AreFailuresTold (I.failures source.old) (I.failures source.new)
+    ensures reads { ReadFailuresTold (I.seen source.old) (I.seen source.new)
         (told_by source_told result) }
-    ensures writes { AreFailuresTold (O.failures sink.old) (O.failures sink.new)
+    ensures writes { WriteFailuresTold (O.seen sink.old) (O.seen sink.new)
         (told_by sink_told result) }
 {
     let Ok(request) = Id::new(1) else {
@@ -411,25 +411,24 @@ fn publish_all<I: Source, O: Sink, J: Source>(
     sink: &mut O,
     input: &mut J,
 ) -> Result<(), Fault>
-    ensures published { OnOk result (PublishesAll command.now.wishes command.now.topic command.now.kwargs command.now.arguments
-        (terms_of session.old)
-        (standing session.old (I.given source.old) (O.taken sink.old))
-        (standing session.new (I.given source.new) (O.taken sink.new))
-        (J.given input.old) (J.given input.new)) }
-    ensures ended { OnOk result (IsReadToEnd command.now.arguments (J.is_ended input.new)) }
-    ensures ends { IfErr result (λ fault. is_blamed fault ≡ true
-        → EndsInAll command.now.wishes command.now.topic command.now.kwargs command.now.arguments (terms_of session.old)
-        (standing session.old (I.given source.old) (O.taken sink.old))
-        (standing session.new (I.given source.new) (O.taken sink.new))
-        (J.given input.old) (J.given input.new) (J.is_ended input.new) fault) }
-    ensures gone { IfErr result (TellsEnd (I.is_ended source.new)) }
+    ensures published { OnOk result (PublishesAll command.now.wishes command.now.topic
+        command.now.kwargs command.now.arguments (terms_of session.old)
+        (standing_of session.old (I.seen source.old) (O.seen sink.old))
+        (standing_of session.new (I.seen source.new) (O.seen sink.new))
+        (J.seen input.old).given (J.seen input.new).given) }
+    ensures ended { OnOk result (IsReadToEnd command.now.arguments (J.seen input.new).is_ended) }
+    ensures ends { IfErr result (λ fault. is_blamed fault ≡ true → EndsInAll command.now.wishes
+        command.now.topic command.now.kwargs command.now.arguments (terms_of session.old)
+        (standing_of session.old (I.seen source.old) (O.seen sink.old))
+        (standing_of session.new (I.seen source.new) (O.seen sink.new))
+        (J.seen input.old).given (J.seen input.new).given (J.seen input.new).is_ended fault) }
+    ensures gone { IfErr result (TellsEnd (I.seen source.new).is_ended) }
     ensures terms { terms_of session.new ≡ terms_of session.old }
-    ensures reads { AreFailuresTold (I.failures source.old) (I.failures source.new)
+    ensures reads { ReadFailuresTold (I.seen source.old) (I.seen source.new)
         (told_by source_told result) }
-    ensures writes { AreFailuresTold (O.failures sink.old) (O.failures sink.new)
+    ensures writes { WriteFailuresTold (O.seen sink.old) (O.seen sink.new)
         (told_by sink_told result) }
-    ensures lines { WholeSteps (meter (J.calls input.old) (J.failures input.old))
-        (meter (J.calls input.new) (J.failures input.new)) (told_by input_told result) }
+    ensures lines { ReadSteps (J.seen input.old) (J.seen input.new) (told_by input_told result) }
     ensures unprinted { failures_told (told_by output_told result) ≡ 0 }
 {
     match &command.arguments {
@@ -457,28 +456,26 @@ pub fn publish<I: Source, O: Sink, J: Source>(
     input: &mut J,
 ) -> Result<(), Fault>
     ensures publishes { OnOk result (Publishes command.now.contact.serializer
-        command.now.contact.realm command.now.contact.authid command.now.wishes
-        command.now.topic command.now.arguments command.now.kwargs
-        (exchange (I.given source.old) (O.taken sink.old))
-        (exchange (I.given source.new) (O.taken sink.new))
-        (J.given input.old) (J.given input.new)) }
-    ensures ended { OnOk result (IsReadToEnd command.now.arguments (J.is_ended input.new)) }
-    ensures cause { IfErr result (λ fault. is_blamed fault ≡ true
-        → IsTurnedAway command.now.contact.serializer command.now.contact.realm
-        command.now.contact.authid (exchange (I.given source.old) (O.taken sink.old))
-        (exchange (I.given source.new) (O.taken sink.new)) fault
-        ⊎ EndsPublishing command.now.contact.serializer command.now.contact.realm
-        command.now.contact.authid command.now.wishes command.now.topic command.now.arguments
-        command.now.kwargs (exchange (I.given source.old) (O.taken sink.old))
-        (exchange (I.given source.new) (O.taken sink.new))
-        (J.given input.old) (J.given input.new) (J.is_ended input.new) fault) }
-    ensures gone { IfErr result (TellsEnd (I.is_ended source.new)) }
-    ensures reads { AreFailuresTold (I.failures source.old) (I.failures source.new)
+        command.now.contact.realm command.now.contact.authid command.now.wishes command.now.topic
+        command.now.arguments command.now.kwargs (exchanged (I.seen source.old) (O.seen sink.old))
+        (exchanged (I.seen source.new) (O.seen sink.new)) (J.seen input.old).given
+        (J.seen input.new).given) }
+    ensures ended { OnOk result (IsReadToEnd command.now.arguments (J.seen input.new).is_ended) }
+    ensures cause { IfErr result (λ fault. is_blamed fault ≡ true → IsTurnedAway
+        command.now.contact.serializer command.now.contact.realm command.now.contact.authid
+        (exchanged (I.seen source.old) (O.seen sink.old))
+        (exchanged (I.seen source.new) (O.seen sink.new)) fault ⊎ EndsPublishing
+        command.now.contact.serializer command.now.contact.realm command.now.contact.authid
+        command.now.wishes command.now.topic command.now.arguments command.now.kwargs
+        (exchanged (I.seen source.old) (O.seen sink.old))
+        (exchanged (I.seen source.new) (O.seen sink.new)) (J.seen input.old).given
+        (J.seen input.new).given (J.seen input.new).is_ended fault) }
+    ensures gone { IfErr result (TellsEnd (I.seen source.new).is_ended) }
+    ensures reads { ReadFailuresTold (I.seen source.old) (I.seen source.new)
         (told_by source_told result) }
-    ensures writes { AreFailuresTold (O.failures sink.old) (O.failures sink.new)
+    ensures writes { WriteFailuresTold (O.seen sink.old) (O.seen sink.new)
         (told_by sink_told result) }
-    ensures lines { WholeSteps (meter (J.calls input.old) (J.failures input.old))
-        (meter (J.calls input.new) (J.failures input.new)) (told_by input_told result) }
+    ensures lines { ReadSteps (J.seen input.old) (J.seen input.new) (told_by input_told result) }
     ensures unprinted { failures_told (told_by output_told result) ≡ 0 }
 {
     let mut session = match join(alloc, &command.contact, source, sink) {

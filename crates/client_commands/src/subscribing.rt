@@ -1,14 +1,14 @@
 //! `subscribe`.
 ghost use Rattle.std.specs.Prelude.{◌≡◌, ◌++◌, ◌⊎◌, IfOk, IfErr, OnErr, OnOk, length, true};
-ghost use Rattle.rawsocket.specs.Devices.{GrowsByBeginning};
-ghost use Rattle.rawsocket.specs.Steps.{Fine, Steps, WholeSteps, meter, told_by};
-ghost use Rattle.session.specs.Opened.{exchange};
+ghost use Rattle.rawsocket.specs.Devices.{Takes, TakesBeginning};
+ghost use Rattle.rawsocket.specs.Steps.{Fine, Steps, WriteSteps, told_by, write_meter};
+ghost use Rattle.session.specs.Opened.{exchanged};
 ghost use Rattle.client_messages.specs.declared.client_message.ClientMessage.TheVariants.{Subscribe as SubscribeSaid};
 ghost use Rattle.client_messages.specs.Wishes.{subscribe_options};
 ghost use Rattle.client_messages.specs.declared.heard.Heard.TheVariants.{Subscribed as SubscribedHeard};
-ghost use Rattle.client_commands.specs.Acts.{EndsAfterAsking, Follows, IsCaused, IsTurnedAway, Prints, PrintsAfterAsking, Subscribes, asked, granted_with, is_event, line_for, may_come, note_for, standing, terms_of};
+ghost use Rattle.client_commands.specs.Acts.{EndsAfterAsking, Follows, IsCaused, IsTurnedAway, Prints, PrintsAfterAsking, Subscribes, asked, granted_with, is_event, line_for, may_come, note_for, standing_of, terms_of};
 ghost use Rattle.client_commands.specs.Notes.{IsNoted, noting};
-ghost use Rattle.client_commands.specs.Faults.{AreFailuresTold, IsNoEnd, IsOfBroker, IsOfHere, IsOfMessage, IsOfNoMessage, TellsEnd, is_of_message, output_told, sink_told, source_told};
+ghost use Rattle.client_commands.specs.Faults.{IsNoEnd, IsOfBroker, IsOfHere, IsOfMessage, IsOfNoMessage, ReadFailuresTold, TellsEnd, WriteFailuresTold, is_of_message, output_told, sink_told, source_told};
 
 use crate::command::SubscribeCommand;
 use crate::event_lines::event_line;
@@ -53,14 +53,14 @@ fn ask<O: Sink>(
     link: &Link,
     sink: &mut O,
 ) -> Result<(), Fault>
-    ensures asked { OnOk result (O.taken sink.new ≡ O.taken sink.old
-        ++ asked link.now.serializer command.now.wishes command.now.topics.items
-        (length command.now.topics.items)) }
+    ensures asked { OnOk result (Takes (O.seen sink.old) (O.seen sink.new) (asked
+        link.now.serializer command.now.wishes command.now.topics.items
+        (length command.now.topics.items))) }
     ensures unblamed { IfErr result IsOfNoMessage }
     ensures unended { IfErr result IsNoEnd }
     ensures unread { told_by source_told result ≡ Fine }
     ensures aside { told_by output_told result ≡ Fine }
-    ensures writes { AreFailuresTold (O.failures sink.old) (O.failures sink.new)
+    ensures writes { WriteFailuresTold (O.seen sink.old) (O.seen sink.new)
         (told_by sink_told result) }
 {
     'topics: for place in 0..command.topics.len() {
@@ -80,13 +80,12 @@ fn ask<O: Sink>(
 
 /// Prints a line, and passes it on.
 fn print<P: Sink>(output: &mut P, line: &[u8], turns: &mut Turns) -> Result<(), Fault>
-    ensures printed { OnOk result (P.taken output.new ≡ P.taken output.old ++ line.now) }
-    ensures begun { GrowsByBeginning (P.taken output.old) (P.taken output.new) line.now }
+    ensures printed { OnOk result (Takes (P.seen output.old) (P.seen output.new) line.now) }
+    ensures begun { TakesBeginning (P.seen output.old) (P.seen output.new) line.now }
     ensures unblamed { IfErr result IsOfNoMessage }
     ensures untold { IfErr result IsOfHere }
-    ensures writes { Steps (meter (P.calls output.old) (P.failures output.old) turns.old)
-        (meter (P.calls output.new) (P.failures output.new) turns.new)
-        (told_by output_told result) }
+    ensures writes { Steps (write_meter (P.seen output.old) turns.old)
+        (write_meter (P.seen output.new) turns.new) (told_by output_told result) }
 {
     match send(output, line, turns) {
         Ok(()) => Ok(()),
@@ -111,10 +110,10 @@ fn take_grant<N: Sink>(
         ≡ granted_with granted.old.items (SubscribedHeard request subscription)) }
     ensures told { OnOk result (IsNoted
         (note_for topics.now.items (SubscribedHeard request subscription))
-        (noting (N.taken notes.old) (N.failures notes.old))
-        (noting (N.taken notes.new) (N.failures notes.new))) }
-    ensures untold { OnErr result (noting (N.taken notes.new) (N.failures notes.new)
-        ≡ noting (N.taken notes.old) (N.failures notes.old)) }
+        (noting (N.seen notes.old))
+        (noting (N.seen notes.new))) }
+    ensures untold { OnErr result (noting (N.seen notes.new) ≡
+        noting (N.seen notes.old)) }
     ensures blamed { IfErr result (IsOfMessage (SubscribedHeard request subscription)) }
     ensures here { IfErr result IsOfHere }
     ensures aside { IfErr result IsOfBroker }
@@ -147,21 +146,20 @@ fn take<P: Sink, N: Sink>(
 ) -> Result<bool, Fault>
     ensures noted { OnOk result (granted.new.items ≡ granted_with granted.old.items heard) }
     ensures told { OnOk result (IsNoted (note_for topics.now.items heard)
-        (noting (N.taken notes.old) (N.failures notes.old))
-        (noting (N.taken notes.new) (N.failures notes.new))) }
-    ensures silent { OnErr result (noting (N.taken notes.new) (N.failures notes.new)
-        ≡ noting (N.taken notes.old) (N.failures notes.old)) }
-    ensures printed { OnOk result (P.taken output.new ≡ P.taken output.old
-        ++ line_for topics.now.items granted.old.items heard) }
+        (noting (N.seen notes.old))
+        (noting (N.seen notes.new))) }
+    ensures silent { OnErr result (noting (N.seen notes.new) ≡
+        noting (N.seen notes.old)) }
+    ensures printed { OnOk result (Takes (P.seen output.old) (P.seen output.new)
+        (line_for topics.now.items granted.old.items heard)) }
     ensures event { IfOk result (λ told. told ≡ is_event heard) }
     ensures harmless { OnOk result (may_come heard ≡ true) }
-    ensures begun { GrowsByBeginning (P.taken output.old) (P.taken output.new)
+    ensures begun { TakesBeginning (P.seen output.old) (P.seen output.new)
         (line_for topics.now.items granted.old.items heard) }
     ensures blamed { IfErr result (IsOfMessage heard) }
     ensures untold { IfErr result IsOfHere }
-    ensures writes { Steps (meter (P.calls output.old) (P.failures output.old) turns.old)
-        (meter (P.calls output.new) (P.failures output.new) turns.new)
-        (told_by output_told result) }
+    ensures writes { Steps (write_meter (P.seen output.old) turns.old)
+        (write_meter (P.seen output.new) turns.new) (told_by output_told result) }
 {
     match heard {
         Heard::Subscribed {
@@ -207,28 +205,27 @@ fn follow<I: Source, O: Sink, P: Sink, N: Sink>(
 ) -> Result<(), Fault>
     ensures follows { OnOk result (Follows command.now.topics.items command.now.count
         (terms_of session.old)
-        (standing session.old (I.given source.old) (O.taken sink.old))
-        (standing session.new (I.given source.new) (O.taken sink.new))
-        (P.taken output.old) (P.taken output.new)
-        (noting (N.taken notes.old) (N.failures notes.old))
-        (noting (N.taken notes.new) (N.failures notes.new))) }
+        (standing_of session.old (I.seen source.old) (O.seen sink.old))
+        (standing_of session.new (I.seen source.new) (O.seen sink.new))
+        (P.seen output.old).taken (P.seen output.new).taken
+        (noting (N.seen notes.old))
+        (noting (N.seen notes.new))) }
     ensures terms { terms_of session.new ≡ terms_of session.old }
     ensures prints { Prints command.now.topics.items (terms_of session.old)
-        (standing session.old (I.given source.old) (O.taken sink.old))
-        (exchange (I.given source.new) (O.taken sink.new))
-        (P.taken output.old) (P.taken output.new)
-        (noting (N.taken notes.old) (N.failures notes.old))
-        (noting (N.taken notes.new) (N.failures notes.new)) }
+        (standing_of session.old (I.seen source.old) (O.seen sink.old))
+        (exchanged (I.seen source.new) (O.seen sink.new)) (P.seen output.old).taken
+        (P.seen output.new).taken (noting (N.seen notes.old))
+        (noting (N.seen notes.new)) }
     ensures cause { IfErr result (IsCaused (terms_of session.old)
-        (standing session.old (I.given source.old) (O.taken sink.old))
-        (exchange (I.given source.new) (O.taken sink.new))) }
-    ensures gone { IfErr result (TellsEnd (I.is_ended source.new)) }
-    ensures reads { AreFailuresTold (I.failures source.old) (I.failures source.new)
+        (standing_of session.old (I.seen source.old) (O.seen sink.old))
+        (exchanged (I.seen source.new) (O.seen sink.new))) }
+    ensures gone { IfErr result (TellsEnd (I.seen source.new).is_ended) }
+    ensures reads { ReadFailuresTold (I.seen source.old) (I.seen source.new)
         (told_by source_told result) }
-    ensures writes { AreFailuresTold (O.failures sink.old) (O.failures sink.new)
+    ensures writes { WriteFailuresTold (O.seen sink.old) (O.seen sink.new)
         (told_by sink_told result) }
-    ensures lines { WholeSteps (meter (P.calls output.old) (P.failures output.old))
-        (meter (P.calls output.new) (P.failures output.new)) (told_by output_told result) }
+    ensures lines { WriteSteps (P.seen output.old) (P.seen output.new)
+        (told_by output_told result) }
 {
     let mut granted = Vec::new(alloc);
     let mut turns = Turns::new();
@@ -291,38 +288,34 @@ pub fn subscribe<I: Source, O: Sink, P: Sink, N: Sink>(
     output: &mut P,
     notes: &mut N,
 ) -> Result<(), Fault>
-    ensures subscribes { OnOk result (Subscribes command.now.contact.serializer command.now.contact.realm
-        command.now.contact.authid command.now.wishes command.now.topics.items command.now.count
-        (exchange (I.given source.old) (O.taken sink.old))
-        (exchange (I.given source.new) (O.taken sink.new))
-        (P.taken output.old) (P.taken output.new)
-        (noting (N.taken notes.old) (N.failures notes.old))
-        (noting (N.taken notes.new) (N.failures notes.new))) }
-    ensures prints { ((P.taken output.new ≡ P.taken output.old)
-        × (noting (N.taken notes.new) (N.failures notes.new)
-        ≡ noting (N.taken notes.old) (N.failures notes.old)))
-        ⊎ PrintsAfterAsking command.now.contact.serializer command.now.contact.realm
-        command.now.contact.authid command.now.wishes command.now.topics.items
-        (exchange (I.given source.old) (O.taken sink.old))
-        (exchange (I.given source.new) (O.taken sink.new))
-        (P.taken output.old) (P.taken output.new)
-        (noting (N.taken notes.old) (N.failures notes.old))
-        (noting (N.taken notes.new) (N.failures notes.new)) }
-    ensures cause { IfErr result (λ fault. is_of_message fault ≡ true
-        → IsTurnedAway command.now.contact.serializer command.now.contact.realm
-        command.now.contact.authid (exchange (I.given source.old) (O.taken sink.old))
-        (exchange (I.given source.new) (O.taken sink.new)) fault
-        ⊎ EndsAfterAsking command.now.contact.serializer command.now.contact.realm
-        command.now.contact.authid command.now.wishes command.now.topics.items
-        (exchange (I.given source.old) (O.taken sink.old))
-        (exchange (I.given source.new) (O.taken sink.new)) fault) }
-    ensures gone { IfErr result (TellsEnd (I.is_ended source.new)) }
-    ensures reads { AreFailuresTold (I.failures source.old) (I.failures source.new)
+    ensures subscribes { OnOk result (Subscribes command.now.contact.serializer
+        command.now.contact.realm command.now.contact.authid command.now.wishes
+        command.now.topics.items command.now.count (exchanged (I.seen source.old) (O.seen sink.old))
+        (exchanged (I.seen source.new) (O.seen sink.new)) (P.seen output.old).taken
+        (P.seen output.new).taken (noting (N.seen notes.old))
+        (noting (N.seen notes.new))) }
+    ensures prints { (((P.seen output.new).taken ≡ (P.seen output.old).taken) × (noting
+        (N.seen notes.new).taken (N.seen notes.new).failures ≡ noting (N.seen notes.old))) ⊎ PrintsAfterAsking command.now.contact.serializer
+        command.now.contact.realm command.now.contact.authid command.now.wishes
+        command.now.topics.items (exchanged (I.seen source.old) (O.seen sink.old))
+        (exchanged (I.seen source.new) (O.seen sink.new)) (P.seen output.old).taken
+        (P.seen output.new).taken (noting (N.seen notes.old))
+        (noting (N.seen notes.new)) }
+    ensures cause { IfErr result (λ fault. is_of_message fault ≡ true → IsTurnedAway
+        command.now.contact.serializer command.now.contact.realm command.now.contact.authid
+        (exchanged (I.seen source.old) (O.seen sink.old))
+        (exchanged (I.seen source.new) (O.seen sink.new)) fault ⊎ EndsAfterAsking
+        command.now.contact.serializer command.now.contact.realm command.now.contact.authid
+        command.now.wishes command.now.topics.items
+        (exchanged (I.seen source.old) (O.seen sink.old))
+        (exchanged (I.seen source.new) (O.seen sink.new)) fault) }
+    ensures gone { IfErr result (TellsEnd (I.seen source.new).is_ended) }
+    ensures reads { ReadFailuresTold (I.seen source.old) (I.seen source.new)
         (told_by source_told result) }
-    ensures writes { AreFailuresTold (O.failures sink.old) (O.failures sink.new)
+    ensures writes { WriteFailuresTold (O.seen sink.old) (O.seen sink.new)
         (told_by sink_told result) }
-    ensures lines { WholeSteps (meter (P.calls output.old) (P.failures output.old))
-        (meter (P.calls output.new) (P.failures output.new)) (told_by output_told result) }
+    ensures lines { WriteSteps (P.seen output.old) (P.seen output.new)
+        (told_by output_told result) }
 {
     let mut session = match join(alloc, &command.contact, source, sink) {
         Ok(session) => session,

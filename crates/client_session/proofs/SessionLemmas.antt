@@ -4,7 +4,7 @@ use Rattle.rawsocket.specs.Steps.{Fine}
 use Rattle.client_messages.specs.declared.client_message.ClientMessage.{ClientMessage}
 use Rattle.client_messages.specs.declared.heard.Heard.{Heard}
 use Rattle.client_session.specs.Faults.{write_told}
-use Rattle.client_session.specs.Hearing.{Ear, HearsNext, Line, Terms, heard_at}
+use Rattle.client_session.specs.Hearing.{Ear, HearsNext, Line, Terms, ear}
 use Rattle.client_session.specs.Saying.{IsUnsaid}
 use Rattle.client_session.specs.Sessions.{HearsInSession, IsGreeting, IsJudged, IsUnwelcome}
 use Rattle.client_session.specs.declared.fault.Fault.{Fault}
@@ -42,9 +42,9 @@ heard_judged t before now given given_now heard (Err ForeignEvent) next w = (rec
 heard_judged t before now given given_now heard (Err (Failed fault)) next w = (inr (record { heard = heard; next = next; memory = w.0 }), w.1)
 
 -- what answers HELLO is no WELCOME
-pub unwelcome : (t : Terms) (before : Ear) (l : Line) (given taken : List ℕ) (heard : Heard) (refusal : NoSession) → HearsNext t before (heard_at l given taken) (Ok heard) → IsGreeting heard (Err refusal)
+pub unwelcome : (t : Terms) (before : Ear) (l : Line) (given taken : List ℕ) (heard : Heard) (refusal : NoSession) → HearsNext t before (ear l.waiting l.held given taken) (Ok heard) → IsGreeting heard (Err refusal)
     → IsUnwelcome t before given taken refusal
 unwelcome t before l given taken heard (Aborted reason) next w =
-    record { waiting = l.waiting; held = l.held; next = subst (λ (h : Heard). HearsNext t before (heard_at l given taken) (Ok h)) w next }
+    record { waiting = l.waiting; held = l.held; next = subst (λ (h : Heard). HearsNext t before (ear l.waiting l.held given taken) (Ok h)) w next }
 unwelcome t before l given taken heard Unexpected next w = record { heard = heard; other = w; last = record { waiting = l.waiting; held = l.held; next = next } }
 unwelcome t before l given taken heard (no_session.Failed fault) next w = absurd w

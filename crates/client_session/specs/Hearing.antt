@@ -3,7 +3,7 @@ use Rattle.std.specs.Prelude.{◌≡◌, ◌≢◌, ◌≤◌, ◌<◌, ⊤, ℕ
 use Rattle.std.specs.declared.option.Option.{Option}
 use Rattle.std.specs.List.{flat_map, AllByRecursion}
 use Rattle.message_tree.specs.Data.{Data}
-use Rattle.rawsocket.specs.Devices.{GrowsByBeginning}
+use Rattle.rawsocket.specs.Devices.{GrowsByBeginning, Reading, Writing}
 use Rattle.rawsocket.specs.Frames.{Content, spelled, fault_of, Reads}
 use Rattle.rawsocket.specs.declared.fault.Fault.TheVariants as stream
 use Rattle.rawsocket.specs.declared.frame.Kind.{Kind}
@@ -264,5 +264,5 @@ pub record IsSteady (limit : ℕ) (held : List ℕ) : Type 0 where
   pub fits : limit ≤ 16777215
   pub steady : Reads held [] held
 
-abbrev pub heard_at : Line → List ℕ → List ℕ → Ear
-heard_at l given taken = ear l.waiting l.held given taken
+abbrev pub heard_at : Line → Reading → Writing → Ear
+heard_at l source sink = ear l.waiting l.held source.given sink.taken

@@ -1,10 +1,11 @@
 //! The handshake with a broker (WAMP, "RawSocket Transport").
 ghost use Rattle.std.specs.Prelude.{◌≡◌, ◌≢◌, ◌≤◌, ◌<◌, ◌++◌, ℕ, length, IfOk, IfErr, Ok, Err, true, MatchOption};
 ghost use Rattle.rawsocket.specs.Handshakes.{answered, refusing};
-ghost use Rattle.rawsocket.specs.Steps.{Steps, meter, told_by};
-ghost use Rattle.session.specs.Opened.{exchange};
+ghost use Rattle.rawsocket.specs.Steps.{Steps, read_meter, told_by, write_meter};
+ghost use Rattle.session.specs.Opened.{exchanged};
 ghost use Rattle.client_session.specs.Faults.{read_told, write_told};
 ghost use Rattle.client_session.specs.Handshake.{asking, IsCut, IsRefused, IsReply, Replies};
+ghost use Rattle.rawsocket.specs.Devices.{Gives};
 
 use crate::fault::Fault;
 use crate::sending::send;
@@ -84,14 +85,13 @@ fn judge_reply(serializer: Serializer, octets: &[u8]) -> Result<u32, Fault>
 
 /// Reads the four octets of a reply, and no more.
 fn read_reply<I: Source>(alloc: Global, source: &mut I, turns: &mut Turns) -> Result<Vec<u8>, Fault>
-    ensures read { IfOk result (λ reply.
-        I.given source.new ≡ I.given source.old ++ reply.items) }
+    ensures read { IfOk result
+        (λ reply. Gives (I.seen source.old) (I.seen source.new) reply.items) }
     ensures four { IfOk result (λ reply. length reply.items ≡ 4) }
-    ensures cut { IfErr result (IsCut (I.given source.old) (I.given source.new)) }
-    ensures ended { result ≡ Err Fault.Ended → I.is_ended source.new ≡ true }
-    ensures reads { Steps (meter (I.calls source.old) (I.failures source.old) turns.old)
-        (meter (I.calls source.new) (I.failures source.new) turns.new)
-        (told_by read_told result) }
+    ensures cut { IfErr result (IsCut (I.seen source.old).given (I.seen source.new).given) }
+    ensures ended { result ≡ Err Fault.Ended → (I.seen source.new).is_ended ≡ true }
+    ensures reads { Steps (read_meter (I.seen source.old) turns.old)
+        (read_meter (I.seen source.new) turns.new) (told_by read_told result) }
 {
     let mut octets = Vec::new(alloc);
     let mut piece = [0u8; 4];
@@ -118,19 +118,17 @@ pub(crate) fn shake_hands<I: Source, O: Sink>(
     writing: &mut Turns,
 ) -> Result<u32, Fault>
     ensures accepted { IfOk result (λ limit. Replies serializer
-        (exchange (I.given source.old) (O.taken sink.old))
-        (exchange (I.given source.new) (O.taken sink.new)) (Ok limit)) }
+        (exchanged (I.seen source.old) (O.seen sink.old))
+        (exchanged (I.seen source.new) (O.seen sink.new)) (Ok limit)) }
     ensures fits { IfOk result (λ limit. limit ≤ 16777215) }
     ensures refused { IfErr result (IsRefused serializer
-        (exchange (I.given source.old) (O.taken sink.old))
-        (exchange (I.given source.new) (O.taken sink.new))) }
-    ensures ended { result ≡ Err Fault.Ended → I.is_ended source.new ≡ true }
-    ensures reads { Steps (meter (I.calls source.old) (I.failures source.old) reading.old)
-        (meter (I.calls source.new) (I.failures source.new) reading.new)
-        (told_by read_told result) }
-    ensures writes { Steps (meter (O.calls sink.old) (O.failures sink.old) writing.old)
-        (meter (O.calls sink.new) (O.failures sink.new) writing.new)
-        (told_by write_told result) }
+        (exchanged (I.seen source.old) (O.seen sink.old))
+        (exchanged (I.seen source.new) (O.seen sink.new))) }
+    ensures ended { result ≡ Err Fault.Ended → (I.seen source.new).is_ended ≡ true }
+    ensures reads { Steps (read_meter (I.seen source.old) reading.old)
+        (read_meter (I.seen source.new) reading.new) (told_by read_told result) }
+    ensures writes { Steps (write_meter (O.seen sink.old) writing.old)
+        (write_meter (O.seen sink.new) writing.new) (told_by write_told result) }
 {
     if let Err(fault) = send(sink, &asking(serializer), writing) {
         return Err(fault);

@@ -1,7 +1,7 @@
 //! What the frames say that wait to be heard.
 ghost use Rattle.std.specs.Prelude.{◌≡◌, ◌≢◌, ◌≤◌, ◌<◌, Some, IfOk, IfErr, OnOk, OnErr};
 ghost use Rattle.rawsocket.specs.Frames.{content, contents};
-ghost use Rattle.rawsocket.specs.Steps.{Steps, meter, told_by};
+ghost use Rattle.rawsocket.specs.Steps.{Steps, told_by, write_meter};
 ghost use Rattle.client_session.specs.Faults.{write_told};
 ghost use Rattle.client_session.specs.Hearing.{Says, SaysNothing, first_kind, stand, terms, ping, HearsFirst, IsUnheard, IsAnswered, StopsAt, PassesFirst, StopsFirst, Gives};
 
@@ -78,12 +78,12 @@ fn answer_ping<O: Sink>(
     turns: &mut Turns,
 ) -> Result<(), Fault>
     requires { limit ≤ 16777215 }
-    ensures answered { OnOk result (IsAnswered limit (ping payload.now)
-        (O.taken sink.old) (O.taken sink.new)) }
-    ensures stops { IfErr result (StopsAt limit (ping payload.now)
-        (O.taken sink.old) (O.taken sink.new)) }
-    ensures writes { Steps (meter (O.calls sink.old) (O.failures sink.old) turns.old)
-        (meter (O.calls sink.new) (O.failures sink.new) turns.new) (told_by write_told result) }
+    ensures answered { OnOk result
+        (IsAnswered limit (ping payload.now) (O.seen sink.old).taken (O.seen sink.new).taken) }
+    ensures stops { IfErr result
+        (StopsAt limit (ping payload.now) (O.seen sink.old).taken (O.seen sink.new).taken) }
+    ensures writes { Steps (write_meter (O.seen sink.old) turns.old)
+        (write_meter (O.seen sink.new) turns.new) (told_by write_told result) }
 {
     if payload.len() > limit as usize {
         return Err(Fault::TooLongForBroker);
@@ -107,12 +107,12 @@ fn answer<O: Sink>(
 ) -> Result<(), Fault>
     requires fits { limit ≤ 16777215 }
     requires aside { frame.kind ≢ Kind.Message }
-    ensures answered { OnOk result (IsAnswered limit (content frame)
-        (O.taken sink.old) (O.taken sink.new)) }
-    ensures stops { IfErr result (StopsAt limit (content frame)
-        (O.taken sink.old) (O.taken sink.new)) }
-    ensures writes { Steps (meter (O.calls sink.old) (O.failures sink.old) turns.old)
-        (meter (O.calls sink.new) (O.failures sink.new) turns.new) (told_by write_told result) }
+    ensures answered { OnOk result
+        (IsAnswered limit (content frame) (O.seen sink.old).taken (O.seen sink.new).taken) }
+    ensures stops { IfErr result
+        (StopsAt limit (content frame) (O.seen sink.old).taken (O.seen sink.new).taken) }
+    ensures writes { Steps (write_meter (O.seen sink.old) turns.old)
+        (write_meter (O.seen sink.new) turns.new) (told_by write_told result) }
 {
     match frame.kind {
         Kind::Message => unreachable!(),
@@ -134,13 +134,13 @@ fn pass_first<O: Sink>(
     requires first { first_kind (contents waiting.old.items) ≡ Some kind }
     requires aside { kind ≢ Kind.Message }
     ensures passes { OnOk result (PassesFirst limit
-        (stand (contents waiting.old.items) (O.taken sink.old))
-        (stand (contents waiting.new.items) (O.taken sink.new))) }
+        (stand (contents waiting.old.items) (O.seen sink.old).taken)
+        (stand (contents waiting.new.items) (O.seen sink.new).taken)) }
     ensures stops { IfErr result (StopsFirst limit
-        (stand (contents waiting.old.items) (O.taken sink.old))
-        (stand (contents waiting.new.items) (O.taken sink.new))) }
-    ensures writes { Steps (meter (O.calls sink.old) (O.failures sink.old) turns.old)
-        (meter (O.calls sink.new) (O.failures sink.new) turns.new) (told_by write_told result) }
+        (stand (contents waiting.old.items) (O.seen sink.old).taken)
+        (stand (contents waiting.new.items) (O.seen sink.new).taken)) }
+    ensures writes { Steps (write_meter (O.seen sink.old) turns.old)
+        (write_meter (O.seen sink.new) turns.new) (told_by write_told result) }
 {
     let Some(frame) = waiting.pop_front() else {
         unreachable!();
@@ -158,10 +158,10 @@ pub(crate) fn hear_waiting<O: Sink>(
 ) -> Result<Option<Heard>, Fault>
     requires { broker.limit ≤ 16777215 }
     ensures gives { Gives (terms broker.serializer broker.limit)
-        (stand (contents waiting.old.items) (O.taken sink.old))
-        (stand (contents waiting.new.items) (O.taken sink.new)) result }
-    ensures writes { Steps (meter (O.calls sink.old) (O.failures sink.old) turns.old)
-        (meter (O.calls sink.new) (O.failures sink.new) turns.new) (told_by write_told result) }
+        (stand (contents waiting.old.items) (O.seen sink.old).taken)
+        (stand (contents waiting.new.items) (O.seen sink.new).taken) result }
+    ensures writes { Steps (write_meter (O.seen sink.old) turns.old)
+        (write_meter (O.seen sink.new) turns.new) (told_by write_told result) }
 {
     'frames: while let Some(kind) = first_kind(waiting) {
         match kind {

@@ -1,7 +1,7 @@
 //! What came from the broker and is not heard yet, and what comes next.
 ghost use Rattle.std.specs.Prelude.{◌≡◌, ◌≢◌, ◌≤◌, ◌<◌, ◌+◌, [], length, IfOk, IfErr, IfSome, IfNone, OnOk, OnErr, Err, Some, None, true};
 ghost use Rattle.rawsocket.specs.Frames.{contents, fault_of, Reads};
-ghost use Rattle.rawsocket.specs.Steps.{Steps, Fine, meter, told_by};
+ghost use Rattle.rawsocket.specs.Steps.{Fine, Steps, read_meter, told_by, write_meter};
 ghost use Rattle.client_session.specs.Faults.{read_told, write_told};
 ghost use Rattle.client_session.specs.Hearing.{ReadsMore, ReadStops, IsLost, HearsNext, ear, terms};
 
@@ -55,15 +55,14 @@ fn read_more<I: Source>(
 ) -> Result<VecDeque<Frame>, Fault>
     requires { 0 < length buffer.old }
     ensures more { IfOk result (λ frames. ReadsMore deframer.old deframer.new
-        (I.given source.old) (I.given source.new) (contents frames.items)) }
+        (I.seen source.old).given (I.seen source.new).given (contents frames.items)) }
     ensures same { OnErr result (deframer.new ≡ deframer.old) }
     ensures stops { IfErr result (ReadStops deframer.old) }
-    ensures lost { IfErr result (IsLost (I.given source.old) (I.given source.new)) }
-    ensures ended { result ≡ Err Fault.Ended → I.is_ended source.new ≡ true }
+    ensures lost { IfErr result (IsLost (I.seen source.old).given (I.seen source.new).given) }
+    ensures ended { result ≡ Err Fault.Ended → (I.seen source.new).is_ended ≡ true }
     ensures turn { OnOk result (turns.old ≡ turns.new + 1) }
-    ensures reads { Steps (meter (I.calls source.old) (I.failures source.old) turns.old)
-        (meter (I.calls source.new) (I.failures source.new) turns.new)
-        (told_by read_told result) }
+    ensures reads { Steps (read_meter (I.seen source.old) turns.old)
+        (read_meter (I.seen source.new) turns.new) (told_by read_told result) }
 {
     if let Some(fault) = held_fault(deframer) {
         return Err(fault);
@@ -92,18 +91,15 @@ pub(crate) fn hear_next<I: Source, O: Sink>(
     requires fits { broker.limit ≤ 16777215 }
     requires some { 0 < length buffer.old }
     requires steady { Reads inbox.old.deframer [] inbox.old.deframer }
-    ensures next { HearsNext (terms broker.serializer broker.limit)
-        (ear (contents inbox.old.waiting.items) inbox.old.deframer
-        (I.given source.old) (O.taken sink.old))
-        (ear (contents inbox.new.waiting.items) inbox.new.deframer
-        (I.given source.new) (O.taken sink.new)) result }
-    ensures ended { result ≡ Err Fault.Ended → I.is_ended source.new ≡ true }
-    ensures reads { Steps (meter (I.calls source.old) (I.failures source.old) reading.old)
-        (meter (I.calls source.new) (I.failures source.new) reading.new)
-        (told_by read_told result) }
-    ensures writes { Steps (meter (O.calls sink.old) (O.failures sink.old) writing.old)
-        (meter (O.calls sink.new) (O.failures sink.new) writing.new)
-        (told_by write_told result) }
+    ensures next { HearsNext (terms broker.serializer broker.limit) (ear
+        (contents inbox.old.waiting.items) inbox.old.deframer (I.seen source.old).given
+        (O.seen sink.old).taken) (ear (contents inbox.new.waiting.items) inbox.new.deframer
+        (I.seen source.new).given (O.seen sink.new).taken) result }
+    ensures ended { result ≡ Err Fault.Ended → (I.seen source.new).is_ended ≡ true }
+    ensures reads { Steps (read_meter (I.seen source.old) reading.old)
+        (read_meter (I.seen source.new) reading.new) (told_by read_told result) }
+    ensures writes { Steps (write_meter (O.seen sink.old) writing.old)
+        (write_meter (O.seen sink.new) writing.new) (told_by write_told result) }
 {
     'pieces: loop {
         match hear_waiting(alloc, broker, &mut inbox.waiting, sink, writing) {

@@ -1,11 +1,12 @@
 //! A link to a broker.
 ghost use Rattle.std.specs.Prelude.{◌≡◌, ◌≤◌, ◌++◌, [], length, IfOk, IfErr, OnOk, Ok, Err, true};
-ghost use Rattle.rawsocket.specs.Steps.{WholeSteps, meter, told_by};
-ghost use Rattle.session.specs.Opened.{exchange};
+ghost use Rattle.rawsocket.specs.Steps.{ReadSteps, WriteSteps, told_by};
+ghost use Rattle.session.specs.Opened.{exchanged};
 ghost use Rattle.client_session.specs.Faults.{read_told, write_told};
 ghost use Rattle.client_session.specs.Handshake.{IsRefused, Replies};
 ghost use Rattle.client_session.specs.Hearing.{HearsNext, heard_at, terms};
 ghost use Rattle.client_session.specs.Saying.{payload_of, saying, IsCutShort};
+ghost use Rattle.rawsocket.specs.Devices.{Takes};
 
 use crate::encoding::frame_of;
 use crate::fault::Fault;
@@ -57,8 +58,8 @@ impl Link {
         serializer: Serializer,
     ) -> Result<Link, Fault>
         ensures accepted { IfOk result (λ link. Replies serializer
-            (exchange (I.given source.old) (O.taken sink.old))
-            (exchange (I.given source.new) (O.taken sink.new)) (Ok link.limit)) }
+            (exchanged (I.seen source.old) (O.seen sink.old))
+            (exchanged (I.seen source.new) (O.seen sink.new)) (Ok link.limit)) }
         ensures new { IfOk result (λ link. link ≡ record {
           serializer = serializer;
           limit = link.limit;
@@ -66,13 +67,13 @@ impl Link {
           held = [];
         }) }
         ensures refused { IfErr result (IsRefused serializer
-            (exchange (I.given source.old) (O.taken sink.old))
-            (exchange (I.given source.new) (O.taken sink.new))) }
-        ensures ended { result ≡ Err Fault.Ended → I.is_ended source.new ≡ true }
-        ensures reads { WholeSteps (meter (I.calls source.old) (I.failures source.old))
-            (meter (I.calls source.new) (I.failures source.new)) (told_by read_told result) }
-        ensures writes { WholeSteps (meter (O.calls sink.old) (O.failures sink.old))
-            (meter (O.calls sink.new) (O.failures sink.new)) (told_by write_told result) }
+            (exchanged (I.seen source.old) (O.seen sink.old))
+            (exchanged (I.seen source.new) (O.seen sink.new))) }
+        ensures ended { result ≡ Err Fault.Ended → (I.seen source.new).is_ended ≡ true }
+        ensures reads { ReadSteps (I.seen source.old) (I.seen source.new)
+            (told_by read_told result) }
+        ensures writes { WriteSteps (O.seen sink.old) (O.seen sink.new)
+            (told_by write_told result) }
     {
         let mut reading = Turns::new();
         let mut writing = Turns::new();
@@ -101,14 +102,14 @@ impl Link {
         sink: &mut O,
         said: ClientMessage,
     ) -> Result<(), Fault>
-        ensures said { OnOk result (O.taken sink.new
-            ≡ O.taken sink.old ++ saying self.now.serializer said) }
+        ensures said { OnOk result
+            (Takes (O.seen sink.old) (O.seen sink.new) (saying self.now.serializer said)) }
         ensures fits { OnOk result
             (length (payload_of self.now.serializer said) ≤ self.now.limit) }
         ensures cut_short { IfErr result (IsCutShort (terms self.now.serializer self.now.limit) said
-            (O.taken sink.old) (O.taken sink.new)) }
-        ensures writes { WholeSteps (meter (O.calls sink.old) (O.failures sink.old))
-            (meter (O.calls sink.new) (O.failures sink.new)) (told_by write_told result) }
+            (O.seen sink.old).taken (O.seen sink.new).taken) }
+        ensures writes { WriteSteps (O.seen sink.old) (O.seen sink.new)
+            (told_by write_told result) }
     {
         let frame = match frame_of(alloc, self.broker, said) {
             Ok(frame) => frame,
@@ -137,15 +138,15 @@ impl Link {
         sink: &mut O,
     ) -> Result<Heard, Fault>
         ensures next { HearsNext (terms self.old.serializer self.old.limit)
-            (heard_at self.old (I.given source.old) (O.taken sink.old))
-            (heard_at self.new (I.given source.new) (O.taken sink.new)) result }
+            (heard_at self.old (I.seen source.old) (O.seen sink.old))
+            (heard_at self.new (I.seen source.new) (O.seen sink.new)) result }
         ensures serializer { self.new.serializer ≡ self.old.serializer }
         ensures limit { self.new.limit ≡ self.old.limit }
-        ensures ended { result ≡ Err Fault.Ended → I.is_ended source.new ≡ true }
-        ensures reads { WholeSteps (meter (I.calls source.old) (I.failures source.old))
-            (meter (I.calls source.new) (I.failures source.new)) (told_by read_told result) }
-        ensures writes { WholeSteps (meter (O.calls sink.old) (O.failures sink.old))
-            (meter (O.calls sink.new) (O.failures sink.new)) (told_by write_told result) }
+        ensures ended { result ≡ Err Fault.Ended → (I.seen source.new).is_ended ≡ true }
+        ensures reads { ReadSteps (I.seen source.old) (I.seen source.new)
+            (told_by read_told result) }
+        ensures writes { WriteSteps (O.seen sink.old) (O.seen sink.new)
+            (told_by write_told result) }
     {
         let broker = self.broker;
         let mut reading = Turns::new();

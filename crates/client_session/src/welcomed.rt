@@ -1,6 +1,6 @@
 //! A session that a broker welcomed.
 ghost use Rattle.std.specs.Prelude.{◌≡◌, ◌↔◌, [], Contains, IfOk, IfErr, IsTrue, Ok, Err, true};
-ghost use Rattle.rawsocket.specs.Steps.{WholeSteps, meter, told_by};
+ghost use Rattle.rawsocket.specs.Steps.{ReadSteps, WriteSteps, told_by};
 ghost use Rattle.client_session.specs.Faults.{read_told, write_told};
 ghost use Rattle.client_session.specs.Hearing.{HearsNext, heard_at, terms};
 ghost use Rattle.client_session.specs.Sessions.{HearsInSession, IsGreeting, IsJudged, IsUnwelcome, opening_read_told, opening_write_told, session_read_told, session_write_told};
@@ -104,21 +104,21 @@ impl ClientSession {
         sink: &mut O,
     ) -> Result<ClientSession, NoSession>
         ensures welcomed { IfOk result (λ s. HearsNext (terms link.serializer link.limit)
-            (heard_at link (I.given source.old) (O.taken sink.old))
-            (heard_at s.line (I.given source.new) (O.taken sink.new)) (Ok (Heard.Welcome s.id))) }
+            (heard_at link (I.seen source.old) (O.seen sink.old))
+            (heard_at s.line (I.seen source.new) (O.seen sink.new))
+            (Ok (Heard.Welcome s.id))) }
         ensures serializer { IfOk result (λ s. s.line.serializer ≡ link.serializer) }
         ensures limit { IfOk result (λ s. s.line.limit ≡ link.limit) }
         ensures new { IfOk result (λ s. s.subscriptions ≡ []) }
         ensures refused { IfErr result (IsUnwelcome (terms link.serializer link.limit)
-            (heard_at link (I.given source.old) (O.taken sink.old))
-            (I.given source.new) (O.taken sink.new)) }
-        ensures ended { result ≡ Err (NoSession.Failed Fault.Ended)
-            → I.is_ended source.new ≡ true }
-        ensures reads { WholeSteps (meter (I.calls source.old) (I.failures source.old))
-            (meter (I.calls source.new) (I.failures source.new))
+            (heard_at link (I.seen source.old) (O.seen sink.old))
+            (I.seen source.new).given (O.seen sink.new).taken) }
+        ensures ended { result ≡ Err (NoSession.Failed Fault.Ended) → (I.seen source.new).is_ended ≡
+            true }
+        ensures reads { ReadSteps (I.seen source.old) (I.seen source.new)
             (told_by opening_read_told result) }
-        ensures writes { WholeSteps (meter (O.calls sink.old) (O.failures sink.old))
-            (meter (O.calls sink.new) (O.failures sink.new)) (told_by opening_write_told result) }
+        ensures writes { WriteSteps (O.seen sink.old) (O.seen sink.new)
+            (told_by opening_write_told result) }
     {
         let mut link = link;
         match link.hear(alloc, source, sink) {
@@ -160,18 +160,18 @@ impl ClientSession {
         sink: &mut O,
     ) -> Result<Heard, Unheard>
         ensures next { HearsInSession (terms self.old.line.serializer self.old.line.limit)
-            (heard_at self.old.line (I.given source.old) (O.taken sink.old))
-            (heard_at self.new.line (I.given source.new) (O.taken sink.new))
+            (heard_at self.old.line (I.seen source.old) (O.seen sink.old))
+            (heard_at self.new.line (I.seen source.new) (O.seen sink.new))
             self.old.subscriptions self.new.subscriptions result }
         ensures id { self.new.id ≡ self.old.id }
         ensures serializer { self.new.line.serializer ≡ self.old.line.serializer }
         ensures limit { self.new.line.limit ≡ self.old.line.limit }
-        ensures ended { result ≡ Err (Unheard.Failed Fault.Ended) → I.is_ended source.new ≡ true }
-        ensures reads { WholeSteps (meter (I.calls source.old) (I.failures source.old))
-            (meter (I.calls source.new) (I.failures source.new))
+        ensures ended { result ≡ Err (Unheard.Failed Fault.Ended) → (I.seen source.new).is_ended ≡
+            true }
+        ensures reads { ReadSteps (I.seen source.old) (I.seen source.new)
             (told_by session_read_told result) }
-        ensures writes { WholeSteps (meter (O.calls sink.old) (O.failures sink.old))
-            (meter (O.calls sink.new) (O.failures sink.new)) (told_by session_write_told result) }
+        ensures writes { WriteSteps (O.seen sink.old) (O.seen sink.new)
+            (told_by session_write_told result) }
     {
         match self.link.hear(alloc, source, sink) {
             Ok(heard) => judge(&mut self.subscriptions, heard),

@@ -1,7 +1,7 @@
 //! What standard error is told of a fault, and the exit status that it gives.
 ghost use Rattle.std.specs.Prelude.{◌≡◌, ◌⊎◌, ◌+◌, ◌++◌, ◌<◌, ◌≢◌, ◌≤◌, Err, IfErr, OnOk, string_bytes};
-ghost use Rattle.rawsocket.specs.Devices.{GrowsByBeginning};
-ghost use Rattle.rawsocket.specs.Steps.{Steps, device_told, meter, told_by};
+ghost use Rattle.rawsocket.specs.Devices.{Takes, TakesBeginning};
+ghost use Rattle.rawsocket.specs.Steps.{Steps, device_told, told_by, write_meter};
 ghost use Rattle.rawsocket.specs.declared.fault.Fault.TheVariants.{WriteFault as WriteFailed, TooManyTurns as NoTurnLeft};
 ghost use Rattle.session.specs.Opened.{AreUsedUp, AreWithinTurns};
 ghost use Rattle.command_line.specs.Commands.{IsWritten, fault_line, line_number, name_of, status_of};
@@ -34,10 +34,11 @@ fn write_number<S: Sink>(
     sink: &mut S,
     turns: &mut Turns,
 ) -> Result<(), rawsocket::Fault>
-    ensures written { OnOk result (S.taken sink.new ≡ S.taken sink.old ++ line_number fault.now) }
-    ensures begun { GrowsByBeginning (S.taken sink.old) (S.taken sink.new) (line_number fault.now) }
-    ensures steps { Steps (meter (S.calls sink.old) (S.failures sink.old) turns.old)
-        (meter (S.calls sink.new) (S.failures sink.new) turns.new) (told_by device_told result) }
+    ensures written { OnOk result
+        (Takes (S.seen sink.old) (S.seen sink.new) (line_number fault.now)) }
+    ensures begun { TakesBeginning (S.seen sink.old) (S.seen sink.new) (line_number fault.now) }
+    ensures steps { Steps (write_meter (S.seen sink.old) turns.old)
+        (write_meter (S.seen sink.new) turns.new) (told_by device_told result) }
     ensures which { IfErr result (λ of. of ≢ WriteFailed → of ≡ NoTurnLeft) }
 {
     match fault {
@@ -55,10 +56,11 @@ fn write_fault<S: Sink>(
     sink: &mut S,
     turns: &mut Turns,
 ) -> Result<(), rawsocket::Fault>
-    ensures written { OnOk result (S.taken sink.new ≡ S.taken sink.old ++ fault_line fault.now) }
-    ensures begun { GrowsByBeginning (S.taken sink.old) (S.taken sink.new) (fault_line fault.now) }
-    ensures steps { Steps (meter (S.calls sink.old) (S.failures sink.old) turns.old)
-        (meter (S.calls sink.new) (S.failures sink.new) turns.new) (told_by device_told result) }
+    ensures written { OnOk result
+        (Takes (S.seen sink.old) (S.seen sink.new) (fault_line fault.now)) }
+    ensures begun { TakesBeginning (S.seen sink.old) (S.seen sink.new) (fault_line fault.now) }
+    ensures steps { Steps (write_meter (S.seen sink.old) turns.old)
+        (write_meter (S.seen sink.new) turns.new) (told_by device_told result) }
     ensures which { IfErr result (λ of. of ≢ WriteFailed → of ≡ NoTurnLeft) }
 {
     write_all(sink, b"wampd: ", turns)?;
@@ -90,11 +92,11 @@ fn status(fault: &Fault) -> u8
 /// is written then. It takes no memory.
 pub fn report<S: Sink>(fault: &Fault, sink: &mut S) -> u8
     ensures status { result ≡ status_of fault.now }
-    ensures line { S.failures sink.new ≡ S.failures sink.old
-        → (S.taken sink.new ≡ S.taken sink.old ++ fault_line fault.now)
-        ⊎ AreUsedUp (S.calls sink.old) (S.calls sink.new) }
-    ensures begun { GrowsByBeginning (S.taken sink.old) (S.taken sink.new) (fault_line fault.now) }
-    ensures writes { AreWithinTurns (S.calls sink.old) (S.calls sink.new) }
+    ensures line { (S.seen sink.new).failures ≡ (S.seen sink.old).failures →
+        (Takes (S.seen sink.old) (S.seen sink.new) (fault_line fault.now)) ⊎ AreUsedUp
+        (S.seen sink.old).calls (S.seen sink.new).calls }
+    ensures begun { TakesBeginning (S.seen sink.old) (S.seen sink.new) (fault_line fault.now) }
+    ensures writes { AreWithinTurns (S.seen sink.old).calls (S.seen sink.new).calls }
 {
     let mut turns = Turns::new();
     let _ = write_fault(fault, sink, &mut turns);
@@ -108,12 +110,12 @@ fn write_failure<S: Sink>(
     sink: &mut S,
     turns: &mut Turns,
 ) -> Result<(), rawsocket::Fault>
-    ensures written { OnOk result (S.taken sink.new
-        ≡ S.taken sink.old ++ (fault_line fault.now ++ more.now)) }
-    ensures begun { GrowsByBeginning (S.taken sink.old) (S.taken sink.new)
+    ensures written { OnOk result
+        (Takes (S.seen sink.old) (S.seen sink.new) (fault_line fault.now ++ more.now)) }
+    ensures begun { TakesBeginning (S.seen sink.old) (S.seen sink.new)
         (fault_line fault.now ++ more.now) }
-    ensures steps { Steps (meter (S.calls sink.old) (S.failures sink.old) turns.old)
-        (meter (S.calls sink.new) (S.failures sink.new) turns.new) (told_by device_told result) }
+    ensures steps { Steps (write_meter (S.seen sink.old) turns.old)
+        (write_meter (S.seen sink.new) turns.new) (told_by device_told result) }
     ensures which { IfErr result (λ of. of ≢ WriteFailed → of ≡ NoTurnLeft) }
 {
     write_fault(fault, sink, turns)?;
@@ -124,12 +126,12 @@ fn write_failure<S: Sink>(
 /// It gives the exit status that `report` gives. A sink that fails is passed over; a beginning is written then. It takes no memory.
 pub fn report_failure<S: Sink>(fault: &Fault, more: &[u8], sink: &mut S) -> u8
     ensures status { result ≡ status_of fault.now }
-    ensures lines { S.failures sink.new ≡ S.failures sink.old
-        → IsWritten (fault_line fault.now ++ more.now) (S.taken sink.old) (S.taken sink.new)
-        (S.calls sink.old) (S.calls sink.new) }
-    ensures begun { GrowsByBeginning (S.taken sink.old) (S.taken sink.new)
+    ensures lines { (S.seen sink.new).failures ≡ (S.seen sink.old).failures → IsWritten
+        (fault_line fault.now ++ more.now) (S.seen sink.old).taken (S.seen sink.new).taken
+        (S.seen sink.old).calls (S.seen sink.new).calls }
+    ensures begun { TakesBeginning (S.seen sink.old) (S.seen sink.new)
         (fault_line fault.now ++ more.now) }
-    ensures writes { AreWithinTurns (S.calls sink.old) (S.calls sink.new) }
+    ensures writes { AreWithinTurns (S.seen sink.old).calls (S.seen sink.new).calls }
 {
     let mut turns = Turns::new();
     let _ = write_failure(fault, more, sink, &mut turns);

@@ -3,7 +3,7 @@ ghost use Rattle.std.specs.Prelude.{◌≡◌, ◌≢◌, ◌≤◌, ◌<◌, �
 ghost use Rattle.rawsocket.specs.Frames.{content, contents, fault_of};
 ghost use Rattle.rawsocket.specs.Deframer.{IsShort, completed};
 ghost use Rattle.rawsocket.specs.declared.handshake.Serializer.{Serializer};
-ghost use Rattle.rawsocket.specs.Steps.{WholeSteps, meter};
+ghost use Rattle.rawsocket.specs.Steps.{ReadSteps, read_meter};
 ghost use Rattle.realm_inbox.specs.Joins.{is_join};
 ghost use Rattle.realm_inbox.specs.Posted.{with_acts};
 ghost use Rattle.connection.specs.Posts.{Says, SaysNothing, is_farewell};
@@ -309,12 +309,11 @@ fn read_on<R: Wait, S: Shut, I: Source, P: Posting<S>>(
 ) -> ReadEnd
     requires some { 0 < length buffer.old }
     requires piece { length buffer.old ≤ 65536 }
-    ensures posted { ReadsSince (I.given source.old) (I.given source.new) (P.posted poster.old)
-        (P.posted poster.new)
+    ensures posted { ReadsSince (I.seen source.old).given (I.seen source.new).given
+        (P.posted poster.old) (P.posted poster.new)
         (IsReadUpTo (start serializer (contents early.items) deframer) result) }
-    ensures ended { result ≡ ReadEnd.Ended → I.is_ended source.new ≡ true }
-    ensures reads { WholeSteps (meter (I.calls source.old) (I.failures source.old))
-        (meter (I.calls source.new) (I.failures source.new)) (read_told result) }
+    ensures ended { result ≡ ReadEnd.Ended → (I.seen source.new).is_ended ≡ true }
+    ensures reads { ReadSteps (I.seen source.old) (I.seen source.new) (read_told result) }
 {
     let mut deframer = deframer;
     let mut turns = Turns::new();
@@ -357,13 +356,11 @@ fn read_up_to<R: Wait, S: Shut, I: Source, P: Posting<S>>(
     opened: Opened,
     poster: &mut P,
 ) -> ReadEnd
-    ensures posted { ReadsSince (I.given source.old) (I.given source.new) (P.posted poster.old)
-        (P.posted poster.new)
-        (IsReadUpTo
+    ensures posted { ReadsSince (I.seen source.old).given (I.seen source.new).given
+        (P.posted poster.old) (P.posted poster.new) (IsReadUpTo
         (start opened.serializer (contents opened.early.items) opened.deframer) result) }
-    ensures ended { result ≡ ReadEnd.Ended → I.is_ended source.new ≡ true }
-    ensures reads { WholeSteps (meter (I.calls source.old) (I.failures source.old))
-        (meter (I.calls source.new) (I.failures source.new)) (read_told result) }
+    ensures ended { result ≡ ReadEnd.Ended → (I.seen source.new).is_ended ≡ true }
+    ensures reads { ReadSteps (I.seen source.old) (I.seen source.new) (read_told result) }
 {
     let Ok(mut buffer) = vec![in alloc; 0; PIECE] else {
         return ReadEnd::NoMemory;
@@ -394,13 +391,12 @@ pub fn read_posts<R: Wait, S: Shut, I: Source, P: Posting<S>>(
     opened: Opened,
     poster: &mut P,
 ) -> ReadEnd
-    ensures posted { ReadsSince (I.given source.old) (I.given source.new) (P.posted poster.old)
-        (P.posted poster.new)
-        (IsReadBy
-        (start opened.serializer (contents opened.early.items) opened.deframer) result) }
-    ensures ended { result ≡ ReadEnd.Ended → I.is_ended source.new ≡ true }
-    ensures reads { ReadsUntil (meter (I.calls source.old) (I.failures source.old))
-        (meter (I.calls source.new) (I.failures source.new)) result }
+    ensures posted { ReadsSince (I.seen source.old).given (I.seen source.new).given
+        (P.posted poster.old) (P.posted poster.new)
+        (IsReadBy (start opened.serializer (contents opened.early.items) opened.deframer) result) }
+    ensures ended { result ≡ ReadEnd.Ended → (I.seen source.new).is_ended ≡ true }
+    ensures reads { ReadsUntil (read_meter (I.seen source.old)) (read_meter (I.seen source.new))
+        result }
 {
     let end = read_up_to(rt, alloc, source, opened, poster);
     leave(rt, poster, end)

@@ -1,7 +1,7 @@
 //! The writer of a connection: it takes items and writes their frames.
 ghost use Rattle.std.specs.Prelude.{◌≡◌, ◌≢◌, ◌≤◌, ◌<◌, ◌++◌, ◌∷◌, ◌⊎◌, [], length, IfOk, IfErr, OnOk, OnErr, ⊤};
-ghost use Rattle.rawsocket.specs.Devices.{GrowsByBeginning};
-ghost use Rattle.rawsocket.specs.Steps.{Steps, WholeSteps, meter, told_by};
+ghost use Rattle.rawsocket.specs.Devices.{Takes, TakesBeginning};
+ghost use Rattle.rawsocket.specs.Steps.{Steps, WriteSteps, told_by, write_meter};
 ghost use Rattle.outbox_queue.specs.Ends.{TookUnvouched, TookWhole};
 ghost use Rattle.outbox_queue.specs.Outbox.{MatchDrained};
 ghost use Rattle.connection.specs.Writer.{IsWrittenBy, WritesSince, IsLater, write_told};
@@ -102,14 +102,12 @@ impl Gathered {
 /// Hands what is gathered to the device. Nothing is gathered then, and no large buffer is kept.
 fn hand_over<S: Sink>(sink: &mut S, gathered: &mut Gathered) -> Result<(), WriteEnd>
     ensures passed { OnOk result
-        (S.taken sink.new ≡ S.taken sink.old ++ gathered.old.frames.items) }
+        (Takes (S.seen sink.old) (S.seen sink.new) gathered.old.frames.items) }
     ensures empty { OnOk result (gathered.new.frames.items ≡ []) }
-    ensures begun { GrowsByBeginning (S.taken sink.old) (S.taken sink.new)
-        gathered.old.frames.items }
+    ensures begun { TakesBeginning (S.seen sink.old) (S.seen sink.new) gathered.old.frames.items }
     ensures which { IfErr result IsOfDevice }
-    ensures steps { Steps (meter (S.calls sink.old) (S.failures sink.old) gathered.old.turns)
-        (meter (S.calls sink.new) (S.failures sink.new) gathered.new.turns)
-        (told_by write_told result) }
+    ensures steps { Steps (write_meter (S.seen sink.old) gathered.old.turns)
+        (write_meter (S.seen sink.new) gathered.new.turns) (told_by write_told result) }
 {
     match write_all(sink, gathered.frames.as_slice(), &mut gathered.turns) {
         Ok(()) => {}
@@ -127,14 +125,12 @@ fn hand_over<S: Sink>(sink: &mut S, gathered: &mut Gathered) -> Result<(), Write
 /// Hands over what is gathered, and tells the device to pass on what it holds itself.
 fn pass_on<S: Sink>(sink: &mut S, gathered: &mut Gathered) -> Result<(), WriteEnd>
     ensures passed { OnOk result
-        (S.taken sink.new ≡ S.taken sink.old ++ gathered.old.frames.items) }
+        (Takes (S.seen sink.old) (S.seen sink.new) gathered.old.frames.items) }
     ensures empty { OnOk result (gathered.new.frames.items ≡ []) }
-    ensures begun { GrowsByBeginning (S.taken sink.old) (S.taken sink.new)
-        gathered.old.frames.items }
+    ensures begun { TakesBeginning (S.seen sink.old) (S.seen sink.new) gathered.old.frames.items }
     ensures which { IfErr result IsOfDevice }
-    ensures steps { Steps (meter (S.calls sink.old) (S.failures sink.old) gathered.old.turns)
-        (meter (S.calls sink.new) (S.failures sink.new) gathered.new.turns)
-        (told_by write_told result) }
+    ensures steps { Steps (write_meter (S.seen sink.old) gathered.old.turns)
+        (write_meter (S.seen sink.new) gathered.new.turns) (told_by write_told result) }
 {
     if let Err(end) = hand_over(sink, gathered) {
         return Err(end);
@@ -176,11 +172,10 @@ fn next_item<R: Wait, H: Owed<Item>, S: Sink>(
     ensures took { IfOk result (λ item. drain.new.taken ≡ drain.old.taken ++ item ∷ []) }
     ensures none { OnErr result (drain.new.taken ≡ drain.old.taken) }
     ensures drain { IsLater H.begins drain.old drain.new }
-    ensures held { OnOk result (HandsOver
-        (output (S.taken sink.old) gathered.old.frames.items)
-        (output (S.taken sink.new) gathered.new.frames.items)) }
+    ensures held { OnOk result (HandsOver (output (S.seen sink.old).taken gathered.old.frames.items)
+        (output (S.seen sink.new).taken gathered.new.frames.items)) }
     ensures ended { IfErr result (λ e. EndsBetween e
-        (output (S.taken sink.old) gathered.old.frames.items) (S.taken sink.new)) }
+        (output (S.seen sink.old).taken gathered.old.frames.items) (S.seen sink.new).taken) }
     ensures stopped { result ≡ Err WriteEnd.Stopped
         → drain.old.empty_finds < drain.new.empty_finds }
     ensures whole { result ≡ Err WriteEnd.Stopped → until ≡ Until.Whole
@@ -188,9 +183,8 @@ fn next_item<R: Wait, H: Owed<Item>, S: Sink>(
     ensures dropped { result ≡ Err WriteEnd.Dropped
         → (until ≡ Until.Whole) × (drain.old.empty_finds < drain.new.empty_finds)
         × TookUnvouched H.owed H.is_over drain.new }
-    ensures steps { Steps (meter (S.calls sink.old) (S.failures sink.old) gathered.old.turns)
-        (meter (S.calls sink.new) (S.failures sink.new) gathered.new.turns)
-        (told_by write_told result) }
+    ensures steps { Steps (write_meter (S.seen sink.old) gathered.old.turns)
+        (write_meter (S.seen sink.new) gathered.new.turns) (told_by write_told result) }
 {
     match drain.next(rt) {
         Next::Item(item) => return Ok(item),
@@ -209,11 +203,10 @@ fn next_item<R: Wait, H: Owed<Item>, S: Sink>(
 /// The end for an item that can't be encoded. What is gathered is passed on.
 fn give_up<S: Sink>(sink: &mut S, gathered: &mut Gathered, fault: Fault) -> WriteEnd
     requires { (fault ≡ Fault.NoMemory) ⊎ (fault ≡ Fault.TooLongForClient) }
-    ensures ended { EndsWith fault result
-        (output (S.taken sink.old) gathered.old.frames.items) (S.taken sink.new) }
-    ensures steps { Steps (meter (S.calls sink.old) (S.failures sink.old) gathered.old.turns)
-        (meter (S.calls sink.new) (S.failures sink.new) gathered.new.turns)
-        (write_told result) }
+    ensures ended { EndsWith fault result (output (S.seen sink.old).taken gathered.old.frames.items)
+        (S.seen sink.new).taken }
+    ensures steps { Steps (write_meter (S.seen sink.old) gathered.old.turns)
+        (write_meter (S.seen sink.new) gathered.new.turns) (write_told result) }
 {
     if let Err(end) = pass_on(sink, gathered) {
         return end;
@@ -235,13 +228,12 @@ fn add_frame<S: Sink, W: Watch>(
     requires limit { client.limit ≤ 16777215 }
     requires held { length gathered.old.frames.items < 65536 }
     ensures done { OnOk result (AddsFrame client item.now
-        (output (S.taken sink.old) gathered.old.frames.items)
-        (output (S.taken sink.new) gathered.new.frames.items)) }
+        (output (S.seen sink.old).taken gathered.old.frames.items)
+        (output (S.seen sink.new).taken gathered.new.frames.items)) }
     ensures ended { IfErr result (λ e. BreaksAt client e item.now
-        (output (S.taken sink.old) gathered.old.frames.items) (S.taken sink.new)) }
-    ensures steps { Steps (meter (S.calls sink.old) (S.failures sink.old) gathered.old.turns)
-        (meter (S.calls sink.new) (S.failures sink.new) gathered.new.turns)
-        (told_by write_told result) }
+        (output (S.seen sink.old).taken gathered.old.frames.items) (S.seen sink.new).taken) }
+    ensures steps { Steps (write_meter (S.seen sink.old) gathered.old.turns)
+        (write_meter (S.seen sink.new) gathered.new.turns) (told_by write_told result) }
 {
     if let Err(fault) = write_item(
         gathered.alloc,
@@ -271,12 +263,12 @@ fn write_next<R: Wait, H: Owed<Item>, S: Sink, W: Watch>(
 ) -> Result<(), WriteEnd>
     requires limit { client.limit ≤ 16777215 }
     requires held { length gathered.old.frames.items < 65536 }
-    ensures done { OnOk result (WritesSince drain.old.taken
-        drain.new.taken (S.taken sink.old) (S.taken sink.new)
+    ensures done { OnOk result (WritesSince drain.old.taken drain.new.taken (S.seen sink.old).taken
+        (S.seen sink.new).taken
         (Passes client gathered.old.frames.items gathered.new.frames.items)) }
     ensures held { OnOk result (length gathered.new.frames.items < 65536) }
-    ensures ended { IfErr result (λ e. WritesSince drain.old.taken
-        drain.new.taken (S.taken sink.old) (S.taken sink.new)
+    ensures ended { IfErr result (λ e. WritesSince drain.old.taken drain.new.taken
+        (S.seen sink.old).taken (S.seen sink.new).taken
         (EndsFrom client e gathered.old.frames.items)) }
     ensures drain { IsLater H.begins drain.old drain.new }
     ensures stopped { result ≡ Err WriteEnd.Stopped
@@ -286,9 +278,8 @@ fn write_next<R: Wait, H: Owed<Item>, S: Sink, W: Watch>(
     ensures dropped { result ≡ Err WriteEnd.Dropped
         → (until ≡ Until.Whole) × (drain.old.empty_finds < drain.new.empty_finds)
         × TookUnvouched H.owed H.is_over drain.new }
-    ensures steps { Steps (meter (S.calls sink.old) (S.failures sink.old) gathered.old.turns)
-        (meter (S.calls sink.new) (S.failures sink.new) gathered.new.turns)
-        (told_by write_told result) }
+    ensures steps { Steps (write_meter (S.seen sink.old) gathered.old.turns)
+        (write_meter (S.seen sink.new) gathered.new.turns) (told_by write_told result) }
 {
     let item = match next_item(rt, drain, sink, gathered, until) {
         Ok(item) => item,
@@ -317,14 +308,12 @@ pub fn write_items<R: Wait, H: Owed<Item>, S: Sink>(
     limit: u32,
 ) -> (Drain<Item, H>, WriteEnd)
     requires { limit ≤ 16777215 }
-    ensures written { WritesSince drain.taken
-        result.0.taken (S.taken sink.old) (S.taken sink.new)
-        (IsWrittenBy serializer limit result.1) }
+    ensures written { WritesSince drain.taken result.0.taken (S.seen sink.old).taken
+        (S.seen sink.new).taken (IsWrittenBy serializer limit result.1) }
     ensures drain { IsLater H.begins drain result.0 }
     ensures stopped { result.1 ≡ WriteEnd.Stopped → drain.empty_finds < result.0.empty_finds }
     ensures never { result.1 ≢ WriteEnd.Dropped }
-    ensures writes { WholeSteps (meter (S.calls sink.old) (S.failures sink.old))
-        (meter (S.calls sink.new) (S.failures sink.new)) (write_told result.1) }
+    ensures writes { WriteSteps (S.seen sink.old) (S.seen sink.new) (write_told result.1) }
 {
     write_until(
         rt,
@@ -349,16 +338,14 @@ pub fn write_watched<R: Wait, H: Owed<Item>, S: Sink, W: Watch>(
     watch: &mut W,
 ) -> (Drain<Item, H>, WriteEnd)
     requires { limit ≤ 16777215 }
-    ensures written { WritesSince drain.taken
-        result.0.taken (S.taken sink.old) (S.taken sink.new)
-        (IsWrittenBy serializer limit result.1) }
+    ensures written { WritesSince drain.taken result.0.taken (S.seen sink.old).taken
+        (S.seen sink.new).taken (IsWrittenBy serializer limit result.1) }
     ensures drain { IsLater H.begins drain result.0 }
     ensures stopped { result.1 ≡ WriteEnd.Stopped → drain.empty_finds < result.0.empty_finds }
     ensures whole { result.1 ≡ WriteEnd.Stopped → TookWhole H.owed H.is_over result.0 }
     ensures dropped { result.1 ≡ WriteEnd.Dropped
         → (drain.empty_finds < result.0.empty_finds) × TookUnvouched H.owed H.is_over result.0 }
-    ensures writes { WholeSteps (meter (S.calls sink.old) (S.failures sink.old))
-        (meter (S.calls sink.new) (S.failures sink.new)) (write_told result.1) }
+    ensures writes { WriteSteps (S.seen sink.old) (S.seen sink.new) (write_told result.1) }
 {
     write_until(
         rt,
@@ -382,9 +369,8 @@ fn write_until<R: Wait, H: Owed<Item>, S: Sink, W: Watch>(
     until: Until,
 ) -> (Drain<Item, H>, WriteEnd)
     requires { client.limit ≤ 16777215 }
-    ensures written { WritesSince drain.taken
-        result.0.taken (S.taken sink.old) (S.taken sink.new)
-        (IsWrittenBy client.serializer client.limit result.1) }
+    ensures written { WritesSince drain.taken result.0.taken (S.seen sink.old).taken
+        (S.seen sink.new).taken (IsWrittenBy client.serializer client.limit result.1) }
     ensures drain { IsLater H.begins drain result.0 }
     ensures stopped { result.1 ≡ WriteEnd.Stopped → drain.empty_finds < result.0.empty_finds }
     ensures whole { result.1 ≡ WriteEnd.Stopped → until ≡ Until.Whole
@@ -392,8 +378,7 @@ fn write_until<R: Wait, H: Owed<Item>, S: Sink, W: Watch>(
     ensures dropped { result.1 ≡ WriteEnd.Dropped
         → (until ≡ Until.Whole) × (drain.empty_finds < result.0.empty_finds)
         × TookUnvouched H.owed H.is_over result.0 }
-    ensures writes { WholeSteps (meter (S.calls sink.old) (S.failures sink.old))
-        (meter (S.calls sink.new) (S.failures sink.new)) (write_told result.1) }
+    ensures writes { WriteSteps (S.seen sink.old) (S.seen sink.new) (write_told result.1) }
 {
     let mut drain = drain;
     let mut gathered = Gathered::nothing(alloc);

@@ -1,6 +1,6 @@
 -- What a replay has read and written at its end.
 use Rattle.std.specs.Prelude.{◌≡◌, ◌⊎◌, ⊤, ℕ, Bool, true, List, [], ◌∷◌, ◌++◌}
-use Rattle.rawsocket.specs.Devices.{GrowsByBeginning}
+use Rattle.rawsocket.specs.Devices.{GrowsByBeginning, Reading, Writing}
 use Rattle.rawsocket.specs.Steps.{Told, Fine, Failed}
 use Rattle.realm.specs.Grants.{Grants}
 use Rattle.replay.specs.declared.fault.Fault.{Fault}
@@ -21,6 +21,11 @@ pub record Streams : Type 0 where
   pub given : List ℕ
   pub taken_before : List ℕ
   pub taken : List ℕ
+
+-- by what is seen of both before and now
+abbrev pub streams_of : Reading → Reading → Writing → Writing → Streams
+streams_of source_before source sink_before sink =
+    record { given_before = source_before.given; given = source.given; taken_before = sink_before.taken; taken = sink.taken }
 
 -- what was read is this input, and what was written, followed by what is to be written, is its transcript
 pub record IsReplayed (start : Replay) (s : Streams) (left : List ℕ) : Type 0 where

@@ -1,7 +1,7 @@
 //! A replay as it stands between two pieces of its input: the line that isn't ended yet, and what is to be written.
 ghost use Rattle.std.specs.Prelude.{◌≡◌, ◌≢◌, ◌++◌, ◌+◌, ◌<◌, ◌≤◌, ◌^◌, ℕ, [], ◌∷◌, drop, length, take, false, true, IfErr, IfNone, IfOk, IfSome, OnOk};
-ghost use Rattle.rawsocket.specs.Devices.{GrowsByBeginning};
-ghost use Rattle.rawsocket.specs.Steps.{Steps, meter, told_by};
+ghost use Rattle.rawsocket.specs.Devices.{Takes, TakesBeginning, WriteFails};
+ghost use Rattle.rawsocket.specs.Steps.{Steps, told_by, write_meter};
 ghost use Rattle.command_line.specs.Grants.{bytes_of};
 ghost use Rattle.replay.specs.Lines.{has_line_feed};
 ghost use Rattle.replay.specs.Progress.{Completes, Goes, IsRefused, Stops, TellsMore};
@@ -156,14 +156,13 @@ impl ReplayInput {
 
     /// Writes the output that is gathered, and passes it on.
     pub fn write_rest<O: Sink>(&mut self, sink: &mut O, writing: &mut Turns) -> Result<(), Fault>
-        ensures written { OnOk result (O.taken sink.new ≡ O.taken sink.old ++ self.old.out) }
+        ensures written { OnOk result (Takes (O.seen sink.old) (O.seen sink.new) self.old.out) }
         ensures emptied { OnOk result (self.new ≡ record self.old { out = [] }) }
-        ensures begun { GrowsByBeginning (O.taken sink.old) (O.taken sink.new) self.old.out }
-        ensures writes { Steps (meter (O.calls sink.old) (O.failures sink.old) writing.old)
-            (meter (O.calls sink.new) (O.failures sink.new) writing.new)
-            (told_by write_told result) }
-        ensures cause { IfErr result (HasCause
-            ⊥ (O.failures sink.old < O.failures sink.new) (writing.new ≡ 0)) }
+        ensures begun { TakesBeginning (O.seen sink.old) (O.seen sink.new) self.old.out }
+        ensures writes { Steps (write_meter (O.seen sink.old) writing.old)
+            (write_meter (O.seen sink.new) writing.new) (told_by write_told result) }
+        ensures cause { IfErr result
+            (HasCause ⊥ (WriteFails (O.seen sink.old) (O.seen sink.new)) (writing.new ≡ 0)) }
         ensures fault { (k : ℕ) → result ≢ Err (Fault.BadLine k) }
     {
         match rawsocket::send(sink, &self.out, writing) {

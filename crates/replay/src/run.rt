@@ -1,9 +1,10 @@
 //! `replay`: reads the input to its end, and writes what each piece gives before it reads the next.
 ghost use Rattle.std.specs.Prelude.{◌≡◌, ◌≢◌, ◌++◌, ◌+◌, ◌<◌, ◌≤◌, ◌⊎◌, ℕ, [], length, take, true, IfErr, IfOk, OnErr, OnOk};
 ghost use Rattle.realm.specs.Grants.{pairs_of};
-ghost use Rattle.replay.specs.Outcome.{BeginsReplay, IsReplayed, StopsAt, IsFresh, FromRealm, HasCause, read_told, write_told};
-ghost use Rattle.rawsocket.specs.Steps.{Steps, WholeSteps, meter, told_by};
+ghost use Rattle.replay.specs.Outcome.{BeginsReplay, FromRealm, HasCause, IsFresh, IsReplayed, StopsAt, read_told, streams_of, write_told};
+ghost use Rattle.rawsocket.specs.Steps.{ReadSteps, Steps, WriteSteps, told_by, write_meter};
 ghost use Rattle.session.specs.Opened.{AreUsedUp};
+ghost use Rattle.rawsocket.specs.Devices.{ReadFails, WriteFails};
 
 use crate::fault::Fault;
 use crate::replay_input::ReplayInput;
@@ -22,33 +23,22 @@ fn replay_all<I: Source, O: Sink>(
 ) -> Result<(), Fault>
     requires fresh { IsFresh told.old }
     requires wide { length buffer.old ≡ 65536 }
-    ensures ended { OnOk result (I.is_ended source.new ≡ true) }
-    ensures told { OnOk result (IsReplayed told.old.replay (record {
-      given_before = I.given source.old;
-      given = I.given source.new;
-      taken_before = O.taken sink.old;
-      taken = O.taken sink.new;
-    }) told.new.out) }
-    ensures bad { (k : ℕ) → result ≡ Err (Fault.BadLine k)
-        → StopsAt told.old.replay (record {
-          given_before = I.given source.old;
-          given = I.given source.new;
-          taken_before = O.taken sink.old;
-          taken = O.taken sink.new;
-        }) (I.is_ended source.new) told.new.out k }
-    ensures begun { OnErr result (BeginsReplay told.old.replay (record {
-      given_before = I.given source.old;
-      given = I.given source.new;
-      taken_before = O.taken sink.old;
-      taken = O.taken sink.new;
-    }) (I.is_ended source.new)) }
-    ensures reads { WholeSteps (meter (I.calls source.old) (I.failures source.old))
-        (meter (I.calls source.new) (I.failures source.new)) (told_by read_told result) }
-    ensures writes { Steps (meter (O.calls sink.old) (O.failures sink.old) writing.old)
-        (meter (O.calls sink.new) (O.failures sink.new) writing.new) (told_by write_told result) }
-    ensures cause { IfErr result (HasCause (I.failures source.old < I.failures source.new)
-        (O.failures sink.old < O.failures sink.new)
-        ((AreUsedUp (I.calls source.old) (I.calls source.new)) ⊎ (writing.new ≡ 0))) }
+    ensures ended { OnOk result ((I.seen source.new).is_ended ≡ true) }
+    ensures told { OnOk result (IsReplayed told.old.replay
+        (streams_of (I.seen source.old) (I.seen source.new) (O.seen sink.old) (O.seen sink.new))
+        told.new.out) }
+    ensures bad { (k : ℕ) → result ≡ Err (Fault.BadLine k) → StopsAt told.old.replay
+        (streams_of (I.seen source.old) (I.seen source.new) (O.seen sink.old) (O.seen sink.new))
+        (I.seen source.new).is_ended told.new.out k }
+    ensures begun { OnErr result (BeginsReplay told.old.replay
+        (streams_of (I.seen source.old) (I.seen source.new) (O.seen sink.old) (O.seen sink.new))
+        (I.seen source.new).is_ended) }
+    ensures reads { ReadSteps (I.seen source.old) (I.seen source.new) (told_by read_told result) }
+    ensures writes { Steps (write_meter (O.seen sink.old) writing.old)
+        (write_meter (O.seen sink.new) writing.new) (told_by write_told result) }
+    ensures cause { IfErr result (HasCause (ReadFails (I.seen source.old) (I.seen source.new))
+        (WriteFails (O.seen sink.old) (O.seen sink.new))
+        ((AreUsedUp (I.seen source.old).calls (I.seen source.new).calls) ⊎ (writing.new ≡ 0))) }
 {
     let mut reading = Turns::new();
     'pieces: loop {
@@ -83,34 +73,22 @@ fn replay_to_end<I: Source, O: Sink>(
 ) -> Result<(), Fault>
     requires fresh { IsFresh told.old }
     requires wide { length buffer.old ≡ 65536 }
-    ensures ended { OnOk result (I.is_ended source.new ≡ true) }
-    ensures told { OnOk result (IsReplayed told.old.replay (record {
-      given_before = I.given source.old;
-      given = I.given source.new;
-      taken_before = O.taken sink.old;
-      taken = O.taken sink.new;
-    }) []) }
-    ensures bad { (k : ℕ) → result ≡ Err (Fault.BadLine k)
-        → StopsAt told.old.replay (record {
-          given_before = I.given source.old;
-          given = I.given source.new;
-          taken_before = O.taken sink.old;
-          taken = O.taken sink.new;
-        }) (I.is_ended source.new) [] k }
-    ensures begun { OnErr result (BeginsReplay told.old.replay (record {
-      given_before = I.given source.old;
-      given = I.given source.new;
-      taken_before = O.taken sink.old;
-      taken = O.taken sink.new;
-    }) (I.is_ended source.new)) }
-    ensures reads { WholeSteps (meter (I.calls source.old) (I.failures source.old))
-        (meter (I.calls source.new) (I.failures source.new)) (told_by read_told result) }
-    ensures writes { WholeSteps (meter (O.calls sink.old) (O.failures sink.old))
-        (meter (O.calls sink.new) (O.failures sink.new)) (told_by write_told result) }
-    ensures cause { IfErr result (HasCause (I.failures source.old < I.failures source.new)
-        (O.failures sink.old < O.failures sink.new)
-        ((AreUsedUp (I.calls source.old) (I.calls source.new))
-        ⊎ (AreUsedUp (O.calls sink.old) (O.calls sink.new)))) }
+    ensures ended { OnOk result ((I.seen source.new).is_ended ≡ true) }
+    ensures told { OnOk result (IsReplayed told.old.replay
+        (streams_of (I.seen source.old) (I.seen source.new) (O.seen sink.old) (O.seen sink.new))
+        []) }
+    ensures bad { (k : ℕ) → result ≡ Err (Fault.BadLine k) → StopsAt told.old.replay
+        (streams_of (I.seen source.old) (I.seen source.new) (O.seen sink.old) (O.seen sink.new))
+        (I.seen source.new).is_ended [] k }
+    ensures begun { OnErr result (BeginsReplay told.old.replay
+        (streams_of (I.seen source.old) (I.seen source.new) (O.seen sink.old) (O.seen sink.new))
+        (I.seen source.new).is_ended) }
+    ensures reads { ReadSteps (I.seen source.old) (I.seen source.new) (told_by read_told result) }
+    ensures writes { WriteSteps (O.seen sink.old) (O.seen sink.new) (told_by write_told result) }
+    ensures cause { IfErr result (HasCause (ReadFails (I.seen source.old) (I.seen source.new))
+        (WriteFails (O.seen sink.old) (O.seen sink.new))
+        ((AreUsedUp (I.seen source.old).calls (I.seen source.new).calls) ⊎
+        (AreUsedUp (O.seen sink.old).calls (O.seen sink.new).calls))) }
 {
     let mut writing = Turns::new();
     match replay_all(alloc, source, sink, told, &mut writing, buffer) {
@@ -143,39 +121,25 @@ pub fn replay<I: Source, O: Sink>(
     config: &Config,
 ) -> Result<(), Fault>
     requires { 0 < length config.now.realms.items }
-    ensures ended { OnOk result (I.is_ended source.new ≡ true) }
-    ensures told { OnOk result (FromRealm
-        config.now.realms.items (pairs_of config.now.grants.items)
-        (λ start. IsReplayed start (record {
-          given_before = I.given source.old;
-          given = I.given source.new;
-          taken_before = O.taken sink.old;
-          taken = O.taken sink.new;
-        }) [])) }
-    ensures bad { (k : ℕ) → result ≡ Err (Fault.BadLine k)
-        → FromRealm config.now.realms.items (pairs_of config.now.grants.items)
-        (λ start. StopsAt start (record {
-          given_before = I.given source.old;
-          given = I.given source.new;
-          taken_before = O.taken sink.old;
-          taken = O.taken sink.new;
-        }) (I.is_ended source.new) [] k) }
-    ensures begun { OnErr result (FromRealm
-        config.now.realms.items (pairs_of config.now.grants.items)
-        (λ start. BeginsReplay start (record {
-          given_before = I.given source.old;
-          given = I.given source.new;
-          taken_before = O.taken sink.old;
-          taken = O.taken sink.new;
-        }) (I.is_ended source.new))) }
-    ensures reads { WholeSteps (meter (I.calls source.old) (I.failures source.old))
-        (meter (I.calls source.new) (I.failures source.new)) (told_by read_told result) }
-    ensures writes { WholeSteps (meter (O.calls sink.old) (O.failures sink.old))
-        (meter (O.calls sink.new) (O.failures sink.new)) (told_by write_told result) }
-    ensures cause { IfErr result (HasCause (I.failures source.old < I.failures source.new)
-        (O.failures sink.old < O.failures sink.new)
-        ((AreUsedUp (I.calls source.old) (I.calls source.new))
-        ⊎ (AreUsedUp (O.calls sink.old) (O.calls sink.new)))) }
+    ensures ended { OnOk result ((I.seen source.new).is_ended ≡ true) }
+    ensures told { OnOk result (FromRealm config.now.realms.items (pairs_of config.now.grants.items)
+        (λ start. IsReplayed start
+        (streams_of (I.seen source.old) (I.seen source.new) (O.seen sink.old) (O.seen sink.new))
+        [])) }
+    ensures bad { (k : ℕ) → result ≡ Err (Fault.BadLine k) → FromRealm config.now.realms.items
+        (pairs_of config.now.grants.items) (λ start. StopsAt start
+        (streams_of (I.seen source.old) (I.seen source.new) (O.seen sink.old) (O.seen sink.new))
+        (I.seen source.new).is_ended [] k) }
+    ensures begun { OnErr result (FromRealm config.now.realms.items
+        (pairs_of config.now.grants.items) (λ start. BeginsReplay start
+        (streams_of (I.seen source.old) (I.seen source.new) (O.seen sink.old) (O.seen sink.new))
+        (I.seen source.new).is_ended)) }
+    ensures reads { ReadSteps (I.seen source.old) (I.seen source.new) (told_by read_told result) }
+    ensures writes { WriteSteps (O.seen sink.old) (O.seen sink.new) (told_by write_told result) }
+    ensures cause { IfErr result (HasCause (ReadFails (I.seen source.old) (I.seen source.new))
+        (WriteFails (O.seen sink.old) (O.seen sink.new))
+        ((AreUsedUp (I.seen source.old).calls (I.seen source.new).calls) ⊎
+        (AreUsedUp (O.seen sink.old).calls (O.seen sink.new).calls))) }
 {
     let Ok(mut told) = ReplayInput::new(alloc, &config.realms[0], &config.grants) else {
         return Err(Fault::NoMemory);

@@ -12,7 +12,7 @@ use Rattle.session.specs.declared.fault.Fault.TheVariants.{Ended, ReadFault}
 steps_of : (why : NoOctets) (a b : Meter) → Steps a b (piece_told why) → Steps a b (read_told (piece_fault why))
 steps_of no_octets.Ended a b s = s
 steps_of no_octets.Failed a b s = s
-steps_of no_octets.TooManyTurns a b s = record { calls = s.calls; failures = s.failures; turns = tt }
+steps_of no_octets.TooManyTurns a b s = record { name = s.name; calls = s.calls; failures = s.failures; turns = tt }
 
 pub piece_steps : {a b : Meter} (why : NoOctets) (fault : Fault) → fault ≡ piece_fault why → Steps a b (piece_told why) → Steps a b (read_told fault)
 piece_steps {a} {b} why fault is s = subst (λ f. Steps a b (read_told f)) (sym is) (steps_of why a b s)

@@ -4,6 +4,7 @@ pub mod Finding
 pub mod GoingOn
 pub mod Balance
 pub mod Moving
+pub mod Naming
 pub mod Numbering
 pub mod Places
 pub mod PosterSteps

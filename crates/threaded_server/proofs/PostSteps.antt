@@ -8,6 +8,7 @@ use Rattle.std.proofs.lemmas.Option.{same_Some}
 use Rattle.std.specs.Arc.{arc_value}
 use Rattle.std.specs.Option.{option_flatten}
 use Rattle.std.specs.declared.snapshot.Snapshot.{Snapshot}
+use Rattle.rawsocket.specs.Devices.{Reading}
 use Rattle.connection.specs.Reader.{Start}
 use Rattle.connection.specs.declared.reader.ReadEnd.{ReadEnd}
 use Rattle.realm_inbox.specs.EndViews.{posted, poster_conn}
@@ -39,12 +40,12 @@ module _ {S : Type 0} where
   stays : (p : Poster S) → Goes p p
   stays p = record { more = []; posted = sym (append-nil (posted p)) }
 
-  talked : {I : Type 0} (given : I → List ℕ) (is_ended : I → Bool) (calls failures : I → ℕ) (begun : Start) (joining : Joining S) (before now : Passage I S) (end : ReadEnd) → Converses given is_ended calls failures begun joining before now end
+  talked : {I : Type 0} (seen : I → Reading) (begun : Start) (joining : Joining S) (before now : Passage I S) (end : ReadEnd) → Converses seen begun joining before now end
       → Goes before.poster now.poster
-  talked given is_ended calls failures begun joining before now end (inl h) =
+  talked seen begun joining before now end (inl h) =
       let of : Act S → ℕ × Act S = λ act. (poster_conn before.poster, act) in
       record { more = map of (Join joining ∷ []) ++ map of h.posted.acts; posted = ap (λ p. p.said) h.posted.posted ∙ append_assoc (posted before.poster) (map of (Join joining ∷ [])) (map of h.posted.acts) }
-  talked given is_ended calls failures begun joining before now end (inr h) = record { more = []; posted = ap (λ p. p.said) h.1 ∙ sym (append-nil (posted before.poster)) }
+  talked seen begun joining before now end (inr h) = record { more = []; posted = ap (λ p. p.said) h.1 ∙ sym (append-nil (posted before.poster)) }
 
   -- what one of another seat posted is nothing of this seat's
   between_others : (number : ℕ) (given back : Option (Poster S)) → ((p : Poster S) → given ≡ Some p → seat_of (poster_conn p) ≢ number) → posts_between number given back ≡ []
@@ -70,7 +71,7 @@ module _ {I O S : Type 0} (see : Sight I O) (offer : Offer) where
       by_place (inl w) = record {
         poster = h.left;
         at = ap (λ l. slice_get l i) h.posters_are ∙ w.1;
-        goes = subst (λ (x : Poster S). Goes x h.left) (same_Some h.poster p w.0) (talked see.given see.is_ended see.reads see.read_failures (start_of h.session) h.talks.joining (passage h.opened_source h.poster) (passage source h.left) end h.talks.converses);
+        goes = subst (λ (x : Poster S). Goes x h.left) (same_Some h.poster p w.0) (talked see.reading (start_of h.session) h.talks.joining (passage h.opened_source h.poster) (passage source h.left) end h.talks.converses);
       }
       by_place (inr w) = record { poster = p; at = ap (λ l. slice_get l i) h.posters_are ∙ w; goes = stays p }
 

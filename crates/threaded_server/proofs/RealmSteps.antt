@@ -5,6 +5,7 @@ use Rattle.std.proofs.lemmas.List.Elements.{All-push, All-weaker, Contains-appen
 use Rattle.std.proofs.lemmas.Option.{same_Some}
 use Rattle.std.specs.Arc.{arc_value}
 use Rattle.std.specs.declared.snapshot.Snapshot.{Snapshot}
+use Rattle.rawsocket.specs.Devices.{Reading}
 use Rattle.connection.specs.declared.reader.ReadEnd.{ReadEnd}
 use Rattle.outbox_queue.specs.Ends.{IsOf, Owes}
 use Rattle.outbox_queue.specs.Tied.{Kept}
@@ -129,14 +130,14 @@ put_by : {S : Type 0} (realms after : List (Shown S)) (i : ℕ) (o : Option (Kep
 put_by realms after i None r at e = (r, ap (λ l. slice_get l i) e ∙ at, refl, tt)
 put_by realms after i (Some kept) r at t = (with_seen t.realm kept, ap (λ l. slice_get l i) t.kept ∙ get_set realms i t.realm (with_seen t.realm kept) t.at, ap inbox_in (same_Some t.realm r (sym t.at ∙ at)), Contains-push t.realm.seen kept)
 
-module _ {I S : Type 0} (given : I → List ℕ) (is_ended : I → Bool) (calls failures : I → ℕ) where
+module _ {I S : Type 0} (seen : I → Reading) where
   -- a poster that comes back is of the same inbox
-  back_home : (begun : Start) (joining : Joining S) (before now : Passage I S) (end : ReadEnd) → Converses given is_ended calls failures begun joining before now end → inbox_of_poster now.poster ≡ inbox_of_poster before.poster
+  back_home : (begun : Start) (joining : Joining S) (before now : Passage I S) (end : ReadEnd) → Converses seen begun joining before now end → inbox_of_poster now.poster ≡ inbox_of_poster before.poster
   back_home begun joining before now end (inl h) = same_Some (inbox_of_poster now.poster) (inbox_of_poster before.poster) (ap (λ p. p.inbox) h.posted.posted)
   back_home begun joining before now end (inr h) = same_Some (inbox_of_poster now.poster) (inbox_of_poster before.poster) (ap (λ p. p.inbox) h.1)
 
   -- and of the same connection
-  back_conn : (begun : Start) (joining : Joining S) (before now : Passage I S) (end : ReadEnd) → Converses given is_ended calls failures begun joining before now end → poster_conn now.poster ≡ poster_conn before.poster
+  back_conn : (begun : Start) (joining : Joining S) (before now : Passage I S) (end : ReadEnd) → Converses seen begun joining before now end → poster_conn now.poster ≡ poster_conn before.poster
   back_conn begun joining before now end (inl h) = ap (λ p. p.conn) h.posted.posted
   back_conn begun joining before now end (inr h) = ap (λ p. p.conn) h.1
 
@@ -153,7 +154,7 @@ module _ {I O S : Type 0} (see : Sight I O) (offer : Offer) where
   served_back places before source back end written h at i p e = by_place (get_set_cases before.posters h.session.realm i (Some h.left) (Some p) (ap (λ l. slice_get l i) (sym h.posters_are) ∙ e))
     where
       home : inbox_of_poster h.left ≡ inbox_of_poster h.poster
-      home = back_home see.given see.is_ended see.reads see.read_failures (start_of h.session) h.talks.joining (passage h.opened_source h.poster) (passage source h.left) end h.talks.converses
+      home = back_home see.reading (start_of h.session) h.talks.joining (passage h.opened_source h.poster) (passage source h.left) end h.talks.converses
 
       by_place : ((h.session.realm ≡ i) × (Some h.left ≡ Some p)) ⊎ ((h.session.realm ≢ i) × (slice_get before.posters i ≡ Some (Some p))) → slice_get places i ≡ Some (inbox_of_poster p)
       by_place (inl w) = ap (slice_get places) (sym w.0) ∙ at h.session.realm h.poster h.named ∙ ap Some (sym home ∙ ap inbox_of_poster (same_Some h.left p w.1))
@@ -163,7 +164,7 @@ module _ {I O S : Type 0} (see : Sight I O) (offer : Offer) where
   served_of_seat number before source back end written h own i p e = by_place (get_set_cases before.posters h.session.realm i (Some h.left) (Some p) (ap (λ l. slice_get l i) (sym h.posters_are) ∙ e))
     where
       same : poster_conn h.left ≡ poster_conn h.poster
-      same = back_conn see.given see.is_ended see.reads see.read_failures (start_of h.session) h.talks.joining (passage h.opened_source h.poster) (passage source h.left) end h.talks.converses
+      same = back_conn see.reading (start_of h.session) h.talks.joining (passage h.opened_source h.poster) (passage source h.left) end h.talks.converses
 
       by_place : ((h.session.realm ≡ i) × (Some h.left ≡ Some p)) ⊎ ((h.session.realm ≢ i) × (slice_get before.posters i ≡ Some (Some p))) → seat_of (poster_conn p) ≡ number
       by_place (inl w) = ap (λ x. seat_of (poster_conn x)) (sym (same_Some h.left p w.1)) ∙ ap seat_of same ∙ own h.session.realm h.poster h.named

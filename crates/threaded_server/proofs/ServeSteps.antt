@@ -1,18 +1,19 @@
 -- What the accepting thread does, step by step.
-use Rattle.std.proofs.Common.{◌≡◌, ◌+◌, ◌<◌, ℕ, List, [], ◌∷◌, ◌++◌, All, Result, refl, sym, ap, ◌∙◌, subst, append-nil, arith}
+use Rattle.std.proofs.Common.{◌≡◌, ◌+◌, ◌<◌, ℕ, List, [], ◌∷◌, ◌++◌, All, Result, get_or, refl, sym, ap, ◌∙◌, subst, append-nil, arith}
 use Rattle.std.proofs.Math.Logic.{∥∥₁_map}
 use Rattle.std.proofs.lemmas.List.Elements.{All-nil}
 use Rattle.std.proofs.lemmas.List.Sorted.{IsPermutation-refl}
 use Rattle.std.proofs.lemmas.Option.{none-some}
 use Rattle.realm.specs.Grants.{Grants}
 use Rattle.threaded_server.proofs.Accepting.{Accepting, one_came, one_failed}
+use Rattle.threaded_server.proofs.GoingOn.{over_goes_on}
 use Rattle.threaded_server.proofs.Moving.{moves_on}
 use Rattle.threaded_server.specs.Conns.{AreApart, conns_of}
 use Rattle.threaded_server.specs.Lending.{Lending}
-use Rattle.threaded_server.specs.Overs.{AllWent, Books, Moves, Went}
+use Rattle.threaded_server.specs.Overs.{AllWent, Books, Moves, Went, after_of, before_of}
 use Rattle.threaded_server.specs.Posts.{OnlyPosted}
 use Rattle.threaded_server.specs.Served.{LentUntil, Served, came_in}
-use Rattle.broker_threads.specs.Streams.{Offer, Sight}
+use Rattle.broker_threads.specs.Streams.{KeepsNames, Offer, Sight}
 use Rattle.threaded_server.specs.Ties.{IsRun, OverTied}
 use Rattle.threaded_server.specs.declared.answer.Answer.{Answer}
 use Rattle.threaded_server.specs.declared.answer.Answer.TheVariants.{Came, Failed}
@@ -49,7 +50,9 @@ module _ {I O S : Type 0} where
       let whole = moves_on (came_in h.serves.given) 0 was lending returned had has left h.moves m in
       let lent : left.lent ≡ whole.more = whole.lent_here ∙ ap (λ l. l ++ whole.more) none in
       let over : left.over ≡ whole.over = whole.over_here ∙ ap (λ l. l ++ whole.over) nobody in
-      ∥∥₁_map all (λ each. record {
+      ∥∥₁_map all (λ each.
+      let gone : AllWent see offer whole.more whole.over = subst (λ (l : List (I × O)). AllWent see offer l whole.over) lent (subst (λ o. AllWent see offer left.lent o) over (subst (λ (n : Offer). AllWent see n left.lent left.over) same each)) in
+      record {
         given = h.serves.given;
         lent = whole.more;
         streams = whole.over;
@@ -59,7 +62,8 @@ module _ {I O S : Type 0} where
         refused_are = whole.refused_more;
         lent_are = whole.lent;
         returned_are = whole.returned;
-        went = subst (λ (l : List (I × O)). AllWent see offer l whole.over) lent (subst (λ o. AllWent see offer left.lent o) over (subst (λ (n : Offer). AllWent see n left.lent left.over) same each));
+        went = gone;
+        own = λ i d within. ∥∥₁_map (gone.went i d within) (λ w. (over_goes_on see offer (get_or whole.over i d) w).same);
         runs = runs;
         each_ran = subst (λ (g : Grants). All (λ run. IsRun g run) runs) alike each_ran;
         apart = subst (λ (o : List (Over I O S)). AreApart (conns_of o)) over apart;
@@ -84,6 +88,7 @@ module _ {I O S : Type 0} where
     apart = λ i j n at there. absurd (none-some n at);
     only_posted = ∣ (λ realm k run at less. absurd (none-some run at)) ∣₁;
     tied = ∣ All-nil (λ over. OverTied [] over) ∣₁;
+    own = All-nil (λ over. ∥ KeepsNames see (before_of over) ((after_of over).source, (after_of over).sink) ∥₁);
   }
 
   -- nothing was accepted

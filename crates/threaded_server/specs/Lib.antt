@@ -1,6 +1,7 @@
 pub mod Answers
 pub mod Conns
 pub mod Lending
+pub mod Named
 pub mod Overs
 pub mod OwnStreams
 pub mod Posters

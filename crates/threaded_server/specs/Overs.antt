@@ -2,12 +2,12 @@
 use Rattle.std.specs.Prelude.{◌≡◌, ◌⊎◌, ◌≤◌, ◌<◌, ◌+◌, ⊤, ℕ, List, [], ◌∷◌, ◌++◌, Option, None, Some, All, IsPermutation, length, map, slice_get}
 use Rattle.std.specs.Arc.{arc_value}
 use Rattle.std.specs.declared.snapshot.Snapshot.{Snapshot}
-use Rattle.rawsocket.specs.Devices.{GrowsByBeginning}
+use Rattle.rawsocket.specs.Devices.{Takes, TakesBeginning, WriteFails, Writing}
 use Rattle.rawsocket.specs.Handshakes.{refusing}
 use Rattle.session.specs.Opened.{AreUsedUp}
 use Rattle.broker_threads.specs.Courses.{ends_of, sink_of}
 use Rattle.threaded_server.specs.Lending.{Lending, Returned, returned}
-use Rattle.broker_threads.specs.Streams.{Offer, Reads, Sight, offer_of}
+use Rattle.broker_threads.specs.Streams.{KeepsNames, Offer, Reads, Sight, offer_of}
 use Rattle.threaded_server.specs.declared.over.Gone.{Gone}
 use Rattle.threaded_server.specs.declared.over.Over.{Over}
 use Rattle.threaded_server.specs.declared.over.Over.TheVariants.{Seated, TurnedAway, Untouched}
@@ -61,14 +61,14 @@ module _ {I O S : Type 0} where
     pub all_came : came ≡ length more + refused
 
 -- it is told that no seat is free: 7F 40 00 00 is written, or a beginning of it where the device failed or had no turn left
-abbrev pub TellsRefusal : {O : Type 0} → (O → List ℕ) → (O → ℕ) → (O → ℕ) → O → O → Type 0
-TellsRefusal taken calls failures before now = (taken now ≡ taken before ++ refusing 4)
-    ⊎ (GrowsByBeginning (taken before) (taken now) (refusing 4) × ((failures before < failures now) ⊎ AreUsedUp (calls before) (calls now)))
+abbrev pub TellsRefusal : Writing → Writing → Type 0
+TellsRefusal before now = Takes before now (refusing 4) ⊎ (TakesBeginning before now (refusing 4) × (WriteFails before now ⊎ AreUsedUp before.calls now.calls))
 
 -- no seat was free: nothing was read, and its client was told so
 pub record IsTurnedAway {I O : Type 0} (see : Sight I O) (before after : I × O) : Type 0 where
   pub unread : after.0 ≡ before.0
-  pub told : TellsRefusal see.taken see.writes see.write_failures before.1 after.1
+  pub told : TellsRefusal (see.writing before.1) (see.writing after.1)
+  pub same : KeepsNames see before after
 
 -- When a stream with these halves was lent, so many streams were over, and all seats were taken: of those that were lent before it 256 or more weren't over yet.
 -- Or 2^56 - 1 or more were lent before it: so many numbers below 2^64 has a seat at least, and one that gave its last is taken for good

@@ -1,22 +1,28 @@
 -- Each stream that comes back is the one that was lent.
-use Rattle.std.specs.Prelude.{◌≡◌, ℕ, List, Some, slice_get}
+use Rattle.std.specs.Prelude.{◌≡◌, ◌⊎◌, ℕ, List, Some, slice_get}
 use mathlib.Core.List.{IsPrefix}
 use Rattle.realm.specs.Grants.{Grants}
 use Rattle.threaded_server.specs.Lending.{Lending, Returned}
 use Rattle.threaded_server.specs.Overs.{after_of, before_of}
 use Rattle.threaded_server.specs.Served.{Served}
-use Rattle.broker_threads.specs.Streams.{Offer, Sight}
+use Rattle.broker_threads.specs.Streams.{KeepsNames, Offer, Sight}
 use Rattle.threaded_server.specs.declared.answer.Answer.{Answer}
 use Rattle.threaded_server.specs.declared.over.Over.{Over}
 
--- what a stream gave and took before begins what it gave and took after
+-- a stream comes back under its name, and what it gave and took before begins what it gave and took after
 pub record GoesOn {I O : Type 0} (see : Sight I O) (before : I × O) (after : Returned I O) : Type 0 where
-  pub given : IsPrefix (see.given before.0) (see.given after.source)
-  pub taken : IsPrefix (see.taken before.1) (see.taken after.sink)
+  pub same : KeepsNames see before (after.source, after.sink)
+  pub given : IsPrefix (see.reading before.0).given (see.reading after.source).given
+  pub taken : IsPrefix (see.writing before.1).taken (see.writing after.sink).taken
 
 -- neither of two lists of octets begins the other
 abbrev pub Differ : List ℕ → List ℕ → Type 0
 Differ xs ys = (IsPrefix xs ys → ⊥) × (IsPrefix ys xs → ⊥)
+
+-- no two streams have one name: neither to read by, nor to write by
+abbrev pub HaveOwnNames : {I O : Type 0} → Sight I O → List (I × O) → Type 0
+HaveOwnNames {I} {O} see lent = (i j : ℕ) (a b : I × O) → slice_get lent i ≡ Some a → slice_get lent j ≡ Some b
+    → ((see.reading a.0).name ≡ (see.reading b.0).name) ⊎ ((see.writing a.1).name ≡ (see.writing b.1).name) → i ≡ j
 
 module _ (I O S : Type 0) where
   -- each stream that a broker served goes on
@@ -27,4 +33,10 @@ module _ (I O S : Type 0) where
   -- and none comes back in place of another, which took other octets before
   abbrev pub StreamsAreOwn : Type 0
   StreamsAreOwn = (see : Sight I O) (offer : Offer) (grants : Grants) (before now : List Answer) (was lending : Lending I O) (served : Served S see offer grants before now was lending) (i : ℕ) (over : Over I O S) (other : I × O)
-      → slice_get served.streams i ≡ Some over → Differ (see.taken (before_of over).1) (see.taken other.1) → IsPrefix (see.taken other.1) (see.taken (after_of over).sink) → ⊥
+      → slice_get served.streams i ≡ Some over → Differ (see.writing (before_of over).1).taken (see.writing other.1).taken → IsPrefix (see.writing other.1).taken (see.writing (after_of over).sink).taken → ⊥
+
+  -- nor in place of another of another name: where no two of those that were lent have one name, what came back of a name is what was lent under it
+  abbrev pub NamesAreOwn : Type 0
+  NamesAreOwn = (see : Sight I O) (offer : Offer) (grants : Grants) (before now : List Answer) (was lending : Lending I O) (served : Served S see offer grants before now was lending) → HaveOwnNames see served.lent → (i j : ℕ) (over : Over I O S) (other : I × O)
+      → slice_get served.streams i ≡ Some over → slice_get served.lent j ≡ Some other
+      → ((see.reading (after_of over).source).name ≡ (see.reading other.0).name) ⊎ ((see.writing (after_of over).sink).name ≡ (see.writing other.1).name) → ∥ before_of over ≡ other ∥₁

@@ -4,9 +4,9 @@ use Rattle.realm.specs.Grants.{Grants}
 use Rattle.threaded_server.specs.Answers.{Serves}
 use Rattle.threaded_server.specs.Conns.{AreApart, conns_of}
 use Rattle.threaded_server.specs.Lending.{Lending}
-use Rattle.threaded_server.specs.Overs.{AllWent, Books, Moves, after_of}
+use Rattle.threaded_server.specs.Overs.{AllWent, Books, Moves, after_of, before_of}
 use Rattle.threaded_server.specs.Posts.{OnlyPosted}
-use Rattle.broker_threads.specs.Streams.{Offer, Sight}
+use Rattle.broker_threads.specs.Streams.{KeepsNames, Offer, Sight}
 use Rattle.threaded_server.specs.Ties.{IsRun, OverTied}
 use Rattle.threaded_server.specs.declared.answer.Answer.{Answer}
 use Rattle.threaded_server.specs.declared.answer.Answer.TheVariants.{Came, Stopped, Failed}
@@ -30,7 +30,7 @@ module _ {I O S : Type 0} where
 -- Between two states of an acceptor: each stream that came was lent, or couldn't be taken apart; each that was lent was let go of and came back, as its reader left it, or it was told
 -- that no seat is free, while none was, or nothing was read or written; and what came back is these, in the order of that. No two connections had one number. Each realm that served a session ran, from an empty history with these
 -- grants on; what it received of a seat begins what the streams posted there; and what the writer of a session took begins what the one history of the realm that its HELLO names
--- owes its connection, and is all of that where it stopped, unless it took as many items as an outbox holds
+-- owes its connection, and is all of that where it stopped, unless it took as many items as an outbox holds. What comes back has the name of what was lent
 pub record Served {I O : Type 0} (S : Type 0) (see : Sight I O) (offer : Offer) (grants : Grants) (before now : List Answer) (was lending : Lending I O) : Type 0 where
   pub given : List Answer
   pub lent : List (I × O)
@@ -47,3 +47,5 @@ pub record Served {I O : Type 0} (S : Type 0) (see : Sight I O) (offer : Offer) 
   pub apart : AreApart (conns_of streams)
   pub only_posted : ∥ OnlyPosted runs streams ∥₁
   pub tied : ∥ All (λ over. OverTied runs over) streams ∥₁
+  -- each came back under the name that it was lent under
+  pub own : All (λ over. ∥ KeepsNames see (before_of over) ((after_of over).source, (after_of over).sink) ∥₁) streams

@@ -198,7 +198,7 @@ impl<
         ensures tied { ∥ All (λ over. OverTied (items_of result) over)
             (items_of self.roster.over.streams) ∥₁ }
         ensures went { ∥ AllWent
-            (sight I.given I.is_ended I.calls I.failures O.taken O.calls O.failures)
+            (sight I.seen O.seen)
             (offer_of self.roster.over.plan.value) (items_of self.roster.lent)
             (items_of self.roster.over.streams) ∥₁ }
     {
@@ -353,7 +353,8 @@ fn vacate(marks: &SeatTable, seats: &mut Seats, conn: Conn)
 
 // Tells a client that no seat is free.
 fn tell_no_seat<O: Sink>(sink: &mut O)
-    ensures { TellsRefusal O.taken O.calls O.failures sink.old sink.new }
+    ensures told { TellsRefusal (O.seen sink.old) (O.seen sink.new) }
+    ensures same { (O.seen sink.new).name ≡ (O.seen sink.old).name }
 {
     let _ = send(sink, &no_seat_reply(), &mut Turns::new());
 }

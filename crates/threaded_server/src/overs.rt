@@ -16,7 +16,7 @@ use std::snapshot::Snapshot;
 pub struct Overs<I: Source, O: Sink, S: Shut> {
     plan: Snapshot<Plan>,
     streams: GhostList<Over<I, O, S>>,
-    ghost went: { All (λ it. ∥ Went (sight I.given I.is_ended I.calls I.failures O.taken O.calls O.failures) (offer_of plan.value) it ∥₁) (items_of streams) },
+    ghost went: { All (λ it. ∥ Went (sight I.seen O.seen) (offer_of plan.value) it ∥₁) (items_of streams) },
 }
 
 impl<I: Source, O: Sink, S: Shut> Overs<I, O, S> {
@@ -33,7 +33,7 @@ impl<I: Source, O: Sink, S: Shut> Overs<I, O, S> {
 
     /// One more is over.
     pub fn add(&mut self, over: Snapshot<Over<I, O, S>>)
-        requires { Went (sight I.given I.is_ended I.calls I.failures O.taken O.calls O.failures)
+        requires { Went (sight I.seen O.seen)
             (offer_of self.old.plan.value) over.value }
         ensures plan { self.new.plan ≡ self.old.plan }
         ensures streams { items_of self.new.streams ≡ items_of self.old.streams ++ over.value ∷ [] }
@@ -44,7 +44,7 @@ impl<I: Source, O: Sink, S: Shut> Overs<I, O, S> {
     /// Shows that each went as it should.
     pub fn shows(&self)
         ensures { All (λ it. ∥ Went
-            (sight I.given I.is_ended I.calls I.failures O.taken O.calls O.failures)
+            (sight I.seen O.seen)
             (offer_of self.now.plan.value) it ∥₁) (items_of self.now.streams) }
     {
         let _ = &self.streams;

@@ -95,7 +95,7 @@ impl<
     pub fn pass(&mut self, halves: Snapshot<(I, O)>, over: Snapshot<Over<I, O, S>>)
         requires halves { halves.value ≡ before_of over.value }
         requires went { Went
-            (sight I.given I.is_ended I.calls I.failures O.taken O.calls O.failures)
+            (sight I.seen O.seen)
             (offer_of self.old.over.plan.value) over.value }
         requires found { Found (items_of self.old.lent ++ halves.value ∷ [])
             (length (items_of self.old.over.streams)) over.value }
@@ -141,7 +141,7 @@ impl<
         ensures over { MatchOption result ((items_of self.new.over.streams
             ≡ items_of self.old.over.streams)
             × (self.new.entries.items ≡ self.old.entries.items))
-            (λ r. Leaves (sight I.given I.is_ended I.calls I.failures O.taken O.calls O.failures)
+            (λ r. Leaves (sight I.seen O.seen)
             (slice_get self.old.entries.items place) r.0 r.1 (items_of self.old.over.streams)
             (items_of self.new.over.streams)) }
         ensures entries { self.new.entries.items ≡ set self.old.entries.items place None }
@@ -166,7 +166,7 @@ impl<
     /// Nobody is served any more: each stream that was lent is over.
     pub fn shows_all_over(&self)
         requires { All (λ slot. slot ≡ None) self.now.entries.items }
-        ensures { ∥ AllWent (sight I.given I.is_ended I.calls I.failures O.taken O.calls O.failures)
+        ensures { ∥ AllWent (sight I.seen O.seen)
             (offer_of self.now.over.plan.value) (items_of self.now.lent)
             (items_of self.now.over.streams) ∥₁ }
     {

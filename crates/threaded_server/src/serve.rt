@@ -62,8 +62,7 @@ pub fn serve_on<R: Threads + Wait + RandomSource + Copy + Send + 'static, A: Acc
     requires most { config.now.outbox ≤ 65536 }
     ensures answers { Serves (A.answers acceptor.old) (A.answers acceptor.new) result }
     ensures streams { ∥ Served (Marked A.Shut)
-        (sight A.Source.given A.Source.is_ended A.Source.calls A.Source.failures A.Sink.taken
-        A.Sink.calls A.Sink.failures)
+        (sight A.Source.seen A.Sink.seen)
         (offer config.now.realms.items config.now.outbox) (pairs_of config.now.grants.items)
         (A.answers acceptor.old) (A.answers acceptor.new) (A.lending acceptor.old)
         (A.lending acceptor.new) ∥₁ }
@@ -87,8 +86,7 @@ pub fn serve_logged<R: Threads + Wait + RandomSource + Copy + Send + 'static, A:
     requires most { config.now.outbox ≤ 65536 }
     ensures answers { Serves (A.answers acceptor.old) (A.answers acceptor.new) result }
     ensures streams { ∥ Served (Marked A.Shut)
-        (sight A.Source.given A.Source.is_ended A.Source.calls A.Source.failures A.Sink.taken
-        A.Sink.calls A.Sink.failures)
+        (sight A.Source.seen A.Sink.seen)
         (offer config.now.realms.items config.now.outbox) (pairs_of config.now.grants.items)
         (A.answers acceptor.old) (A.answers acceptor.new) (A.lending acceptor.old)
         (A.lending acceptor.new) ∥₁ }

@@ -59,7 +59,7 @@ pub fn start<
     O: Sink + Drop + Send + 'static,
     S: Shut + Send + 'static,
 >(rt: R, alloc: Global, plan: &Arc<Plan>, newcomer: Newcomer<I, O, S>) -> Started<I, O, S>
-    ensures { Starts (sight I.given I.is_ended I.calls I.failures O.taken O.calls O.failures)
+    ensures { Starts (sight I.seen O.seen)
         (arc_value plan.now) newcomer.conn (newcomer.parts.source, newcomer.parts.sink)
         newcomer.posters.items result }
 {
@@ -117,7 +117,7 @@ fn run<
     ours: SharedTransport<S>,
 ) -> Started<I, O, S>
     requires { lent.value ≡ (reader.source, reader.sink) }
-    ensures { Runs (sight I.given I.is_ended I.calls I.failures O.taken O.calls O.failures)
+    ensures { Runs (sight I.seen O.seen)
         reader result }
 {
     let conn = reader.conn;
@@ -149,7 +149,7 @@ fn start_reader<
     is_over: &AtomicBool,
 ) -> Result<PromisedHandle<Ended<I, O, S>, Doing<Reader<I, O, S>>>, Ended<I, O, S>>
     ensures { MatchResult result (λ thread. thread.promise.0.value ≡ reader)
-        (λ ended. Reads (sight I.given I.is_ended I.calls I.failures O.taken O.calls O.failures)
+        (λ ended. Reads (sight I.seen O.seen)
         reader ended) }
 {
     let doing = Doing(Snapshot::of(&reader));

@@ -1,10 +1,13 @@
 //! Streams over TCP.
-ghost use Rattle.std.specs.Prelude.{◌≡◌, ◌++◌, ◌∷◌, []};
+ghost use Rattle.std.specs.Prelude.{◌≡◌, ◌++◌, ◌∷◌, [], IfOk};
+ghost use Rattle.ghost_state.specs.GhostList.{items_of as shown};
+ghost use Rattle.threaded_server.specs.Named.{AreNamed};
 
 use crate::acceptor::{Accepted, Acceptor, Parts};
 use crate::account::Account;
 use crate::answer::Answer;
 use broker_threads::{Closed, SessionEnds};
+use ghost_state::GhostCount;
 use rawsocket::devices::{ReadSource, WriteSink};
 use realm_inbox::{GhostList, Shut};
 use std::alloc::{AllocError, Global};
@@ -68,6 +71,8 @@ impl Write for TcpHandle {
 /// After a failure it sleeps for 20 milliseconds for each failure that there was in a row, but for 250 at most. So a few failures cost
 /// little time, and E26 comes after some 23 seconds of failures at the least: a table of descriptors that is full has as long to get
 /// room. A descriptor is closed when its connection is over ([`serve_on`](crate::serve_on)), also while nothing is accepted.
+///
+/// Each stream has a name of its own, by which contracts tell it from the others.
 #[derive(Drop)]
 pub struct TcpAcceptor<R: Clock + Drop> {
     listener: TcpListener,
@@ -76,6 +81,8 @@ pub struct TcpAcceptor<R: Clock + Drop> {
     // These take no bytes.
     answers: GhostList<Answer>,
     account: Account<ReadSource<TcpHandle>, WriteSink<TcpHandle>>,
+    made: GhostCount,
+    pub ghost named: { AreNamed (shown account.lent) made (λ h. h.0.name.value) (λ h. h.1.name.value) },
 }
 
 impl<R: Clock + Drop> TcpAcceptor<R> {
@@ -87,6 +94,7 @@ impl<R: Clock + Drop> TcpAcceptor<R> {
             failure: None,
             answers: GhostList::new(),
             account: Account::new(),
+            made: GhostCount::new(),
         }
     }
 
@@ -96,17 +104,21 @@ impl<R: Clock + Drop> TcpAcceptor<R> {
     }
 }
 
-// The parts of a stream, which share it.
+// The parts of a stream, which share it, under this name.
 fn parts_of(
     alloc: Global,
     stream: TcpStream,
-) -> Result<Parts<ReadSource<TcpHandle>, WriteSink<TcpHandle>, TcpHandle>, AllocError> {
+    name: &GhostCount,
+) -> Result<Parts<ReadSource<TcpHandle>, WriteSink<TcpHandle>, TcpHandle>, AllocError>
+    ensures read { IfOk result (λ parts. parts.source.name.value ≡ name.now) }
+    ensures written { IfOk result (λ parts. parts.sink.name.value ≡ name.now) }
+{
     let shut = TcpHandle {
         stream: Arc::new(alloc, stream)?,
     };
     Ok(Parts {
-        source: ReadSource::new(shut.another()?),
-        sink: WriteSink::new(shut.another()?),
+        source: ReadSource::named(shut.another()?, Snapshot::of(name)),
+        sink: WriteSink::named(shut.another()?, Snapshot::of(name)),
         shut,
     })
 }
@@ -146,8 +158,11 @@ impl<R: Clock + Drop> Acceptor for TcpAcceptor<R> {
         stream: TcpStream,
     ) -> Result<Parts<ReadSource<TcpHandle>, WriteSink<TcpHandle>, TcpHandle>, AllocError> {
         let _ = stream.set_nodelay(true);
-        match parts_of(alloc, stream) {
-            Ok(parts) => Ok(self.account.lend(parts)),
+        match parts_of(alloc, stream, &self.made) {
+            Ok(parts) => {
+                self.made.tick();
+                Ok(self.account.lend(parts))
+            }
             Err(refused) => {
                 self.account.refuse();
                 Err(refused)

@@ -6,8 +6,8 @@
 #![tactic(auto)]
 
 ghost use Rattle.std.specs.Prelude.{◌≡◌, ◌≢◌, ◌<◌, ◌≤◌, ◌+◌, ◌++◌, Err, IfErr, OnOk, length};
-ghost use Rattle.rawsocket.specs.Devices.{GrowsByBeginning};
-ghost use Rattle.rawsocket.specs.Steps.{WholeSteps, meter, told_by};
+ghost use Rattle.rawsocket.specs.Devices.{Takes, TakesBeginning};
+ghost use Rattle.rawsocket.specs.Steps.{WriteSteps, told_by};
 ghost use Rattle.command_line.specs.Commands.{IsServable, IsWritten, fault_line, status_of, write_told};
 
 mod clients;
@@ -41,9 +41,9 @@ fn main(rt: HostRuntime) -> ExitCode {
 fn status_after<S: Sink>(ran: Result<(), Failure>, errors: &mut S) -> u8
     ensures fine { OnOk ran (result ≡ 0) }
     ensures fault { IfErr ran (λ failure. result ≡ status_of failure.fault) }
-    ensures told { IfErr ran (λ failure. S.failures errors.new ≡ S.failures errors.old
-        → IsWritten (fault_line failure.fault ++ failure.more.items)
-        (S.taken errors.old) (S.taken errors.new) (S.calls errors.old) (S.calls errors.new)) }
+    ensures told { IfErr ran (λ failure. (S.seen errors.new).failures ≡ (S.seen errors.old).failures
+        → IsWritten (fault_line failure.fault ++ failure.more.items) (S.seen errors.old).taken
+        (S.seen errors.new).taken (S.seen errors.old).calls (S.seen errors.new).calls) }
 {
     match ran {
         Ok(()) => 0,
@@ -220,11 +220,11 @@ fn announce<S: Sink>(alloc: Global, output: &mut S, host: &str, port: u16) -> Re
 
 /// Prints a text, given as its octets, whole.
 fn print<S: Sink>(output: &mut S, text: &[u8]) -> Result<(), Fault>
-    ensures written { OnOk result (S.taken output.new ≡ S.taken output.old ++ text.now) }
-    ensures begun { GrowsByBeginning (S.taken output.old) (S.taken output.new) text.now }
+    ensures written { OnOk result (Takes (S.seen output.old) (S.seen output.new) text.now) }
+    ensures begun { TakesBeginning (S.seen output.old) (S.seen output.new) text.now }
     ensures which { IfErr result (λ fault. fault ≢ Fault.WriteFault → fault ≡ Fault.TooManyTurns) }
-    ensures writes { WholeSteps (meter (S.calls output.old) (S.failures output.old))
-        (meter (S.calls output.new) (S.failures output.new)) (told_by write_told result) }
+    ensures writes { WriteSteps (S.seen output.old) (S.seen output.new)
+        (told_by write_told result) }
 {
     let mut turns = Turns::new();
     match send(output, text, &mut turns) {

@@ -15,5 +15,5 @@ returns-in-Words-clause-unprinted g c = ap failures_told (aside-output c.publish
 
 pub returns-in-Words-clause-ended : goal.returns-in-Words-clause-ended
 returns-in-Words-clause-ended g c =
-    let none : IsReadToEnd c.args.command.now.arguments (g.J.Source.is_ended c.args.input.now) = subst (λ (a : Arguments). IsReadToEnd a (g.J.Source.is_ended c.args.input.now)) (sym c.in-Words.is) tt in
+    let none : IsReadToEnd c.args.command.now.arguments (g.J.Source.seen c.args.input.now).is_ended = subst (λ (a : Arguments). IsReadToEnd a (g.J.Source.seen c.args.input.now).is_ended) (sym c.in-Words.is) tt in
     on_ok_weaker c.publish_words.result (λ _. none) c.publish_words.ensures.published

@@ -1,6 +1,6 @@
 use Rattle.std.proofs.Common.{◌≡◌, ◌<◌, false, [], ◌∷◌, ◌++◌, ◌+◌, ◌-◌, ◌∙◌, append-nil, arith, drop, inl, inr, length, refl, rules, subst, sym, take}
 use Rattle.std.proofs.lemmas.Bool.Decides.{nat_tests}
-use Rattle.client_commands.specs.Acts.{standing, terms_of}
+use Rattle.client_commands.specs.Acts.{standing_of, terms_of}
 use Rattle.client_commands.specs.Ends.{EndsAtLine}
 use Rattle.client_commands.specs.Lines.{has_line_feed}
 use Rattle.client_commands.specs.declared.fault.Fault.TheVariants.{BadLine}
@@ -14,8 +14,8 @@ lines-preserved g c =
     let left = c.lines.left.now in
     let at = c.in-Some.at in
     let done = c.lines.invariant.done in
-    let mid = standing c.lines.session (g.I.Source.given c.lines.source) (g.O.Sink.taken c.lines.sink) in
-    let now = standing c.publish_line.new.session (g.I.Source.given c.publish_line.new.source) (g.O.Sink.taken c.publish_line.new.sink) in
+    let mid = standing_of c.lines.session (g.I.Source.seen c.lines.source) (g.O.Sink.seen c.lines.sink) in
+    let now = standing_of c.publish_line.new.session (g.I.Source.seen c.publish_line.new.source) (g.O.Sink.seen c.publish_line.new.sink) in
     record {
       done = done ++ (take at left ++ 10 ∷ []);
       piece = piece-step c.args.piece.now done left (take at left) (drop (at + 1) left) (take (length left - (at + 1)) (drop (at + 1) left)) c.lines.invariant.piece c.in-Some.ensures.at (rest-after left at c.in-Some.ensures.within);
@@ -38,8 +38,8 @@ returns-in-Err-clause-ends g c =
     let done = c.lines.invariant.done in
     let rest = c.lines.progress.rest.items in
     let count = c.lines.progress.count in
-    let mid = standing c.lines.session (g.I.Source.given c.lines.source) (g.O.Sink.taken c.lines.sink) in
-    let now = standing c.publish_line.new.session (g.I.Source.given c.publish_line.new.source) (g.O.Sink.taken c.publish_line.new.sink) in
+    let mid = standing_of c.lines.session (g.I.Source.seen c.lines.source) (g.O.Sink.seen c.lines.sink) in
+    let now = standing_of c.publish_line.new.session (g.I.Source.seen c.publish_line.new.source) (g.O.Sink.seen c.publish_line.new.sink) in
     λ is before input p.
     ends-at command.wishes command.topic command.kwargs t before (terms_of c.lines.session) mid now ((input ++ done) ++ front) (10 ∷ behind) (rest ++ front) (input ++ c.args.piece.now) count false c.in-Err.fault
     c.lines.invariant.terms (cut-at input c.args.piece.now done left front (10 ∷ behind) c.lines.invariant.piece c.in-Some.ensures.at) (inl (behind, refl))
@@ -54,7 +54,7 @@ returns-then-len-gt-LONGEST-clause-ends g c =
     let piece = c.args.piece.now in
     let kept = c.extend_from_slice-2.new.self.items in
     let count = c.lines.progress.count in
-    let mid = standing c.lines.session (g.I.Source.given c.lines.source) (g.O.Sink.taken c.lines.sink) in
+    let mid = standing_of c.lines.session (g.I.Source.seen c.lines.source) (g.O.Sink.seen c.lines.sink) in
     let clean : has_line_feed left ≡ false = search rules in
     let long : 1048576 < length kept = grind (arith, nat_tests) in
     λ _ before input p.

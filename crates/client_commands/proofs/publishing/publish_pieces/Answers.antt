@@ -1,6 +1,6 @@
 use Rattle.std.proofs.Common.{[], ◌++◌, ◌∙◌, append-nil, append_assoc, ap, arith, refl, sym, take}
 use Rattle.rawsocket.proofs.Lemmas.{all_turns, then_steps}
-use Rattle.client_commands.specs.Acts.{standing, terms_of}
+use Rattle.client_commands.specs.Acts.{standing_of, terms_of}
 use Rattle.client_commands.proofs.EndsLemmas.{ends-in-piece}
 use Rattle.client_commands.proofs.PublishingLemmas.{published-more, published-none}
 use Rattle.client_commands.proofs.publishing.publish_pieces.Goals as goal
@@ -8,10 +8,10 @@ use Rattle.client_commands.proofs.publishing.publish_pieces.Goals as goal
 pub pieces-init : goal.pieces-init
 pieces-init g c =
     let command = c.args.command.now in
-    let now = standing c.args.session.now (g.I.Source.given c.args.source.now) (g.O.Sink.taken c.args.sink.now) in
+    let now = standing_of c.args.session.now (g.I.Source.seen c.args.source.now) (g.O.Sink.seen c.args.sink.now) in
     record {
       read_so_far = [];
-      read = sym (append-nil (g.J.Source.given c.args.input.now));
+      read = sym (append-nil (g.J.Source.seen c.args.input.now).given);
       published = published-none command.wishes command.topic command.kwargs (terms_of c.args.session.now) now now c.args.progress.now.rest.items c.args.progress.now.count c.requires.fresh c.requires.none refl;
       terms = refl;
       reads = refl;
@@ -25,14 +25,14 @@ read_piece-requires g c = omega (arith, c.requires.wide, c.pieces.auto.buffer)
 pub pieces-preserved : goal.pieces-preserved
 pieces-preserved g c =
     let command = c.args.command.now in
-    let first = standing c.args.session.now (g.I.Source.given c.args.source.now) (g.O.Sink.taken c.args.sink.now) in
-    let mid = standing c.pieces.session (g.I.Source.given c.pieces.source) (g.O.Sink.taken c.pieces.sink) in
-    let now = standing c.publish_piece.new.session (g.I.Source.given c.publish_piece.new.source) (g.O.Sink.taken c.publish_piece.new.sink) in
+    let first = standing_of c.args.session.now (g.I.Source.seen c.args.source.now) (g.O.Sink.seen c.args.sink.now) in
+    let mid = standing_of c.pieces.session (g.I.Source.seen c.pieces.source) (g.O.Sink.seen c.pieces.sink) in
+    let now = standing_of c.publish_piece.new.session (g.I.Source.seen c.publish_piece.new.source) (g.O.Sink.seen c.publish_piece.new.sink) in
     let so_far = c.pieces.invariant.read_so_far in
     let piece = take c.in-Ok.count c.read_piece.new.buffer in
     record {
       read_so_far = so_far ++ piece;
-      read = c.in-Ok.ensures.given ∙ ap (λ xs. xs ++ piece) c.pieces.invariant.read ∙ append_assoc (g.J.Source.given c.args.input.now) so_far piece;
+      read = c.in-Ok.ensures.given ∙ ap (λ xs. xs ++ piece) c.pieces.invariant.read ∙ append_assoc (g.J.Source.seen c.args.input.now).given so_far piece;
       published =
           published-more command.wishes command.topic command.kwargs (terms_of c.args.session.now) first (terms_of c.pieces.session) mid now so_far piece c.pieces.progress.rest.items c.publish_piece.new.progress.rest.items
           c.pieces.progress.count c.publish_piece.new.progress.count c.pieces.invariant.terms c.in_default-publish_piece.ensures.published c.pieces.invariant.published;
@@ -45,15 +45,15 @@ pieces-preserved g c =
 pub returns-in-Err-publish_piece-clause-ends : goal.returns-in-Err-publish_piece-clause-ends
 returns-in-Err-publish_piece-clause-ends g c =
     let command = c.args.command.now in
-    let first = standing c.args.session.now (g.I.Source.given c.args.source.now) (g.O.Sink.taken c.args.sink.now) in
-    let mid = standing c.pieces.session (g.I.Source.given c.pieces.source) (g.O.Sink.taken c.pieces.sink) in
-    let now = standing c.publish_piece.new.session (g.I.Source.given c.publish_piece.new.source) (g.O.Sink.taken c.publish_piece.new.sink) in
+    let first = standing_of c.args.session.now (g.I.Source.seen c.args.source.now) (g.O.Sink.seen c.args.sink.now) in
+    let mid = standing_of c.pieces.session (g.I.Source.seen c.pieces.source) (g.O.Sink.seen c.pieces.sink) in
+    let now = standing_of c.publish_piece.new.session (g.I.Source.seen c.publish_piece.new.source) (g.O.Sink.seen c.publish_piece.new.sink) in
     let so_far = c.pieces.invariant.read_so_far in
     let piece = take c.in-Ok.count c.read_piece.new.buffer in
     λ is. record {
       input = so_far ++ piece;
-      read = c.in-Ok.ensures.given ∙ ap (λ xs. xs ++ piece) c.pieces.invariant.read ∙ append_assoc (g.J.Source.given c.args.input.now) so_far piece;
+      read = c.in-Ok.ensures.given ∙ ap (λ xs. xs ++ piece) c.pieces.invariant.read ∙ append_assoc (g.J.Source.seen c.args.input.now).given so_far piece;
       ends =
           ends-in-piece command.wishes command.topic command.kwargs (terms_of c.args.session.now) first (terms_of c.pieces.session) mid now so_far piece c.pieces.progress.rest.items c.pieces.progress.count
-          (g.J.Source.is_ended c.read_piece.new.source) c.in-Err-publish_piece.fault c.pieces.invariant.terms (c.in-Err-publish_piece.ensures.ends is) c.pieces.invariant.published;
+          (g.J.Source.seen c.read_piece.new.source).is_ended c.in-Err-publish_piece.fault c.pieces.invariant.terms (c.in-Err-publish_piece.ensures.ends is) c.pieces.invariant.published;
     }

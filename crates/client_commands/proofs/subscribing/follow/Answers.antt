@@ -1,6 +1,6 @@
 use Rattle.std.proofs.Common.{[], ◌∷◌, ◌++◌, ◌∙◌, ap, append-nil, arith, inr, refl, rules, subst, sym}
 use Rattle.rawsocket.proofs.Lemmas.{all_turns, then_steps}
-use Rattle.client_commands.specs.Acts.{granted_with, line_for, noted, standing, terms_of}
+use Rattle.client_commands.specs.Acts.{granted_with, line_for, noted, standing_of, terms_of}
 use Rattle.client_commands.specs.Notes.{IsNoted, Noting, noting}
 use Rattle.client_commands.proofs.CauseLemmas.{ends-by}
 use Rattle.client_commands.proofs.ListeningLemmas.{counted-event, counted-other, listens-more, printed-more, printed-partly}
@@ -13,8 +13,8 @@ messages-init g c = record {
   heards = [];
   harmless = tt;
   listens = refl;
-  lines = sym (append-nil (g.P.Sink.taken c.args.output.now));
-  notes_are = none-noted (noting (g.N.Sink.taken c.args.notes.now) (g.N.Sink.failures c.args.notes.now)) (noting (g.N.Sink.taken c.args.notes.now) (g.N.Sink.failures c.args.notes.now)) refl;
+  lines = sym (append-nil (g.P.Sink.seen c.args.output.now).taken);
+  notes_are = none-noted (noting (g.N.Sink.seen c.args.notes.now)) (noting (g.N.Sink.seen c.args.notes.now)) refl;
   granted_are = search rules;
   counted = refl;
   few = omega arith;
@@ -30,16 +30,16 @@ messages-preserved g c = record {
   harmless = (c.in-Ok-take.ensures.harmless, c.messages.invariant.harmless);
   listens =
       listens-more (terms_of c.args.session.now) (terms_of c.messages.session)
-      (standing c.args.session.now (g.I.Source.given c.args.source.now) (g.O.Sink.taken c.args.sink.now))
-      (standing c.messages.session (g.I.Source.given c.messages.source) (g.O.Sink.taken c.messages.sink))
-      (standing c.hear.new.session (g.I.Source.given c.hear.new.source) (g.O.Sink.taken c.hear.new.sink))
+      (standing_of c.args.session.now (g.I.Source.seen c.args.source.now) (g.O.Sink.seen c.args.sink.now))
+      (standing_of c.messages.session (g.I.Source.seen c.messages.source) (g.O.Sink.seen c.messages.sink))
+      (standing_of c.hear.new.session (g.I.Source.seen c.hear.new.source) (g.O.Sink.seen c.hear.new.sink))
       c.messages.invariant.heards c.in-Ok.heard c.messages.invariant.terms c.messages.invariant.listens c.in-Ok.ensures.next;
   lines =
-      printed-more c.args.command.now.topics.items c.messages.invariant.heards c.in-Ok.heard (g.P.Sink.taken c.args.output.now) (g.P.Sink.taken c.messages.output) (g.P.Sink.taken c.take.new.output)
-      c.messages.invariant.lines (c.in-Ok-take.ensures.printed ∙ ap (λ granted. g.P.Sink.taken c.messages.output ++ line_for c.args.command.now.topics.items granted c.in-Ok.heard) c.messages.invariant.granted_are);
+      printed-more c.args.command.now.topics.items c.messages.invariant.heards c.in-Ok.heard (g.P.Sink.seen c.args.output.now).taken (g.P.Sink.seen c.messages.output).taken (g.P.Sink.seen c.take.new.output).taken
+      c.messages.invariant.lines (c.in-Ok-take.ensures.printed ∙ ap (λ granted. (g.P.Sink.seen c.messages.output).taken ++ line_for c.args.command.now.topics.items granted c.in-Ok.heard) c.messages.invariant.granted_are);
   notes_are =
-      noted-more c.args.command.now.topics.items c.messages.invariant.heards c.in-Ok.heard (noting (g.N.Sink.taken c.args.notes.now) (g.N.Sink.failures c.args.notes.now)) (noting (g.N.Sink.taken c.messages.notes) (g.N.Sink.failures c.messages.notes))
-      (noting (g.N.Sink.taken c.take.new.notes) (g.N.Sink.failures c.take.new.notes)) c.messages.invariant.notes_are c.in-Ok-take.ensures.told;
+      noted-more c.args.command.now.topics.items c.messages.invariant.heards c.in-Ok.heard (noting (g.N.Sink.seen c.args.notes.now)) (noting (g.N.Sink.seen c.messages.notes))
+      (noting (g.N.Sink.seen c.take.new.notes)) c.messages.invariant.notes_are c.in-Ok-take.ensures.told;
   granted_are = c.in-Ok-take.ensures.noted ∙ ap (λ granted. granted_with granted c.in-Ok.heard) c.messages.invariant.granted_are;
   counted =
       elim c.if-event.branch [
@@ -60,23 +60,23 @@ messages-preserved g c = record {
 pub returns-in-Err-take-clause-prints : goal.returns-in-Err-take-clause-prints
 returns-in-Err-take-clause-prints g c = record {
   heards = c.messages.invariant.heards;
-  now = standing c.messages.session (g.I.Source.given c.messages.source) (g.O.Sink.taken c.messages.sink);
+  now = standing_of c.messages.session (g.I.Source.seen c.messages.source) (g.O.Sink.seen c.messages.sink);
   listens = c.messages.invariant.listens;
   since = c.hear.ensures.goes_on;
   lines_are =
       inr (printed-partly c.args.command.now.topics.items (terms_of c.args.session.now) (terms_of c.messages.session) c.messages.invariant.heards c.in-Ok.heard
-      (standing c.messages.session (g.I.Source.given c.messages.source) (g.O.Sink.taken c.messages.sink))
-      (standing c.hear.new.session (g.I.Source.given c.hear.new.source) (g.O.Sink.taken c.hear.new.sink))
-      c.messages.granted.items (g.P.Sink.taken c.args.output.now) (g.P.Sink.taken c.messages.output) (g.P.Sink.taken c.take.new.output)
+      (standing_of c.messages.session (g.I.Source.seen c.messages.source) (g.O.Sink.seen c.messages.sink))
+      (standing_of c.hear.new.session (g.I.Source.seen c.hear.new.source) (g.O.Sink.seen c.hear.new.sink))
+      c.messages.granted.items (g.P.Sink.seen c.args.output.now).taken (g.P.Sink.seen c.messages.output).taken (g.P.Sink.seen c.take.new.output).taken
       c.messages.invariant.terms c.in-Ok.ensures.next c.messages.invariant.lines c.messages.invariant.granted_are c.in-Err-take.ensures.begun);
   noted_are =
-      subst (λ (n : Noting). IsNoted (noted c.args.command.now.topics.items c.messages.invariant.heards) (noting (g.N.Sink.taken c.args.notes.now) (g.N.Sink.failures c.args.notes.now)) n)
+      subst (λ (n : Noting). IsNoted (noted c.args.command.now.topics.items c.messages.invariant.heards) (noting (g.N.Sink.seen c.args.notes.now)) n)
       (sym c.in-Err-take.ensures.silent) c.messages.invariant.notes_are;
 }
 
 pub returns-in-Err-take-clause-cause : goal.returns-in-Err-take-clause-cause
 returns-in-Err-take-clause-cause g c =
-    λ is. ends-by (terms_of c.args.session.now) (terms_of c.messages.session) (standing c.args.session.now (g.I.Source.given c.args.source.now) (g.O.Sink.taken c.args.sink.now))
-    (standing c.messages.session (g.I.Source.given c.messages.source) (g.O.Sink.taken c.messages.sink))
-    (standing c.hear.new.session (g.I.Source.given c.hear.new.source) (g.O.Sink.taken c.hear.new.sink)) c.messages.invariant.heards c.in-Ok.heard c.in-Err-take.fault
+    λ is. ends-by (terms_of c.args.session.now) (terms_of c.messages.session) (standing_of c.args.session.now (g.I.Source.seen c.args.source.now) (g.O.Sink.seen c.args.sink.now))
+    (standing_of c.messages.session (g.I.Source.seen c.messages.source) (g.O.Sink.seen c.messages.sink))
+    (standing_of c.hear.new.session (g.I.Source.seen c.hear.new.source) (g.O.Sink.seen c.hear.new.sink)) c.messages.invariant.heards c.in-Ok.heard c.in-Err-take.fault
     c.messages.invariant.terms c.messages.invariant.listens c.in-Ok.ensures.next (c.in-Err-take.ensures.blamed is)

@@ -1,11 +1,11 @@
 use Rattle.std.proofs.Common.{ap, arith, inl, inr, refl, subst}
 use Rattle.std.proofs.lemmas.Result.{IfErr-weaker, on_ok_weaker}
 use Rattle.rawsocket.proofs.Lemmas.{no_whole_steps, whole_fine}
-use Rattle.session.specs.Opened.{exchange}
+use Rattle.session.specs.Opened.{exchanged}
 use Rattle.client_messages.specs.declared.client_message.ClientMessage.TheVariants.{Goodbye}
 use Rattle.client_session.specs.Hearing.{Terms}
 use Rattle.client_session.specs.Saying.{saying}
-use Rattle.client_commands.specs.Acts.{EndsByMessage, Leaves, standing, terms_of, writing}
+use Rattle.client_commands.specs.Acts.{EndsByMessage, Leaves, standing_of, terms_of, writing}
 use Rattle.client_commands.specs.Notes.{noting}
 use Rattle.client_commands.proofs.CauseLemmas.{closed-of, ends-after, ends-later}
 use Rattle.client_commands.proofs.ContinuingLemmas.{continues-begun, continues-still}
@@ -21,15 +21,15 @@ returns-in-Err-ask-clause-lines g c = whole_fine c.in-Err-ask.ensures.aside (no_
 pub returns-in-Ok-follow-clause-subscribes : goal.returns-in-Ok-follow-clause-subscribes
 returns-in-Ok-follow-clause-subscribes g c =
     let command = c.args.command.now in
-    let heard = standing c.follow.new.session (g.I.Source.given c.follow.new.source) (g.O.Sink.taken c.follow.new.sink) in
-    let left = standing c.leave.new.session (g.I.Source.given c.leave.new.source) (g.O.Sink.taken c.leave.new.sink) in
+    let heard = standing_of c.follow.new.session (g.I.Source.seen c.follow.new.source) (g.O.Sink.seen c.follow.new.sink) in
+    let left = standing_of c.leave.new.session (g.I.Source.seen c.leave.new.source) (g.O.Sink.seen c.leave.new.sink) in
     on_ok_weaker c.leave.result
     (λ leaves. record {
       t = terms_of c.in-Ok.session;
-      asking = standing c.in-Ok.session (g.I.Source.given c.join.new.source) (g.O.Sink.taken c.ask.new.sink);
+      asking = standing_of c.in-Ok.session (g.I.Source.seen c.join.new.source) (g.O.Sink.seen c.ask.new.sink);
       asks =
-          asked-all command.contact.serializer c.link.result.now.serializer command.contact.realm command.contact.authid command.wishes command.topics.items (exchange (g.I.Source.given c.args.source.now) (g.O.Sink.taken c.args.sink.now)) c.in-Ok.session
-          (g.I.Source.given c.join.new.source) (g.O.Sink.taken c.join.new.sink) (g.O.Sink.taken c.ask.new.sink) c.in-Ok.ensures.joined (ap (λ l. l.serializer) c.link.ensures) c.in_default.ensures.asked;
+          asked-all command.contact.serializer c.link.result.now.serializer command.contact.realm command.contact.authid command.wishes command.topics.items (exchanged (g.I.Source.seen c.args.source.now) (g.O.Sink.seen c.args.sink.now)) c.in-Ok.session
+          (g.I.Source.seen c.join.new.source).given (g.O.Sink.seen c.join.new.sink).taken (g.O.Sink.seen c.ask.new.sink).taken c.in-Ok.ensures.joined (ap (λ l. l.serializer) c.link.ensures) c.in_default.ensures.asked;
       heard = heard;
       follows = c.in-Ok-follow.ensures.follows;
       left = left;
@@ -42,20 +42,20 @@ returns-in-Ok-follow-clause-subscribes g c =
 pub returns-in-Err-Closed-clause-prints : goal.returns-in-Err-Closed-clause-prints
 returns-in-Err-Closed-clause-prints g c =
     let command = c.args.command.now in
-    inr (printed-after command.contact.serializer c.link.result.now.serializer command.contact.realm command.contact.authid command.wishes command.topics.items (exchange (g.I.Source.given c.args.source.now) (g.O.Sink.taken c.args.sink.now))
-    (exchange (g.I.Source.given c.follow.new.source) (g.O.Sink.taken c.follow.new.sink)) (exchange (g.I.Source.given c.follow.new.source) (g.O.Sink.taken c.answer_goodbye.new.sink)) c.in-Ok.session
-    (g.I.Source.given c.join.new.source) (g.O.Sink.taken c.join.new.sink) (g.O.Sink.taken c.ask.new.sink) (g.P.Sink.taken c.args.output.now) (g.P.Sink.taken c.follow.new.output)
-    (noting (g.N.Sink.taken c.args.notes.now) (g.N.Sink.failures c.args.notes.now)) (noting (g.N.Sink.taken c.follow.new.notes) (g.N.Sink.failures c.follow.new.notes))
+    inr (printed-after command.contact.serializer c.link.result.now.serializer command.contact.realm command.contact.authid command.wishes command.topics.items (exchanged (g.I.Source.seen c.args.source.now) (g.O.Sink.seen c.args.sink.now))
+    (exchanged (g.I.Source.seen c.follow.new.source) (g.O.Sink.seen c.follow.new.sink)) (exchanged (g.I.Source.seen c.follow.new.source) (g.O.Sink.seen c.answer_goodbye.new.sink)) c.in-Ok.session
+    (g.I.Source.seen c.join.new.source).given (g.O.Sink.seen c.join.new.sink).taken (g.O.Sink.seen c.ask.new.sink).taken (g.P.Sink.seen c.args.output.now).taken (g.P.Sink.seen c.follow.new.output).taken
+    (noting (g.N.Sink.seen c.args.notes.now)) (noting (g.N.Sink.seen c.follow.new.notes))
     c.in-Ok.ensures.joined (ap (λ l. l.serializer) c.link.ensures) c.in_default.ensures.asked c.follow.ensures.prints
-    (continues-begun (g.I.Source.given c.follow.new.source) (g.O.Sink.taken c.follow.new.sink) _ (g.O.Sink.taken c.answer_goodbye.new.sink) c.answer_goodbye.ensures.begun))
+    (continues-begun (g.I.Source.seen c.follow.new.source).given (g.O.Sink.seen c.follow.new.sink).taken _ (g.O.Sink.seen c.answer_goodbye.new.sink).taken c.answer_goodbye.ensures.begun))
 
 pub returns-in-Ok-follow-clause-prints : goal.returns-in-Ok-follow-clause-prints
 returns-in-Ok-follow-clause-prints g c =
     let command = c.args.command.now in
-    inr (printed-after command.contact.serializer c.link.result.now.serializer command.contact.realm command.contact.authid command.wishes command.topics.items (exchange (g.I.Source.given c.args.source.now) (g.O.Sink.taken c.args.sink.now))
-    (exchange (g.I.Source.given c.follow.new.source) (g.O.Sink.taken c.follow.new.sink)) (exchange (g.I.Source.given c.leave.new.source) (g.O.Sink.taken c.leave.new.sink)) c.in-Ok.session
-    (g.I.Source.given c.join.new.source) (g.O.Sink.taken c.join.new.sink) (g.O.Sink.taken c.ask.new.sink) (g.P.Sink.taken c.args.output.now) (g.P.Sink.taken c.follow.new.output)
-    (noting (g.N.Sink.taken c.args.notes.now) (g.N.Sink.failures c.args.notes.now)) (noting (g.N.Sink.taken c.follow.new.notes) (g.N.Sink.failures c.follow.new.notes))
+    inr (printed-after command.contact.serializer c.link.result.now.serializer command.contact.realm command.contact.authid command.wishes command.topics.items (exchanged (g.I.Source.seen c.args.source.now) (g.O.Sink.seen c.args.sink.now))
+    (exchanged (g.I.Source.seen c.follow.new.source) (g.O.Sink.seen c.follow.new.sink)) (exchanged (g.I.Source.seen c.leave.new.source) (g.O.Sink.seen c.leave.new.sink)) c.in-Ok.session
+    (g.I.Source.seen c.join.new.source).given (g.O.Sink.seen c.join.new.sink).taken (g.O.Sink.seen c.ask.new.sink).taken (g.P.Sink.seen c.args.output.now).taken (g.P.Sink.seen c.follow.new.output).taken
+    (noting (g.N.Sink.seen c.args.notes.now)) (noting (g.N.Sink.seen c.follow.new.notes))
     c.in-Ok.ensures.joined (ap (λ l. l.serializer) c.link.ensures) c.in_default.ensures.asked c.follow.ensures.prints
     c.leave.ensures.goes_on)
 
@@ -65,22 +65,22 @@ returns-in-Err-clause-cause g c = λ is. inl (c.in-Err.ensures.cause is)
 pub returns-in-Err-Closed-clause-cause : goal.returns-in-Err-Closed-clause-cause
 returns-in-Err-Closed-clause-cause g c =
     let command = c.args.command.now in
-    λ is. inr (ends-after command.contact.serializer c.link.result.now.serializer command.contact.realm command.contact.authid command.wishes command.topics.items (exchange (g.I.Source.given c.args.source.now) (g.O.Sink.taken c.args.sink.now))
-    (exchange (g.I.Source.given c.follow.new.source) (g.O.Sink.taken c.answer_goodbye.new.sink)) c.in-Ok.session (g.I.Source.given c.join.new.source) (g.O.Sink.taken c.join.new.sink) (g.O.Sink.taken c.ask.new.sink) c.answer_goodbye.result
+    λ is. inr (ends-after command.contact.serializer c.link.result.now.serializer command.contact.realm command.contact.authid command.wishes command.topics.items (exchanged (g.I.Source.seen c.args.source.now) (g.O.Sink.seen c.args.sink.now))
+    (exchanged (g.I.Source.seen c.follow.new.source) (g.O.Sink.seen c.answer_goodbye.new.sink)) c.in-Ok.session (g.I.Source.seen c.join.new.source).given (g.O.Sink.seen c.join.new.sink).taken (g.O.Sink.seen c.ask.new.sink).taken c.answer_goodbye.result
     c.in-Ok.ensures.joined (ap (λ l. l.serializer) c.link.ensures) c.in_default.ensures.asked
-    (inl (ends-later (terms_of c.in-Ok.session) (standing c.in-Ok.session (g.I.Source.given c.join.new.source) (g.O.Sink.taken c.ask.new.sink)) (exchange (g.I.Source.given c.follow.new.source) (g.O.Sink.taken c.follow.new.sink))
-    (exchange (g.I.Source.given c.follow.new.source) (g.O.Sink.taken c.answer_goodbye.new.sink)) c.in-Err-Closed.field-0 c.answer_goodbye.result (cc (c.answer_goodbye.ensures.closed is, c.in-Err-Closed.field-0-is, c.in-Err-Closed.reason-is))
-    (continues-begun (g.I.Source.given c.follow.new.source) (g.O.Sink.taken c.follow.new.sink) _ (g.O.Sink.taken c.answer_goodbye.new.sink) c.answer_goodbye.ensures.begun)
+    (inl (ends-later (terms_of c.in-Ok.session) (standing_of c.in-Ok.session (g.I.Source.seen c.join.new.source) (g.O.Sink.seen c.ask.new.sink)) (exchanged (g.I.Source.seen c.follow.new.source) (g.O.Sink.seen c.follow.new.sink))
+    (exchanged (g.I.Source.seen c.follow.new.source) (g.O.Sink.seen c.answer_goodbye.new.sink)) c.in-Err-Closed.field-0 c.answer_goodbye.result (cc (c.answer_goodbye.ensures.closed is, c.in-Err-Closed.field-0-is, c.in-Err-Closed.reason-is))
+    (continues-begun (g.I.Source.seen c.follow.new.source).given (g.O.Sink.seen c.follow.new.sink).taken _ (g.O.Sink.seen c.answer_goodbye.new.sink).taken c.answer_goodbye.ensures.begun)
     (c.in-Err-Closed.ensures.cause (closed-of c.in-Err-Closed.field-0 c.in-Err-Closed.reason (cc (c.in-Err-Closed.field-0-is, c.in-Err-Closed.reason-is)))))))
 
 pub returns-in-Ok-follow-clause-cause : goal.returns-in-Ok-follow-clause-cause
 returns-in-Ok-follow-clause-cause g c =
     let command = c.args.command.now in
-    let heard = standing c.follow.new.session (g.I.Source.given c.follow.new.source) (g.O.Sink.taken c.follow.new.sink) in
-    let last = exchange (g.I.Source.given c.leave.new.source) (g.O.Sink.taken c.leave.new.sink) in
+    let heard = standing_of c.follow.new.session (g.I.Source.seen c.follow.new.source) (g.O.Sink.seen c.follow.new.sink) in
+    let last = exchanged (g.I.Source.seen c.leave.new.source) (g.O.Sink.seen c.leave.new.sink) in
     IfErr-weaker c.leave.result _ _
-    (λ fault caused. λ is. inr (ends-after command.contact.serializer c.link.result.now.serializer command.contact.realm command.contact.authid command.wishes command.topics.items (exchange (g.I.Source.given c.args.source.now) (g.O.Sink.taken c.args.sink.now))
-    last c.in-Ok.session (g.I.Source.given c.join.new.source) (g.O.Sink.taken c.join.new.sink) (g.O.Sink.taken c.ask.new.sink) fault
+    (λ fault caused. λ is. inr (ends-after command.contact.serializer c.link.result.now.serializer command.contact.realm command.contact.authid command.wishes command.topics.items (exchanged (g.I.Source.seen c.args.source.now) (g.O.Sink.seen c.args.sink.now))
+    last c.in-Ok.session (g.I.Source.seen c.join.new.source).given (g.O.Sink.seen c.join.new.sink).taken (g.O.Sink.seen c.ask.new.sink).taken fault
     c.in-Ok.ensures.joined (ap (λ l. l.serializer) c.link.ensures) c.in_default.ensures.asked
     (inr (record {
       heards = c.in-Ok-follow.ensures.follows.heards;
@@ -96,14 +96,14 @@ returns g c =
     record {
       subscribes = tt;
       prints =
-          inr (printed-after command.contact.serializer c.link.result.now.serializer command.contact.realm command.contact.authid command.wishes command.topics.items (exchange (g.I.Source.given c.args.source.now) (g.O.Sink.taken c.args.sink.now))
-          (exchange (g.I.Source.given c.follow.new.source) (g.O.Sink.taken c.follow.new.sink)) (exchange (g.I.Source.given c.follow.new.source) (g.O.Sink.taken c.follow.new.sink)) c.in-Ok.session
-          (g.I.Source.given c.join.new.source) (g.O.Sink.taken c.join.new.sink) (g.O.Sink.taken c.ask.new.sink) (g.P.Sink.taken c.args.output.now) (g.P.Sink.taken c.follow.new.output)
-          (noting (g.N.Sink.taken c.args.notes.now) (g.N.Sink.failures c.args.notes.now)) (noting (g.N.Sink.taken c.follow.new.notes) (g.N.Sink.failures c.follow.new.notes))
+          inr (printed-after command.contact.serializer c.link.result.now.serializer command.contact.realm command.contact.authid command.wishes command.topics.items (exchanged (g.I.Source.seen c.args.source.now) (g.O.Sink.seen c.args.sink.now))
+          (exchanged (g.I.Source.seen c.follow.new.source) (g.O.Sink.seen c.follow.new.sink)) (exchanged (g.I.Source.seen c.follow.new.source) (g.O.Sink.seen c.follow.new.sink)) c.in-Ok.session
+          (g.I.Source.seen c.join.new.source).given (g.O.Sink.seen c.join.new.sink).taken (g.O.Sink.seen c.ask.new.sink).taken (g.P.Sink.seen c.args.output.now).taken (g.P.Sink.seen c.follow.new.output).taken
+          (noting (g.N.Sink.seen c.args.notes.now)) (noting (g.N.Sink.seen c.follow.new.notes))
           c.in-Ok.ensures.joined (ap (λ l. l.serializer) c.link.ensures) c.in_default.ensures.asked c.follow.ensures.prints
-          (continues-still (exchange (g.I.Source.given c.follow.new.source) (g.O.Sink.taken c.follow.new.sink))));
-      cause = λ is. inr (ends-after command.contact.serializer c.link.result.now.serializer command.contact.realm command.contact.authid command.wishes command.topics.items (exchange (g.I.Source.given c.args.source.now) (g.O.Sink.taken c.args.sink.now))
-          (exchange (g.I.Source.given c.follow.new.source) (g.O.Sink.taken c.follow.new.sink)) c.in-Ok.session (g.I.Source.given c.join.new.source) (g.O.Sink.taken c.join.new.sink) (g.O.Sink.taken c.ask.new.sink) c.in-Err-follow.fault
+          (continues-still (exchanged (g.I.Source.seen c.follow.new.source) (g.O.Sink.seen c.follow.new.sink))));
+      cause = λ is. inr (ends-after command.contact.serializer c.link.result.now.serializer command.contact.realm command.contact.authid command.wishes command.topics.items (exchanged (g.I.Source.seen c.args.source.now) (g.O.Sink.seen c.args.sink.now))
+          (exchanged (g.I.Source.seen c.follow.new.source) (g.O.Sink.seen c.follow.new.sink)) c.in-Ok.session (g.I.Source.seen c.join.new.source).given (g.O.Sink.seen c.join.new.sink).taken (g.O.Sink.seen c.ask.new.sink).taken c.in-Err-follow.fault
           c.in-Ok.ensures.joined (ap (λ l. l.serializer) c.link.ensures) c.in_default.ensures.asked (inl (c.in-Err-follow.ensures.cause is)));
       gone = c.in-Err-follow.ensures.gone;
       reads = omega (arith, c.in-Ok.ensures.reads, c.in-Err-follow.ensures.reads);

@@ -8,7 +8,7 @@ use Rattle.client_session.proofs.inbox.hear_next.Goals as goal
 pub pieces-init : goal.pieces-init
 pieces-init g c = record {
   listening = listening_start (terms c.args.broker.serializer c.args.broker.limit)
-      (ear (contents c.args.inbox.now.waiting.items) c.args.inbox.now.deframer (g.I.Source.given c.args.source.now) (g.O.Sink.taken c.args.sink.now)) c.requires.steady;
+      (ear (contents c.args.inbox.now.waiting.items) c.args.inbox.now.deframer (g.I.Source.seen c.args.source.now).given (g.O.Sink.seen c.args.sink.now).taken) c.requires.steady;
   reads = no_steps _;
   writes = no_steps _;
 }
@@ -16,28 +16,28 @@ pieces-init g c = record {
 pub returns-in-Ok-Some-clause-next : goal.returns-in-Ok-Some-clause-next
 returns-in-Ok-Some-clause-next g c =
     listening_hears (terms c.args.broker.serializer c.args.broker.limit)
-    (ear (contents c.args.inbox.now.waiting.items) c.args.inbox.now.deframer (g.I.Source.given c.args.source.now) (g.O.Sink.taken c.args.sink.now))
-    (contents c.pieces.inbox.waiting.items) (contents c.hear_waiting.new.waiting.items) c.pieces.inbox.deframer (g.I.Source.given c.pieces.source) (g.O.Sink.taken c.pieces.sink) (g.O.Sink.taken c.hear_waiting.new.sink)
+    (ear (contents c.args.inbox.now.waiting.items) c.args.inbox.now.deframer (g.I.Source.seen c.args.source.now).given (g.O.Sink.seen c.args.sink.now).taken)
+    (contents c.pieces.inbox.waiting.items) (contents c.hear_waiting.new.waiting.items) c.pieces.inbox.deframer (g.I.Source.seen c.pieces.source).given (g.O.Sink.seen c.pieces.sink).taken (g.O.Sink.seen c.hear_waiting.new.sink).taken
     c.in-Ok-Some.heard c.pieces.invariant.listening (rw c.in-Ok-Some.field-0-is at c.in-Ok-Some.ensures.gives)
 
 pub returns-in-Err-clause-next : goal.returns-in-Err-clause-next
 returns-in-Err-clause-next g c =
     listening_stops (terms c.args.broker.serializer c.args.broker.limit)
-    (ear (contents c.args.inbox.now.waiting.items) c.args.inbox.now.deframer (g.I.Source.given c.args.source.now) (g.O.Sink.taken c.args.sink.now))
-    (contents c.pieces.inbox.waiting.items) (contents c.hear_waiting.new.waiting.items) c.pieces.inbox.deframer (g.I.Source.given c.pieces.source) (g.O.Sink.taken c.pieces.sink) (g.O.Sink.taken c.hear_waiting.new.sink)
+    (ear (contents c.args.inbox.now.waiting.items) c.args.inbox.now.deframer (g.I.Source.seen c.args.source.now).given (g.O.Sink.seen c.args.sink.now).taken)
+    (contents c.pieces.inbox.waiting.items) (contents c.hear_waiting.new.waiting.items) c.pieces.inbox.deframer (g.I.Source.seen c.pieces.source).given (g.O.Sink.seen c.pieces.sink).taken (g.O.Sink.seen c.hear_waiting.new.sink).taken
     c.in-Err.fault c.pieces.invariant.listening c.in-Err.ensures.gives
 
 pub pieces-preserved : goal.pieces-preserved
 pieces-preserved g c =
     let t = terms c.args.broker.serializer c.args.broker.limit in
-    let quiet : IsQuiet t (stand (contents c.pieces.inbox.waiting.items) (g.O.Sink.taken c.pieces.sink)) (stand (contents c.hear_waiting.new.waiting.items) (g.O.Sink.taken c.hear_waiting.new.sink)) =
+    let quiet : IsQuiet t (stand (contents c.pieces.inbox.waiting.items) (g.O.Sink.seen c.pieces.sink).taken) (stand (contents c.hear_waiting.new.waiting.items) (g.O.Sink.seen c.hear_waiting.new.sink).taken) =
     rw c.in-Ok-None.field-0-is at c.in-Ok-None.ensures.gives in
-    let emptied : IsQuiet t (stand (contents c.pieces.inbox.waiting.items) (g.O.Sink.taken c.pieces.sink)) (stand [] (g.O.Sink.taken c.hear_waiting.new.sink)) =
-    subst (λ (w : List Content). IsQuiet t (stand (contents c.pieces.inbox.waiting.items) (g.O.Sink.taken c.pieces.sink)) (stand w (g.O.Sink.taken c.hear_waiting.new.sink))) quiet.none quiet in
+    let emptied : IsQuiet t (stand (contents c.pieces.inbox.waiting.items) (g.O.Sink.seen c.pieces.sink).taken) (stand [] (g.O.Sink.seen c.hear_waiting.new.sink).taken) =
+    subst (λ (w : List Content). IsQuiet t (stand (contents c.pieces.inbox.waiting.items) (g.O.Sink.seen c.pieces.sink).taken) (stand w (g.O.Sink.seen c.hear_waiting.new.sink).taken)) quiet.none quiet in
     record {
-      listening = listening_more t (ear (contents c.args.inbox.now.waiting.items) c.args.inbox.now.deframer (g.I.Source.given c.args.source.now) (g.O.Sink.taken c.args.sink.now))
-          (contents c.pieces.inbox.waiting.items) (contents c.in-Ok.frames.items) c.pieces.inbox.deframer c.read_more.new.deframer (g.I.Source.given c.pieces.source) (g.I.Source.given c.read_more.new.source)
-          (g.O.Sink.taken c.pieces.sink) (g.O.Sink.taken c.hear_waiting.new.sink) c.pieces.invariant.listening emptied c.in-Ok.ensures.more;
+      listening = listening_more t (ear (contents c.args.inbox.now.waiting.items) c.args.inbox.now.deframer (g.I.Source.seen c.args.source.now).given (g.O.Sink.seen c.args.sink.now).taken)
+          (contents c.pieces.inbox.waiting.items) (contents c.in-Ok.frames.items) c.pieces.inbox.deframer c.read_more.new.deframer (g.I.Source.seen c.pieces.source).given (g.I.Source.seen c.read_more.new.source).given
+          (g.O.Sink.seen c.pieces.sink).taken (g.O.Sink.seen c.hear_waiting.new.sink).taken c.pieces.invariant.listening emptied c.in-Ok.ensures.more;
       reads = then_steps c.pieces.invariant.reads c.in-Ok.ensures.reads;
       writes = then_steps c.pieces.invariant.writes c.in-Ok-None.ensures.writes;
     }
@@ -45,11 +45,11 @@ pieces-preserved g c =
 pub returns-in-Err-read_more-clause-next : goal.returns-in-Err-read_more-clause-next
 returns-in-Err-read_more-clause-next g c =
     let t = terms c.args.broker.serializer c.args.broker.limit in
-    let quiet : IsQuiet t (stand (contents c.pieces.inbox.waiting.items) (g.O.Sink.taken c.pieces.sink)) (stand (contents c.hear_waiting.new.waiting.items) (g.O.Sink.taken c.hear_waiting.new.sink)) =
+    let quiet : IsQuiet t (stand (contents c.pieces.inbox.waiting.items) (g.O.Sink.seen c.pieces.sink).taken) (stand (contents c.hear_waiting.new.waiting.items) (g.O.Sink.seen c.hear_waiting.new.sink).taken) =
     rw c.in-Ok-None.field-0-is at c.in-Ok-None.ensures.gives in
     subst (λ (h : List ℕ). HearsNext t
-    (ear (contents c.args.inbox.now.waiting.items) c.args.inbox.now.deframer (g.I.Source.given c.args.source.now) (g.O.Sink.taken c.args.sink.now))
-    (ear (contents c.hear_waiting.new.waiting.items) h (g.I.Source.given c.read_more.new.source) (g.O.Sink.taken c.hear_waiting.new.sink)) (Err c.in-Err-read_more.fault)) (sym c.in-Err-read_more.ensures.same)
-    (listening_silent t (ear (contents c.args.inbox.now.waiting.items) c.args.inbox.now.deframer (g.I.Source.given c.args.source.now) (g.O.Sink.taken c.args.sink.now))
-    (contents c.pieces.inbox.waiting.items) (contents c.hear_waiting.new.waiting.items) c.pieces.inbox.deframer (g.I.Source.given c.pieces.source) (g.I.Source.given c.read_more.new.source)
-    (g.O.Sink.taken c.pieces.sink) (g.O.Sink.taken c.hear_waiting.new.sink) c.in-Err-read_more.fault c.pieces.invariant.listening quiet c.in-Err-read_more.ensures.stops c.in-Err-read_more.ensures.lost)
+    (ear (contents c.args.inbox.now.waiting.items) c.args.inbox.now.deframer (g.I.Source.seen c.args.source.now).given (g.O.Sink.seen c.args.sink.now).taken)
+    (ear (contents c.hear_waiting.new.waiting.items) h (g.I.Source.seen c.read_more.new.source).given (g.O.Sink.seen c.hear_waiting.new.sink).taken) (Err c.in-Err-read_more.fault)) (sym c.in-Err-read_more.ensures.same)
+    (listening_silent t (ear (contents c.args.inbox.now.waiting.items) c.args.inbox.now.deframer (g.I.Source.seen c.args.source.now).given (g.O.Sink.seen c.args.sink.now).taken)
+    (contents c.pieces.inbox.waiting.items) (contents c.hear_waiting.new.waiting.items) c.pieces.inbox.deframer (g.I.Source.seen c.pieces.source).given (g.I.Source.seen c.read_more.new.source).given
+    (g.O.Sink.seen c.pieces.sink).taken (g.O.Sink.seen c.hear_waiting.new.sink).taken c.in-Err-read_more.fault c.pieces.invariant.listening quiet c.in-Err-read_more.ensures.stops c.in-Err-read_more.ensures.lost)

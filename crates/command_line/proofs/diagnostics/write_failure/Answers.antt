@@ -10,7 +10,7 @@ pub returns-in_err-write_fault-clause-begun : goal.returns-in_err-write_fault-cl
 returns-in_err-write_fault-clause-begun g c = grown_within _ _ (fault_line c.args.fault.now) _ c.write_fault.ensures.begun
 
 pub returns-clause-begun : goal.returns-clause-begun
-returns-clause-begun g c = grown_further _ (g.S.Sink.taken c.write_fault.new.sink) _ (fault_line c.args.fault.now) c.args.more.now c.in_ok-write_fault.ensures.written c.send.ensures.begun
+returns-clause-begun g c = grown_further _ (g.S.Sink.seen c.write_fault.new.sink).taken _ (fault_line c.args.fault.now) c.args.more.now c.in_ok-write_fault.ensures.written c.send.ensures.begun
 
 pub returns-in_err-write_fault-clause-steps : goal.returns-in_err-write_fault-clause-steps
 returns-in_err-write_fault-clause-steps g c =

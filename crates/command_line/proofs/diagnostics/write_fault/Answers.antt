@@ -14,21 +14,21 @@ returns-in_err-write_all-clause-begun g c = grown_within _ _ (codes "wampd: ") _
 pub returns-in_err-write_all-2-clause-begun : goal.returns-in_err-write_all-2-clause-begun
 returns-in_err-write_all-2-clause-begun g c =
     let n : c.as_bytes.result.now ≡ name_of c.args.fault.now = search rules in
-    let begun = subst (λ b. GrowsByBeginning (g.S.Sink.taken c.write_all.new.sink) (g.S.Sink.taken c.write_all-2.new.sink) b) n c.write_all-2.ensures.begun in
-    grown_second _ (g.S.Sink.taken c.write_all.new.sink) _ (codes "wampd: ") (name_of c.args.fault.now) _ c.in_ok-write_all.ensures.written begun
+    let begun = subst (λ b. GrowsByBeginning (g.S.Sink.seen c.write_all.new.sink).taken (g.S.Sink.seen c.write_all-2.new.sink).taken b) n c.write_all-2.ensures.begun in
+    grown_second _ (g.S.Sink.seen c.write_all.new.sink).taken _ (codes "wampd: ") (name_of c.args.fault.now) _ c.in_ok-write_all.ensures.written begun
 
 pub returns-in_err-write_number-clause-begun : goal.returns-in_err-write_number-clause-begun
 returns-in_err-write_number-clause-begun g c =
     let n : c.as_bytes.result.now ≡ name_of c.args.fault.now = search rules in
-    let named : g.S.Sink.taken c.write_all-2.new.sink ≡ g.S.Sink.taken c.write_all.new.sink ++ name_of c.args.fault.now = c.in_ok-write_all-2.ensures.written ∙ ap (λ b. g.S.Sink.taken c.write_all.new.sink ++ b) n in
-    grown_third _ (g.S.Sink.taken c.write_all.new.sink) (g.S.Sink.taken c.write_all-2.new.sink) _ (codes "wampd: ") (name_of c.args.fault.now) (line_number c.args.fault.now) _ c.in_ok-write_all.ensures.written named c.write_number.ensures.begun
+    let named : (g.S.Sink.seen c.write_all-2.new.sink).taken ≡ (g.S.Sink.seen c.write_all.new.sink).taken ++ name_of c.args.fault.now = c.in_ok-write_all-2.ensures.written ∙ ap (λ b. (g.S.Sink.seen c.write_all.new.sink).taken ++ b) n in
+    grown_third _ (g.S.Sink.seen c.write_all.new.sink).taken (g.S.Sink.seen c.write_all-2.new.sink).taken _ (codes "wampd: ") (name_of c.args.fault.now) (line_number c.args.fault.now) _ c.in_ok-write_all.ensures.written named c.write_number.ensures.begun
 
 pub returns-clause-written : goal.returns-clause-written
 returns-clause-written g c =
     let n : c.as_bytes.result.now ≡ name_of c.args.fault.now = search rules in
-    let named : g.S.Sink.taken c.write_all-2.new.sink ≡ g.S.Sink.taken c.write_all.new.sink ++ name_of c.args.fault.now = c.in_ok-write_all-2.ensures.written ∙ ap (λ b. g.S.Sink.taken c.write_all.new.sink ++ b) n in
-    elim c.send.result as (λ r. OnOk r (g.S.Sink.taken c.send.new.sink ≡ g.S.Sink.taken c.write_number.new.sink ++ 10 ∷ []) → OnOk r (g.S.Sink.taken c.send.new.sink ≡ g.S.Sink.taken c.args.sink.now ++ fault_line c.args.fault.now)) [
-      | Ok done ↦ λ h. written_all _ (g.S.Sink.taken c.write_all.new.sink) (g.S.Sink.taken c.write_all-2.new.sink) (g.S.Sink.taken c.write_number.new.sink) _ (codes "wampd: ") (name_of c.args.fault.now) (line_number c.args.fault.now) (10 ∷ [])
+    let named : (g.S.Sink.seen c.write_all-2.new.sink).taken ≡ (g.S.Sink.seen c.write_all.new.sink).taken ++ name_of c.args.fault.now = c.in_ok-write_all-2.ensures.written ∙ ap (λ b. (g.S.Sink.seen c.write_all.new.sink).taken ++ b) n in
+    elim c.send.result as (λ r. OnOk r ((g.S.Sink.seen c.send.new.sink).taken ≡ (g.S.Sink.seen c.write_number.new.sink).taken ++ 10 ∷ []) → OnOk r ((g.S.Sink.seen c.send.new.sink).taken ≡ (g.S.Sink.seen c.args.sink.now).taken ++ fault_line c.args.fault.now)) [
+      | Ok done ↦ λ h. written_all _ (g.S.Sink.seen c.write_all.new.sink).taken (g.S.Sink.seen c.write_all-2.new.sink).taken (g.S.Sink.seen c.write_number.new.sink).taken _ (codes "wampd: ") (name_of c.args.fault.now) (line_number c.args.fault.now) (10 ∷ [])
           c.in_ok-write_all.ensures.written named c.in_ok-write_number.ensures.written h
       | Err fault ↦ λ h. h
     ] c.send.ensures.written
@@ -36,8 +36,8 @@ returns-clause-written g c =
 pub returns-clause-begun : goal.returns-clause-begun
 returns-clause-begun g c =
     let n : c.as_bytes.result.now ≡ name_of c.args.fault.now = search rules in
-    let named : g.S.Sink.taken c.write_all-2.new.sink ≡ g.S.Sink.taken c.write_all.new.sink ++ name_of c.args.fault.now = c.in_ok-write_all-2.ensures.written ∙ ap (λ b. g.S.Sink.taken c.write_all.new.sink ++ b) n in
-    grown_last _ (g.S.Sink.taken c.write_all.new.sink) (g.S.Sink.taken c.write_all-2.new.sink) (g.S.Sink.taken c.write_number.new.sink) _ (codes "wampd: ") (name_of c.args.fault.now) (line_number c.args.fault.now) (10 ∷ [])
+    let named : (g.S.Sink.seen c.write_all-2.new.sink).taken ≡ (g.S.Sink.seen c.write_all.new.sink).taken ++ name_of c.args.fault.now = c.in_ok-write_all-2.ensures.written ∙ ap (λ b. (g.S.Sink.seen c.write_all.new.sink).taken ++ b) n in
+    grown_last _ (g.S.Sink.seen c.write_all.new.sink).taken (g.S.Sink.seen c.write_all-2.new.sink).taken (g.S.Sink.seen c.write_number.new.sink).taken _ (codes "wampd: ") (name_of c.args.fault.now) (line_number c.args.fault.now) (10 ∷ [])
     c.in_ok-write_all.ensures.written named c.in_ok-write_number.ensures.written c.send.ensures.begun
 
 pub returns-in_err-write_all-clause-steps : goal.returns-in_err-write_all-clause-steps

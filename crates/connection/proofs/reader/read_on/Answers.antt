@@ -7,13 +7,13 @@ use Rattle.connection.proofs.reader.read_on.Goals as goal
 
 pub pieces-init : goal.pieces-init
 pieces-init g c = record {
-  onward = Onward-start c.args.serializer (contents c.args.early.items) c.args.deframer (g.I.Source.given c.args.source.now) (g.P.Posting.posted c.args.poster.now) (g.P.Posting.posted c.begin.new.poster) c.begin.new.deframer c.in_default.ensures;
+  onward = Onward-start c.args.serializer (contents c.args.early.items) c.args.deframer (g.I.Source.seen c.args.source.now).given (g.P.Posting.posted c.args.poster.now) (g.P.Posting.posted c.begin.new.poster) c.begin.new.deframer c.in_default.ensures;
   steps = all_turns c.new-turns.ensures;
 }
 
 pub pieces-preserved : goal.pieces-preserved
 pieces-preserved g c = record {
-  onward = Onward-more c.args.serializer (contents c.args.early.items) c.args.deframer (g.I.Source.given c.args.source.now) (g.I.Source.given c.pieces.source) (g.I.Source.given c.read_piece.new.source) (take c.in-Ok.count c.read_piece.new.buffer)
+  onward = Onward-more c.args.serializer (contents c.args.early.items) c.args.deframer (g.I.Source.seen c.args.source.now).given (g.I.Source.seen c.pieces.source).given (g.I.Source.seen c.read_piece.new.source).given (take c.in-Ok.count c.read_piece.new.buffer)
       (g.P.Posting.posted c.args.poster.now) (g.P.Posting.posted c.pieces.poster) (g.P.Posting.posted c.advance.new.poster) c.pieces.deframer c.advance.new.deframer c.pieces.invariant.onward c.in-Ok.ensures.given
       c.in_default-advance.ensures;
   steps = then_steps c.pieces.invariant.steps c.in-Ok.ensures.steps;
@@ -21,16 +21,16 @@ pieces-preserved g c = record {
 
 pub returns-in-Err-clause-posted : goal.returns-in-Err-clause-posted
 returns-in-Err-clause-posted g c =
-    early_ends c.args.serializer (contents c.args.early.items) c.args.deframer c.in-Err.end (g.I.Source.given c.args.source.now) c.begin.new.deframer (g.P.Posting.posted c.args.poster.now) (g.P.Posting.posted c.begin.new.poster) c.in-Err.ensures
+    early_ends c.args.serializer (contents c.args.early.items) c.args.deframer c.in-Err.end (g.I.Source.seen c.args.source.now).given c.begin.new.deframer (g.P.Posting.posted c.args.poster.now) (g.P.Posting.posted c.begin.new.poster) c.in-Err.ensures
 
 pub returns-in-Err-read_piece-clause-posted : goal.returns-in-Err-read_piece-clause-posted
 returns-in-Err-read_piece-clause-posted g c =
-    Onward-stops c.args.serializer (contents c.args.early.items) c.args.deframer c.in-Err-read_piece.none c.from.result (g.I.Source.given c.args.source.now) (g.I.Source.given c.pieces.source) (g.I.Source.given c.read_piece.new.source)
+    Onward-stops c.args.serializer (contents c.args.early.items) c.args.deframer c.in-Err-read_piece.none c.from.result (g.I.Source.seen c.args.source.now).given (g.I.Source.seen c.pieces.source).given (g.I.Source.seen c.read_piece.new.source).given
     (g.P.Posting.posted c.args.poster.now) (g.P.Posting.posted c.pieces.poster) c.pieces.deframer c.from.ensures c.pieces.invariant.onward c.in-Err-read_piece.ensures.kept
 
 pub returns-in-Err-advance-clause-posted : goal.returns-in-Err-advance-clause-posted
 returns-in-Err-advance-clause-posted g c =
-    Onward-ends c.args.serializer (contents c.args.early.items) c.args.deframer c.in-Err-advance.end (g.I.Source.given c.args.source.now) (g.I.Source.given c.pieces.source) (g.I.Source.given c.read_piece.new.source) (take c.in-Ok.count c.read_piece.new.buffer)
+    Onward-ends c.args.serializer (contents c.args.early.items) c.args.deframer c.in-Err-advance.end (g.I.Source.seen c.args.source.now).given (g.I.Source.seen c.pieces.source).given (g.I.Source.seen c.read_piece.new.source).given (take c.in-Ok.count c.read_piece.new.buffer)
     (g.P.Posting.posted c.args.poster.now) (g.P.Posting.posted c.pieces.poster) (g.P.Posting.posted c.advance.new.poster) c.pieces.deframer c.advance.new.deframer c.pieces.invariant.onward c.in-Ok.ensures.given
     (omega (arith, length-take-le c.in-Ok.count c.read_piece.new.buffer c.in-Ok.ensures.within, c.in-Ok.ensures.within, c.requires.piece, c.read_piece.auto.buffer, c.pieces.auto.buffer))
     c.in-Err-advance.ensures

@@ -6,7 +6,7 @@ use Rattle.connection.proofs.writer.write_until.Goals as goal
 
 pub items-init : goal.items-init
 items-init g c = record {
-  done = none_so_far c.args.client c.args.drain.taken (g.S.Sink.taken c.args.sink.now) c.nothing-gathered.result.frames.items c.nothing-gathered.ensures.frames;
+  done = none_so_far c.args.client c.args.drain.taken (g.S.Sink.seen c.args.sink.now).taken c.nothing-gathered.result.frames.items c.nothing-gathered.ensures.frames;
   held = omega (arith, ap length c.nothing-gathered.ensures.frames);
   later = same_is_later g.H.Owed.begins g.H.Owed.begins_itself c.args.drain;
   steps = all_turns c.nothing-gathered.ensures.turns;
@@ -14,7 +14,7 @@ items-init g c = record {
 
 pub items-preserved : goal.items-preserved
 items-preserved g c = record {
-  done = then_passes c.args.client c.args.drain.taken c.items.drain.taken c.write_next.new.drain.taken (g.S.Sink.taken c.args.sink.now) (g.S.Sink.taken c.items.sink) (g.S.Sink.taken c.write_next.new.sink)
+  done = then_passes c.args.client c.args.drain.taken c.items.drain.taken c.write_next.new.drain.taken (g.S.Sink.seen c.args.sink.now).taken (g.S.Sink.seen c.items.sink).taken (g.S.Sink.seen c.write_next.new.sink).taken
       c.items.gathered.frames.items c.write_next.new.gathered.frames.items c.items.invariant.done c.in_default.ensures.done;
   held = c.in_default.ensures.held;
   later = later_still g.H.Owed.begins g.H.Owed.begins_on c.args.drain c.items.drain c.write_next.new.drain c.items.invariant.later c.in_default.ensures.drain;
@@ -23,7 +23,7 @@ items-preserved g c = record {
 
 pub returns-in-Err-clause-written : goal.returns-in-Err-clause-written
 returns-in-Err-clause-written g c =
-    then_ends c.args.client c.in-Err.end c.args.drain.taken c.items.drain.taken c.write_next.new.drain.taken (g.S.Sink.taken c.args.sink.now) (g.S.Sink.taken c.items.sink) (g.S.Sink.taken c.write_next.new.sink)
+    then_ends c.args.client c.in-Err.end c.args.drain.taken c.items.drain.taken c.write_next.new.drain.taken (g.S.Sink.seen c.args.sink.now).taken (g.S.Sink.seen c.items.sink).taken (g.S.Sink.seen c.write_next.new.sink).taken
     c.items.gathered.frames.items c.items.invariant.done c.in-Err.ensures.ended
 
 pub returns-in-Err-clause-drain : goal.returns-in-Err-clause-drain

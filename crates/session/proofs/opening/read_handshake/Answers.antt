@@ -16,7 +16,7 @@ returns-in-Err-clause-reads g c = then_steps c.octets.invariant.steps (piece_ste
 
 pub returns-in-Err-clause-cause : goal.returns-in-Err-clause-cause
 returns-in-Err-clause-cause g c =
-    piece_cause c.in-Err.none c.from.result (g.I.Source.is_ended c.read_piece.new.source) ⊥ (c.read_piece.new.turns ≡ 0) c.from.ensures (λ e. c.in-Err.ensures.ended (ap Err e)) (λ zero. zero) (then_steps c.octets.invariant.steps c.in-Err.ensures.steps)
+    piece_cause c.in-Err.none c.from.result (g.I.Source.seen c.read_piece.new.source).is_ended ⊥ (c.read_piece.new.turns ≡ 0) c.from.ensures (λ e. c.in-Err.ensures.ended (ap Err e)) (λ zero. zero) (then_steps c.octets.invariant.steps c.in-Err.ensures.steps)
 
 pub returns-then-is_err-clause-reads : goal.returns-then-is_err-clause-reads
 returns-then-is_err-clause-reads g c = then_steps c.octets.invariant.steps c.in-Ok.ensures.steps

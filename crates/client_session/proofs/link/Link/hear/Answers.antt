@@ -6,7 +6,7 @@ use Rattle.client_session.proofs.link.Link.hear.Goals as goal
 
 pub returns-in_default-clause-next : goal.returns-in_default-clause-next
 returns-in_default-clause-next g c =
-    nothing_heard (terms c.args.self.now.serializer c.args.self.now.limit) (heard_at c.args.self.now (g.I.Source.given c.args.source.now) (g.O.Sink.taken c.args.sink.now))
+    nothing_heard (terms c.args.self.now.serializer c.args.self.now.limit) (heard_at c.args.self.now (g.I.Source.seen c.args.source.now) (g.O.Sink.seen c.args.sink.now))
     (subst (λ (l : Line). Reads l.held [] l.held) c.self.view_is c.self.invariant.steady)
 
 pub invariant_of-self : goal.invariant_of-self

@@ -71,7 +71,7 @@ pass-requires-clause-halves g c κs within = c.in-Ended.ensures.0 ∙ sym c.in-E
 pub pass-requires-clause-went : goal.pass-requires-clause-went
 pass-requires-clause-went g c κs within =
     let table = c.args.self.now in
-    let see = sight g.I.Source.given g.I.Source.is_ended g.I.Source.calls g.I.Source.failures g.O.Sink.taken g.O.Sink.calls g.O.Sink.failures in
+    let see = sight g.I.Source.seen g.O.Sink.seen in
     subst (λ o. Went see (offer_of table.roster.over.plan.value) o) (sym c.of-in-Ended.ensures) (ap offer_of (c.in-Ended.ensures.1.serves ∙ table.same), subst (λ ended. Reads see c.in-Ended.began.value ended) (sym c.of.ensures) c.in-Ended.ensures.2)
 
 pub pass-requires-clause-found : goal.pass-requires-clause-found
@@ -84,7 +84,7 @@ take_in-gone-requires-after_bounds g c κs within =
     let table = c.args.self.now in
     let places = places_of (realms_of c.args.self.now.realms) in
     let at = taken_at places c.in-Ok.conn (lists_of table.posters) (lists_of c.take-posters.new.self) c.take-posters.result.items c.take-posters.ensures table.free in
-    reader_left (sight g.I.Source.given g.I.Source.is_ended g.I.Source.calls g.I.Source.failures g.O.Sink.taken g.O.Sink.calls g.O.Sink.failures) (realms_of table.realms) c.in-Ended.began.value c.in-Ended.ended c.in-Ended.ensures.2 (subst (λ l. AreAt places l) (sym c.in-Ended.ensures.1.posts) at.0)
+    reader_left (sight g.I.Source.seen g.O.Sink.seen) (realms_of table.realms) c.in-Ended.began.value c.in-Ended.ended c.in-Ended.ensures.2 (subst (λ l. AreAt places l) (sym c.in-Ended.ensures.1.posts) at.0)
 
 pub invariant_of-self-in-Ended : goal.invariant_of-self-in-Ended
 invariant_of-self-in-Ended g c =
@@ -93,7 +93,7 @@ invariant_of-self-in-Ended g c =
     let number = taken_numbered table.seats c.take.new.self c.in-Ok.conn table.roster.entries.items (items_of table.roster.over.streams) c.in-Ok.ensures.ok table.numbered in
     let free = free_place table.seats c.take.new.self conn table.roster.entries.items (items_of table.roster.lent) c.seat_index-place.result c.in-Ok.ensures.ok c.seat_index-place.ensures table.seated in
     let same = ap (λ v. v.items) c.pass.ensures.entries in
-    let s = ended_standing (sight g.I.Source.given g.I.Source.is_ended g.I.Source.calls g.I.Source.failures g.O.Sink.taken g.O.Sink.calls g.O.Sink.failures) table.roster.over.plan c.pass.new.self.over.plan (realms_of table.realms) (realms_of c.take_in-gone.new.realms) conn c.take-posters.result.items (lists_of table.posters) (lists_of c.take-posters.new.self) (lists_of c.take_in-gone.new.posters)
+    let s = ended_standing (sight g.I.Source.seen g.O.Sink.seen) table.roster.over.plan c.pass.new.self.over.plan (realms_of table.realms) (realms_of c.take_in-gone.new.realms) conn c.take-posters.result.items (lists_of table.posters) (lists_of c.take-posters.new.self) (lists_of c.take_in-gone.new.posters)
     table.roster.entries.items c.pass.new.self.entries.items (items_of table.roster.over.streams) (items_of c.pass.new.self.over.streams) c.seat_index-place.result c.in-Ended.began c.of.result c.in-Ended.ended c.of-in-Ended.result.value c.take-posters.ensures c.seat_index-place.ensures
     c.in-Ended.ensures.1.number c.in-Ended.ensures.1.posts c.pass.ensures.plan same c.pass.ensures.over c.of-in-Ended.ensures c.of.ensures c.in-Ended.ensures.2 c.take_in-gone.ensures.realms c.take_in-gone.ensures.posters (record { free = table.free; served = table.served; say = table.say; kept = table.kept; grants = table.grants }) in
     record {

@@ -19,7 +19,7 @@ invariant_of-self g c =
 pub take_in-gone-requires-after_bounds : goal.take_in-gone-requires-after_bounds
 take_in-gone-requires-after_bounds g c κs within =
     let table = c.args.self.now in
-    let see = sight g.I.Source.given g.I.Source.is_ended g.I.Source.calls g.I.Source.failures g.O.Sink.taken g.O.Sink.calls g.O.Sink.failures in
+    let see = sight g.I.Source.seen g.O.Sink.seen in
     let left = c.in_ok-conn.ensures.over in
     let stood = entry_stood see (places_of (realms_of table.realms)) table.roster.entries.items c.args.place c.in_ok-conn.conn c.in_ok-conn.ended _ _ left table.served in
     reader_left see (realms_of table.realms) left.entry.began.value c.in_ok-conn.ended left.reads stood.0
@@ -28,7 +28,7 @@ pub invariant_of-self-2 : goal.invariant_of-self-2
 invariant_of-self-2 g c =
     let table = c.args.self.now in
     let left = c.in_ok-conn.ensures.over in
-    let s = left_standing (sight g.I.Source.given g.I.Source.is_ended g.I.Source.calls g.I.Source.failures g.O.Sink.taken g.O.Sink.calls g.O.Sink.failures) table.roster.over.plan c.join.new.self.over.plan (realms_of table.realms) (realms_of c.take_in-gone.new.realms) (lists_of table.posters) (lists_of c.take_in-gone.new.posters) table.roster.entries.items c.join.new.self.entries.items
+    let s = left_standing (sight g.I.Source.seen g.O.Sink.seen) table.roster.over.plan c.join.new.self.over.plan (realms_of table.realms) (realms_of c.take_in-gone.new.realms) (lists_of table.posters) (lists_of c.take_in-gone.new.posters) table.roster.entries.items c.join.new.self.entries.items
     (items_of table.roster.over.streams) (items_of c.join.new.self.over.streams) c.args.place c.in_ok-conn.conn c.in_ok-conn.ended c.join.ensures.plan c.join.ensures.entries left (table.numbered.served c.args.place left.entry left.held).own c.take_in-gone.ensures.realms c.take_in-gone.ensures.posters (record { free = table.free; served = table.served; say = table.say; kept = table.kept; grants = table.grants }) in
     record { same = table.same ∙ ap (λ p. p.value) (sym c.join.ensures.plan); free = s.free; served = s.served; say = s.say; numbered = back_numbered table.seats c.vacate.new.seats c.in_ok-conn.conn c.join.new.self.entries.items (items_of c.join.new.self.over.streams) c.vacate.ensures (left_numbered table.seats table.roster.entries.items c.join.new.self.entries.items (items_of table.roster.over.streams) (items_of c.join.new.self.over.streams) c.args.place left.entry left.left c.join.ensures.entries left.held left.over table.numbered); seated = seat_left table.seats c.vacate.new.seats table.roster.entries.items c.join.new.self.entries.items (items_of table.roster.lent) (items_of c.join.new.self.lent) c.in_ok-conn.conn c.args.place left.entry left.held (table.numbered.served c.args.place left.entry left.held).seat left.number c.vacate.ensures c.join.ensures.entries c.join.ensures.lent table.seated; kept = s.kept; grants = s.grants }
 
