@@ -2,7 +2,7 @@
 ghost use Rattle.std.specs.Prelude.{◌≡◌, ◌≢◌, ◌++◌, ◌+◌, ◌<◌, ◌≤◌, ◌^◌, ℕ, [], ◌∷◌, drop, length, take, false, true, IfErr, IfNone, IfOk, IfSome, OnOk};
 ghost use Rattle.rawsocket.specs.Devices.{Takes, TakesBeginning, WriteFails};
 ghost use Rattle.rawsocket.specs.Steps.{Steps, told_by, write_meter};
-ghost use Rattle.command_line.specs.Grants.{bytes_of};
+ghost use Rattle.realm.specs.Grants.{pairs_of};
 ghost use Rattle.replay.specs.Lines.{has_line_feed};
 ghost use Rattle.replay.specs.Progress.{Completes, Goes, IsRefused, Stops, TellsMore};
 ghost use Rattle.replay.specs.Outcome.{HasCause, write_told};
@@ -46,7 +46,7 @@ impl ReplayInput {
     ) -> Result<ReplayInput, Fault>
         ensures { IfOk result (λ told.
             told ≡ record {
-              replay = starting (bytes_of grants.now) realm.now;
+              replay = starting (pairs_of grants.now) realm.now;
               rest = [];
               count = 0;
               out = [];

@@ -1,6 +1,6 @@
 use Rattle.std.proofs.Common.{◌≡◌, [], get_or, subst, ap, rules}
 use Rattle.std.proofs.lemmas.Result.{on_ok_weaker, on_err_weaker}
-use Rattle.command_line.specs.Grants.{bytes_of}
+use Rattle.realm.specs.Grants.{pairs_of}
 use Rattle.replay.specs.Outcome.{BeginsReplay, IsReplayed, StopsAt, streams_of}
 use Rattle.replay.specs.Transcript.{Replay}
 use Rattle.rawsocket.proofs.Lemmas.{no_whole_steps}
@@ -11,28 +11,28 @@ pub returns-clause-told : goal.returns-clause-told
 returns-clause-told g c =
     let is_first : c.index.result.now ≡ get_or c.args.config.now.realms.items 0 c.index.result.now = search rules in
     let P : Replay → Type 0 = λ start. IsReplayed start (streams_of (g.I.Source.seen c.args.source.now) (g.I.Source.seen c.replay_to_end.new.source) (g.O.Sink.seen c.args.sink.now) (g.O.Sink.seen c.replay_to_end.new.sink)) [] in
-    on_ok_weaker c.replay_to_end.result (λ told. from-realm c.args.config.now.realms.items (bytes_of c.args.config.now.grants.items) P c.index.result.now is_first c.requires (rw c.deref.ensures.value at (subst P (ap (λ t. t.replay) c.in-Ok.ensures) told))) c.replay_to_end.ensures.told
+    on_ok_weaker c.replay_to_end.result (λ told. from-realm c.args.config.now.realms.items (pairs_of c.args.config.now.grants.items) P c.index.result.now is_first c.requires (rw c.deref.ensures.value at (subst P (ap (λ t. t.replay) c.in-Ok.ensures) told))) c.replay_to_end.ensures.told
 
 pub returns-clause-bad : goal.returns-clause-bad
 returns-clause-bad g c = λ k is.
     let is_first : c.index.result.now ≡ get_or c.args.config.now.realms.items 0 c.index.result.now = search rules in
     let P : Replay → Type 0 = λ start. StopsAt start (streams_of (g.I.Source.seen c.args.source.now) (g.I.Source.seen c.replay_to_end.new.source) (g.O.Sink.seen c.args.sink.now) (g.O.Sink.seen c.replay_to_end.new.sink)) (g.I.Source.seen c.replay_to_end.new.source).is_ended [] k in
-    from-realm c.args.config.now.realms.items (bytes_of c.args.config.now.grants.items) P c.index.result.now is_first c.requires (rw c.deref.ensures.value at (subst P (ap (λ t. t.replay) c.in-Ok.ensures) (c.replay_to_end.ensures.bad k is)))
+    from-realm c.args.config.now.realms.items (pairs_of c.args.config.now.grants.items) P c.index.result.now is_first c.requires (rw c.deref.ensures.value at (subst P (ap (λ t. t.replay) c.in-Ok.ensures) (c.replay_to_end.ensures.bad k is)))
 
 pub returns-clause-begun : goal.returns-clause-begun
 returns-clause-begun g c =
     let is_first : c.index.result.now ≡ get_or c.args.config.now.realms.items 0 c.index.result.now = search rules in
     let P : Replay → Type 0 = λ start. BeginsReplay start (streams_of (g.I.Source.seen c.args.source.now) (g.I.Source.seen c.replay_to_end.new.source) (g.O.Sink.seen c.args.sink.now) (g.O.Sink.seen c.replay_to_end.new.sink)) (g.I.Source.seen c.replay_to_end.new.source).is_ended in
-    on_err_weaker c.replay_to_end.result (λ begun. from-realm c.args.config.now.realms.items (bytes_of c.args.config.now.grants.items) P c.index.result.now is_first c.requires (rw c.deref.ensures.value at (subst P (ap (λ t. t.replay) c.in-Ok.ensures) begun))) c.replay_to_end.ensures.begun
+    on_err_weaker c.replay_to_end.result (λ begun. from-realm c.args.config.now.realms.items (pairs_of c.args.config.now.grants.items) P c.index.result.now is_first c.requires (rw c.deref.ensures.value at (subst P (ap (λ t. t.replay) c.in-Ok.ensures) begun))) c.replay_to_end.ensures.begun
 
 pub returns-in_default-clause-begun : goal.returns-in_default-clause-begun
 returns-in_default-clause-begun g c =
-    from-any c.args.config.now.realms.items (bytes_of c.args.config.now.grants.items) (λ start. BeginsReplay start (streams_of (g.I.Source.seen c.args.source.now) (g.I.Source.seen c.args.source.now) (g.O.Sink.seen c.args.sink.now) (g.O.Sink.seen c.args.sink.now)) (g.I.Source.seen c.args.source.now).is_ended)
+    from-any c.args.config.now.realms.items (pairs_of c.args.config.now.grants.items) (λ start. BeginsReplay start (streams_of (g.I.Source.seen c.args.source.now) (g.I.Source.seen c.args.source.now) (g.O.Sink.seen c.args.sink.now) (g.O.Sink.seen c.args.sink.now)) (g.I.Source.seen c.args.source.now).is_ended)
     (λ start. begun-start start (g.I.Source.seen c.args.source.now).given (g.O.Sink.seen c.args.sink.now).taken (g.I.Source.seen c.args.source.now).is_ended)
 
 pub returns-in_default-vec-clause-begun : goal.returns-in_default-vec-clause-begun
 returns-in_default-vec-clause-begun g c =
-    from-any c.args.config.now.realms.items (bytes_of c.args.config.now.grants.items) (λ start. BeginsReplay start (streams_of (g.I.Source.seen c.args.source.now) (g.I.Source.seen c.args.source.now) (g.O.Sink.seen c.args.sink.now) (g.O.Sink.seen c.args.sink.now)) (g.I.Source.seen c.args.source.now).is_ended)
+    from-any c.args.config.now.realms.items (pairs_of c.args.config.now.grants.items) (λ start. BeginsReplay start (streams_of (g.I.Source.seen c.args.source.now) (g.I.Source.seen c.args.source.now) (g.O.Sink.seen c.args.sink.now) (g.O.Sink.seen c.args.sink.now)) (g.I.Source.seen c.args.source.now).is_ended)
     (λ start. begun-start start (g.I.Source.seen c.args.source.now).given (g.O.Sink.seen c.args.sink.now).taken (g.I.Source.seen c.args.source.now).is_ended)
 
 pub returns-in_default-clause-reads : goal.returns-in_default-clause-reads
