@@ -78,7 +78,10 @@ def kit():
     """What the toolchain says that it is; None where there is none."""
     if not shutil.which("rt"):
         return None
-    return subprocess.run(["rt", "version"], capture_output=True, check=True, text=True, stdin=subprocess.DEVNULL).stdout.strip()
+    ran = subprocess.run(["rt", "version"], capture_output=True, text=True, stdin=subprocess.DEVNULL)
+    if ran.returncode != 0:
+        sys.exit(f"wampd: rt version fails: {ran.stderr.strip()}")
+    return ran.stdout.strip()
 
 
 def record_of(program):

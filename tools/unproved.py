@@ -23,7 +23,7 @@ LAST_LINES = 20
 # How long `rt` may take to end what it started, in seconds.
 PATIENCE = 20
 SET_PDEATHSIG = 1
-NOTE = "wampd: no program stands yet; building one, with nothing proved of it, once: minutes"
+NOTE = "wampd: building the program, once, with nothing proved of it: one to seven minutes"
 
 
 def stands():
@@ -56,10 +56,10 @@ def peer_files(client):
 
 def keep(client):
     """Keeps the program that the client is."""
-    for file in peer_files(client):
+    for file in filter(os.path.isfile, peer_files(client)):
+        shutil.copyfile(file, f"{PROGRAM}.new")
+        os.chmod(f"{PROGRAM}.new", 0o755)
         with contextlib.suppress(OSError, subprocess.TimeoutExpired):
-            shutil.copyfile(file, f"{PROGRAM}.new")
-            os.chmod(f"{PROGRAM}.new", 0o755)
             told = subprocess.run([f"{PROGRAM}.new", "--version"], stdin=subprocess.DEVNULL, capture_output=True, timeout=PATIENCE).stdout
             if told.startswith(b"wampd "):
                 os.replace(f"{PROGRAM}.new", PROGRAM)
@@ -67,8 +67,16 @@ def keep(client):
     return False
 
 
+def is_in_front():
+    """Whether we have a terminal for ourselves; behind `&` we share it with who types there."""
+    try:
+        return os.tcgetpgrp(sys.stderr.fileno()) == os.getpgrp()
+    except OSError:
+        return False
+
+
 def say(begun):
-    if sys.stderr.isatty():
+    if is_in_front():
         line = f"{NOTE} {built.clock(time.time() - begun)}"
         print("\r\033[K" + line[: shutil.get_terminal_size().columns - 1], end="", file=sys.stderr, flush=True)
 
@@ -93,7 +101,7 @@ def end(tried):
     shutil.rmtree(ROOM, ignore_errors=True)
     with contextlib.suppress(FileNotFoundError):
         os.remove(f"{PROGRAM}.new")
-    if sys.stderr.isatty():
+    if is_in_front():
         print("\r\033[K", end="", file=sys.stderr, flush=True)
     signal.pthread_sigmask(signal.SIG_SETMASK, before)
 
@@ -135,7 +143,7 @@ def make():
     with built.alone(built.LOCK_UNPROVED, "./wampd builds the program, with nothing proved of it"):
         if stands():
             return 0
-        if not sys.stderr.isatty():
+        if not is_in_front():
             print(NOTE, file=sys.stderr, flush=True)
         begun, sums = time.time(), built.sums()
         if not build():
