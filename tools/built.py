@@ -94,9 +94,10 @@ def record_of(program):
 
 
 def write_record(program, **more):
-    """Writes the record of a program: its sha256, and what else is known of it."""
+    """Writes the record of a program: its sha256, the day, and what else is known of it."""
+    found = {"program": hashlib.sha256(content_of(program)).hexdigest(), "day": time.strftime("%Y-%m-%d"), **more}
     with open(f"{program}.record.new", "w", encoding="utf-8") as out:
-        json.dump({"program": hashlib.sha256(content_of(program)).hexdigest(), **more}, out, indent=1)
+        json.dump(found, out, indent=1)
         out.write("\n")
     os.replace(f"{program}.record.new", f"{program}.record")
 

@@ -34,9 +34,9 @@ def stands():
 
 
 def which_rt():
-    """The file of the toolchain's command, its size and its time; None where there is none."""
+    """The file of the toolchain's command, its size, time and place on the disk; None where there is none."""
     path = shutil.which("rt")
-    return path and [os.path.realpath(path), os.stat(path).st_size, os.stat(path).st_mtime_ns]
+    return path and [os.path.realpath(path), *(getattr(os.stat(path), it) for it in ("st_size", "st_mtime_ns", "st_ino"))]
 
 
 def peer_files(client):
