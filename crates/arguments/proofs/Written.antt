@@ -16,12 +16,12 @@ use Rattle.msgpack_canonical.specs.Canonical.{IsCanonicalized}
 use Rattle.msgpack_cursor.specs.Standing.{value_in, rest_in}
 use Rattle.msgpack_cursor.proofs.Readings.{value-read, rest-read}
 use Rattle.json_codec.specs.Encoder.{json_text}
-use Rattle.transcoder.specs.Standing.{Stands}
+use Rattle.msgpack_to_json.specs.Standing.{Stands}
 use Rattle.rawsocket.specs.declared.handshake.Serializer.{Serializer}
 use Rattle.rawsocket.specs.declared.handshake.Serializer.TheVariants.{Json, MsgPack}
 use Rattle.arguments.specs.Arguments.{is_all_carried, last_items}
 use Rattle.arguments.specs.Endings.{IsEnding, further, items_have_spelling, separator, serialized}
-use Rattle.arguments.specs.body.Held.{AreWritten, HasFirst, HasValues, IsWritable, behind_args, first_in, second_in, written_in}
+use Rattle.arguments.specs.body.KeptArguments.{AreWritten, HasFirst, HasValues, IsWritable, behind_args, first_in, second_in, written_in}
 use Rattle.arguments.specs.body.Parts.{IsPartPut, IsPut, IsPutIfAny, IsSpelledFor, IsSpelledPut, IsWrittenFor, further_if_any, further_one, has_spelling_if_any, has_spelling_one}
 
 -- ---- one value

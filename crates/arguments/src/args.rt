@@ -5,7 +5,7 @@ ghost use Rattle.msgpack_codec.specs.Short.{item_count};
 ghost use Rattle.arguments.specs.Arguments.{FitMessages, is_all_carried, is_args, is_kwargs, last_items};
 ghost use Rattle.arguments.specs.Endings.{IsEnding, further, items_have_spelling};
 ghost use Rattle.arguments.specs.Reading.{read_from};
-ghost use Rattle.arguments.specs.body.Held.{IsGiven, arguments_in};
+ghost use Rattle.arguments.specs.body.KeptArguments.{IsGiven, arguments_in};
 
 use crate::fault::Fault;
 use crate::held::{Decoded, Given};
@@ -19,7 +19,7 @@ use std::marker::Model;
 
 /// Arguments that are there, and what they are at the end of a message in JSON, where that is kept.
 #[derive(Drop)]
-struct Held {
+struct KeptArguments {
     given: Given,
     json: Option<Octets>,
 }
@@ -35,13 +35,13 @@ struct Held {
 /// They stand in one box, so that they are moved as one pointer; no arguments take no memory.
 #[derive(Drop)]
 pub struct Args {
-    held: Option<Box<Held>>,
+    held: Option<Box<KeptArguments>>,
 }
 
 impl Model for Args {
     ghost use Rattle.std.specs.Option.{option_map, option_and_then};
     ghost use Rattle.arguments.specs.Arguments.{Arguments, arguments_code};
-    ghost use Rattle.arguments.specs.body.Held.{AreHeldIfAny, held_arguments};
+    ghost use Rattle.arguments.specs.body.KeptArguments.{AreHeldIfAny, held_arguments};
 
     ghost Value = { Arguments };
 
@@ -60,7 +60,7 @@ impl Args {
         ensures { IfOk result (λ a. a ≡ arguments_in given) }
     {
         Ok(Args {
-            held: Some(Box::new(alloc, Held { given, json: None })?),
+            held: Some(Box::new(alloc, KeptArguments { given, json: None })?),
         })
     }
 

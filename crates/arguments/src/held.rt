@@ -4,7 +4,7 @@ ghost use Rattle.message_tree.specs.Data.{depth};
 ghost use Rattle.msgpack_codec.specs.Short.{item_count};
 ghost use Rattle.arguments.specs.Arguments.{FitMessages, IsShallow, is_all_carried, is_carried_if_any, last_items};
 ghost use Rattle.msgpack_cursor.specs.Standing.{rest_in};
-ghost use Rattle.arguments.specs.body.Held.{HasFirst, HasValues, IsGiven, arguments_in, first_in, written_in};
+ghost use Rattle.arguments.specs.body.KeptArguments.{HasFirst, HasValues, IsGiven, arguments_in, first_in, written_in};
 ghost use Rattle.arguments.specs.body.Parts.{IsPut, IsPutIfAny, IsWrittenFor};
 
 use crate::buffer::buffer;

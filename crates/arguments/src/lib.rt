@@ -1,9 +1,9 @@
 #![tactic(auto)]
 
-//! The arguments of a publication (WAMP, "Publishing and Events": Arguments and ArgumentsKw), from the octets in which they came to
-//! the octets in which they go: no tree stands between, where both can be written in MessagePack.
+//! The arguments of a publication (WAMP, "Publishing and Events": Arguments and ArgumentsKw), from the octets in which
+//! they came to the octets in which they go: no tree stands between, where both can be written in MessagePack.
 //!
-//! It stands on the codecs, `msgpack_canonical`, `msgpack_cursor` and `transcoder`. Contracts see the data of the arguments.
+//! Contracts see the data of the arguments.
 mod args;
 mod buffer;
 mod carried;

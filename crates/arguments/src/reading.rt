@@ -2,7 +2,7 @@
 ghost use Rattle.std.specs.Prelude.{◌≡◌, ◌≤◌, ◌&&◌, ◌⊎◌, IfOk, IfErr, None, Some};
 ghost use Rattle.message_tree.specs.Data.{depth};
 ghost use Rattle.arguments.specs.Reading.{read_from};
-ghost use Rattle.arguments.specs.body.Held.{IsGiven, arguments_in};
+ghost use Rattle.arguments.specs.body.KeptArguments.{IsGiven, arguments_in};
 
 use crate::buffer::buffer;
 use crate::fault::Fault;

@@ -4,16 +4,16 @@ ghost use Rattle.message_tree.specs.Data.{is_carried};
 ghost use Rattle.rawsocket.specs.declared.handshake.Serializer.TheVariants.{Json, MsgPack};
 ghost use Rattle.arguments.specs.Arguments.{is_all_carried, is_carried_if_any, last_items};
 ghost use Rattle.arguments.specs.Endings.{IsEnding, further, items_have_spelling};
-ghost use Rattle.arguments.specs.body.Held.{AreWritten, IsGiven, arguments_in, written_in};
+ghost use Rattle.arguments.specs.body.KeptArguments.{AreWritten, IsGiven, arguments_in, written_in};
 ghost use Rattle.arguments.specs.body.Parts.{HasStanding, IsJsonPut, further_if_any, further_one, has_spelling_if_any, has_spelling_one};
 
 use crate::buffer::buffer;
 use crate::fault::Fault;
 use crate::held::Given;
 use message_tree::{Appender, Content, Octets};
+use msgpack_to_json::write_json;
 use rawsocket::Serializer;
 use std::alloc::{AllocError, Global};
-use transcoder::write_json;
 
 /// What JSON mostly takes beside the octets of MessagePack.
 const ROOM: usize = 32;
@@ -32,8 +32,8 @@ fn put_one_json<'a>(
     out.put(b',')?;
     match write_json(alloc, octets, out) {
         Ok(rest) => Ok(rest),
-        Err(transcoder::Fault::NoMemory) => Err(AllocError),
-        Err(transcoder::Fault::Malformed) => unreachable!(),
+        Err(msgpack_to_json::Fault::NoMemory) => Err(AllocError),
+        Err(msgpack_to_json::Fault::Malformed) => unreachable!(),
     }
 }
 

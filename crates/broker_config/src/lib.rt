@@ -1,6 +1,6 @@
 //! What a broker is run with, and why it ends: its realms, who may be whom, how much may wait, where ids come from.
 //!
-//! It stands on `realm` (what grants mean) and `wamp_ids`, and needs no handle. Contracts say that grants are copied whole, in their order.
+//! What grants mean, `realm` says. Contracts say here that grants are copied whole, in their order.
 #![tactic(auto)]
 
 mod config;

@@ -25,22 +25,22 @@ use Rattle.connection.proofs.writer.WriteEnd.TheSendSync as write_end
 use Rattle.connection.specs.contracts.pongs.OwedPongs as OwedPongs
 use Rattle.connection.specs.contracts.reader.ReadEnd as ReadEnd
 use Rattle.connection.specs.contracts.writer.WriteEnd as WriteEnd
-use Rattle.notices.proofs.reason.Reason.TheSendSync as reason
-use Rattle.notices.specs.contracts.reason.Reason as Reason
+use Rattle.log_lines.proofs.reason.CloseReason.TheSendSync as reason
+use Rattle.log_lines.specs.contracts.reason.CloseReason as CloseReason
 use Rattle.realm_inbox.proofs.SendLemmas.{backlog_send, backlog_sync, chronicle_send, history, history_owed, history_send, moment, moment_recorded, inbox_send, poster_send}
 use Rattle.realm_inbox.specs.contracts.ends.Poster as Poster
 use Rattle.realm_inbox.specs.declared.transport.Shut.{Ghosts}
-use Rattle.session.proofs.SendLemmas.{item_send}
+use Rattle.wamp_messages.proofs.SendLemmas.{item_send}
 use Rattle.session.proofs.fault.Fault.TheSendSync as session_fault
 use Rattle.session.specs.contracts.fault.Fault as SessionFault
-use Rattle.session.specs.contracts.messages.item.Item as Item
+use Rattle.wamp_messages.specs.contracts.item.Item as Item
 use Rattle.broker_threads.specs.contracts.actor_thread.Acted as Acted
 use Rattle.broker_threads.specs.contracts.actor_thread.ActorThread as ActorThread
 use Rattle.broker_threads.specs.contracts.closed.Closed as Closed
 use Rattle.broker_threads.specs.contracts.course.Course as Course
 use Rattle.broker_threads.specs.contracts.fate.Fate as Fate
 use Rattle.broker_threads.specs.contracts.fate.Marked as Marked
-use Rattle.broker_threads.specs.contracts.handover.Shared as Shared
+use Rattle.broker_threads.specs.contracts.handover.SharedTransport as SharedTransport
 use Rattle.broker_threads.specs.contracts.log.LogWriter as LogWriter
 use Rattle.broker_threads.specs.contracts.seat_table.SeatTable as SeatTable
 use Rattle.broker_threads.specs.contracts.id_words.IdWords as IdWords
@@ -100,8 +100,8 @@ module _ (S : RattleType) where
   transport_sync : IsSend S → IsSync (Mutex.the_row (Option.the_row S))
   transport_sync s = let h = option_send S s in search (h, crosses, sendable) depth 40
 
-  shared_send : IsSend S → IsSend (Shared.the_row S)
-  shared_send s = declared_send (Shared.the_type S)
+  shared_send : IsSend S → IsSend (SharedTransport.the_row S)
+  shared_send s = declared_send (SharedTransport.the_type S)
       (as_row_send (Arc.the_field (Mutex.the_row (Option.the_row S)) Global.the_row global.ghosts) (heap.Arc-send _ (transport_send s) (transport_sync s)), (search (crosses, sendable) depth 60, tt))
 
 module _ (S : RattleType) (shut : Ghosts S.Denot) where
@@ -115,7 +115,7 @@ module _ (I O S : RattleType) (shut : Ghosts S.Denot) where
 
   pub ended_send : IsSend S → IsSend (Ended.the_row I O S shut)
   ended_send s = declared_send (Ended.the_type I O S shut)
-      (closed_send I, (as_row_send (Vec.the_field (Option.the_row (Poster.the_row S shut)) Global.the_row global.ghosts) (posters_send S shut s), (course_send O, (as_row_send Reason.the_field reason.the_field_send, tt))))
+      (closed_send I, (as_row_send (Vec.the_field (Option.the_row (Poster.the_row S shut)) Global.the_row global.ghosts) (posters_send S shut s), (course_send O, (as_row_send CloseReason.the_field reason.the_field_send, tt))))
 
 module _ (S : RattleType) (shut : Ghosts S.Denot) where
   pub actor_work_send : IsSend S → IsSend (ActorThread.the_row S shut)

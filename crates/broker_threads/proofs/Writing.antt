@@ -6,7 +6,7 @@ use Rattle.outbox_queue.specs.Ends.{Taking, TookUnvouched, TookWhole, Owes, IsOf
 use Rattle.outbox_queue.specs.Tied.{Kept}
 use Rattle.rawsocket.specs.Steps.{WholeSteps, meter}
 use Rattle.realm.specs.History.{History}
-use Rattle.session.specs.declared.messages.item.Item.{Item}
+use Rattle.wamp_messages.specs.declared.item.Item.{Item}
 use Rattle.broker_threads.specs.Writes.{BeginsKept, Writes, over_kept, owed_kept}
 use Rattle.broker_threads.specs.declared.writer_thread.Writer.{Writer}
 use Rattle.broker_threads.specs.declared.writer_thread.Written.{Written}

@@ -4,7 +4,7 @@ use Rattle.broker_threads.specs.declared.closed.Closed.{Closed}
 use Rattle.broker_threads.specs.declared.course.Course.{Course}
 use Rattle.broker_threads.specs.declared.course.Course.TheVariants as course
 use Rattle.broker_threads.specs.declared.course.SessionEnds.{SessionEnds}
-use Rattle.broker_threads.specs.declared.writer_thread.Seen.{Seen}
+use Rattle.broker_threads.specs.declared.writer_thread.SeenHistory.{SeenHistory}
 use Rattle.broker_threads.specs.declared.writer_thread.Written.{Written}
 
 -- the half of a stream that was written to, as it was let go of
@@ -15,10 +15,10 @@ sink_of (course.OpenedAlone sink) = sink
 sink_of (course.Served end written) = written.sink
 
 -- what a writer saw last of its realm's history, if it took anything
-abbrev pub seen_by : {O : Type 0} → Written O → Option Seen
+abbrev pub seen_by : {O : Type 0} → Written O → Option SeenHistory
 seen_by written = option_map (λ h. record { realm = written.realm; history = h }) written.seen
 
-abbrev pub seen_of : {O : Type 0} → Course O → Option Seen
+abbrev pub seen_of : {O : Type 0} → Course O → Option SeenHistory
 seen_of (course.Untouched sink) = None
 seen_of (course.NotOpened sink fault) = None
 seen_of (course.OpenedAlone sink) = None

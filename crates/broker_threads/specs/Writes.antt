@@ -9,7 +9,7 @@ use Rattle.rawsocket.specs.Steps.{WholeSteps, meter}
 use Rattle.realm.specs.History.{History, Begins}
 use Rattle.realm.specs.Yield.{owed}
 use Rattle.realm_inbox.specs.Over.{OwesNoMore}
-use Rattle.session.specs.declared.messages.item.Item.{Item}
+use Rattle.wamp_messages.specs.declared.item.Item.{Item}
 use Rattle.broker_threads.specs.declared.writer_thread.Writer.{Writer}
 use Rattle.broker_threads.specs.declared.writer_thread.Written.{Written}
 

@@ -3,7 +3,7 @@ ghost use Rattle.std.specs.Prelude.{◌≡◌};
 ghost use Rattle.broker_threads.specs.Closing.{reason_by_farewell, reason_by_octets, reason_by_reader, reason_by_stream, reason_of};
 
 use connection::{ReadEnd, WriteEnd};
-use notices::Reason;
+use log_lines::CloseReason;
 use session::Fault;
 
 /// What ended a session.
@@ -37,19 +37,19 @@ pub struct Closing {
 
 impl Closing {
     /// The reason: what the broker cut it for, then what couldn't be written, then what its client did.
-    pub fn reason(&self) -> Reason
+    pub fn reason(&self) -> CloseReason
         ensures { result ≡ reason_of self.now }
     {
         if self.is_full {
-            return Reason::OutboxFull(self.outbox);
+            return CloseReason::OutboxFull(self.outbox);
         }
         if self.is_lost {
-            return Reason::NoMemory;
+            return CloseReason::NoMemory;
         }
         match self.write {
             WriteEnd::TooLong => self.by_octets(),
-            WriteEnd::NoMemory => Reason::NoMemory,
-            WriteEnd::TooManyTurns => Reason::TooManyTurns,
+            WriteEnd::NoMemory => CloseReason::NoMemory,
+            WriteEnd::TooManyTurns => CloseReason::TooManyTurns,
             WriteEnd::Stopped => self.by_reader(),
             WriteEnd::Dropped => self.by_reader(),
             WriteEnd::Device => self.by_reader(),
@@ -57,12 +57,12 @@ impl Closing {
     }
 
     // The reason where the client can't take an item.
-    fn by_octets(&self) -> Reason
+    fn by_octets(&self) -> CloseReason
         ensures { result ≡ reason_by_octets self.now }
     {
         match self.octets {
-            None => Reason::Unspelt,
-            Some(octets) => Reason::TooLong {
+            None => CloseReason::Unspelt,
+            Some(octets) => CloseReason::TooLong {
                 octets,
                 limit: self.limit,
             },
@@ -70,43 +70,43 @@ impl Closing {
     }
 
     // The reason where the writer has none of its own.
-    fn by_reader(&self) -> Reason
+    fn by_reader(&self) -> CloseReason
         ensures { result ≡ reason_by_reader self.now }
     {
         match self.read {
             ReadEnd::Left => self.by_farewell(),
-            ReadEnd::Violation(fault) => Reason::Violation(fault),
-            ReadEnd::NoMemory => Reason::NoMemory,
-            ReadEnd::TooManyTurns => Reason::TooManyTurns,
-            ReadEnd::ActorGone => Reason::Stop,
-            ReadEnd::Ended => self.by_stream(Reason::Ended),
-            ReadEnd::Device => self.by_stream(Reason::ReadFailed),
+            ReadEnd::Violation(fault) => CloseReason::Violation(fault),
+            ReadEnd::NoMemory => CloseReason::NoMemory,
+            ReadEnd::TooManyTurns => CloseReason::TooManyTurns,
+            ReadEnd::ActorGone => CloseReason::Stop,
+            ReadEnd::Ended => self.by_stream(CloseReason::Ended),
+            ReadEnd::Device => self.by_stream(CloseReason::ReadFailed),
         }
     }
 
     // The reason where the client has left.
-    fn by_farewell(&self) -> Reason
+    fn by_farewell(&self) -> CloseReason
         ensures { result ≡ reason_by_farewell self.now }
     {
         if self.has_aborted {
-            Reason::Abort
+            CloseReason::Abort
         } else {
-            Reason::Goodbye
+            CloseReason::Goodbye
         }
     }
 
     // The reason where the stream has ended or failed, which says this for itself.
-    fn by_stream(&self, itself: Reason) -> Reason
+    fn by_stream(&self, itself: CloseReason) -> CloseReason
         ensures { result ≡ reason_by_stream self.now itself }
     {
         if self.has_greeted {
-            Reason::Violation(Fault::Shape)
+            CloseReason::Violation(Fault::Shape)
         } else if self.is_stopping {
-            Reason::Stop
+            CloseReason::Stop
         } else if !self.is_admitted {
-            Reason::NotAdmitted
+            CloseReason::NotAdmitted
         } else if self.is_unwritable {
-            Reason::WriteFailed
+            CloseReason::WriteFailed
         } else {
             itself
         }

@@ -3,7 +3,7 @@ ghost use Rattle.std.specs.Prelude.{◌≡◌};
 ghost use Rattle.broker_threads.specs.Courses.{ends_of, seen_of, sink_of};
 
 use crate::closed::Closed;
-use crate::writer_thread::{Seen, Written};
+use crate::writer_thread::{SeenHistory, Written};
 use connection::{ReadEnd, WriteEnd};
 use session::Fault;
 
@@ -42,7 +42,7 @@ impl<O: Drop> Course<O> {
     }
 
     /// The half that was written to, and what the writer saw last of its realm's history, if it took anything.
-    pub fn into_parts(self) -> (Closed<O>, Option<Seen>)
+    pub fn into_parts(self) -> (Closed<O>, Option<SeenHistory>)
         ensures sink { result.0 ≡ sink_of self }
         ensures seen { result.1 ≡ seen_of self }
     {

@@ -12,7 +12,7 @@ pub type Posters<S> = Vec<Option<Poster<S>>>;
 
 /// What a connection's reader and the accepting thread share of its stream.
 #[derive(Drop)]
-pub struct Shared<S> {
+pub struct SharedTransport<S> {
     // The handle by which the accepting thread ends the stream, until one of the two threads has taken it out: who ends the stream, or
     // finds it ended. So the stream isn't kept open by it. The lock is held only while the handle is moved in or out: it is used and
     // dropped behind it.
@@ -21,13 +21,13 @@ pub struct Shared<S> {
     pub is_over: Arc<AtomicBool>,
 }
 
-impl<S: Shut> Shared<S> {
+impl<S: Shut> SharedTransport<S> {
     /// Of a stream that isn't over.
     ///
     /// # Errors
     /// Where memory was refused.
-    pub fn new(alloc: Global, transport: S) -> Result<Shared<S>, AllocError> {
-        Ok(Shared {
+    pub fn new(alloc: Global, transport: S) -> Result<SharedTransport<S>, AllocError> {
+        Ok(SharedTransport {
             transport: Arc::new(alloc, Mutex::new(Some(transport)))?,
             is_over: Arc::new(alloc, AtomicBool::new(false))?,
         })
@@ -37,8 +37,8 @@ impl<S: Shut> Shared<S> {
     ///
     /// # Errors
     /// Where memory was refused.
-    pub fn another(&self) -> Result<Shared<S>, AllocError> {
-        Ok(Shared {
+    pub fn another(&self) -> Result<SharedTransport<S>, AllocError> {
+        Ok(SharedTransport {
             transport: Arc::try_clone(&self.transport)?,
             is_over: Arc::try_clone(&self.is_over)?,
         })

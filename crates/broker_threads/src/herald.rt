@@ -2,7 +2,7 @@
 use crate::fate::Fate;
 use crate::plan::Plan;
 use connection::{OwedPongs, Watch};
-use notices::{Opening, opened};
+use log_lines::{Opening, opened};
 use rawsocket::Serializer;
 use session::{Fault, Item, Who, write_payload};
 use std::alloc::{AllocError, Global};

@@ -1,21 +1,21 @@
-//! The threads of a running broker: a realm's actor, a connection's reader and its writer, and the log's. `threaded_server` starts them, one
-//! by one, and says what they are to each other.
+//! The threads of a running broker: a realm's actor, a connection's reader and its writer, and the log's.
+//! `threaded_server` starts them, one by one, and says what they are to each other.
 //!
-//! A [`Reader`] opens the session of a stream, starts the session's [`Writer`], posts what the stream gives, and waits for the writer. An
-//! [`ActorThread`] runs a realm's actor until it is stopped. What a thread is handed and what it gives back are values, and each has a
-//! clause ([`work::Task`]) that says what it makes of one the other: so who joins a thread knows what it did.
+//! A [`Reader`] opens the session of a stream, starts the session's [`Writer`], posts what the stream gives, and waits
+//! for the writer. An [`ActorThread`] runs a realm's actor until it is stopped. What a thread is handed and what it
+//! gives back are values, and each has a clause ([`work::Task`]) that says what it makes of one the other: so who joins
+//! a thread knows what it did.
 //!
-//! It stands on `realm_actor` (what the posts give each session), `connection` (what a reader posts, what a writer writes), `session` (the
-//! opening of a session), `broker_config` and the queues between them. Contracts say what was read, posted and written for a stream whose
-//! reader ended, what a writer took, what an actor ran on and up to which post, and in which order reasons are told. Nothing is promised of
-//! time, and which line is told when is shown by runs alone.
+//! What the posts give each session is `realm_actor`'s; what a reader posts and a writer writes, `connection`'s; the
+//! opening of a session, `session`'s. Contracts say here what was read, posted and written for a stream whose reader
+//! ended, what a writer took, what an actor ran on and up to which post, and in which order reasons are told. Nothing
+//! is promised of time, and which line is told when is shown by runs alone.
 #![tactic(auto)]
 
 mod actor_thread;
 mod closed;
 mod closing;
 mod course;
-mod farewell;
 mod fate;
 pub mod handover;
 mod herald;
@@ -38,4 +38,4 @@ pub use log::{Log, LogEnd};
 pub use plan::Plan;
 pub use reader_thread::{Ended, Reader};
 pub use seat_table::SeatTable;
-pub use writer_thread::{Seen, Writer, Written};
+pub use writer_thread::{SeenHistory, Writer, Written};

@@ -1,7 +1,7 @@
 //! The log: who tells its lines, and the thread that writes them.
 use crate::work::{Task, Work, start};
 use crossbeam_channel::{Receiver, Sender, bounded};
-use notices::lost;
+use log_lines::lost;
 use rawsocket::devices::{Sink, Turns, send};
 use std::alloc::{AllocError, Global};
 use std::sync::atomic::{AtomicBool, AtomicU64, Ordering};
@@ -13,7 +13,7 @@ const MOST_LINES: usize = 1024;
 
 /// What the two sides of a log share.
 #[derive(Drop)]
-struct Shared {
+struct LogState {
     // How many lines were lost since that was last told.
     lost: AtomicU64,
     // Whether the writing thread is over.
@@ -26,13 +26,13 @@ struct Shared {
 pub struct Log {
     alloc: Global,
     sender: Sender<Vec<u8>>,
-    shared: Arc<Shared>,
+    shared: Arc<LogState>,
 }
 
 /// Says whether all that was told to a log is written.
 #[derive(Drop)]
 pub struct LogEnd {
-    shared: Arc<Shared>,
+    shared: Arc<LogState>,
 }
 
 impl LogEnd {
@@ -56,7 +56,7 @@ impl Log {
         let (sender, receiver) = bounded(alloc, MOST_LINES)?;
         let shared = Arc::new(
             alloc,
-            Shared {
+            LogState {
                 lost: AtomicU64::new(0),
                 is_over: AtomicBool::new(false),
             },
@@ -104,7 +104,7 @@ impl Log {
 struct LogWriter<S> {
     alloc: Global,
     receiver: Receiver<Vec<u8>>,
-    shared: Arc<Shared>,
+    shared: Arc<LogState>,
     sink: S,
 }
 
@@ -140,7 +140,7 @@ fn write_lines<R: Wait, S: Sink>(
     rt: &R,
     alloc: Global,
     receiver: &Receiver<Vec<u8>>,
-    shared: &Shared,
+    shared: &LogState,
     sink: &mut S,
 ) {
     for _ in rt.forever() {
@@ -158,7 +158,7 @@ fn write_line<S: Sink>(sink: &mut S, line: &[u8]) {
 }
 
 // Writes how many lines were lost, if any were.
-fn write_lost<S: Sink>(alloc: Global, shared: &Shared, sink: &mut S) {
+fn write_lost<S: Sink>(alloc: Global, shared: &LogState, sink: &mut S) {
     let count = shared.lost.swap(0, Ordering::SeqCst);
     if count == 0 {
         return;

@@ -6,12 +6,12 @@ ghost use Rattle.broker_threads.specs.Streams.{GoesBy, IsUntouched, Reads, offer
 use crate::closed::Closed;
 use crate::course::Course;
 use crate::fate::Fate;
-use crate::handover::{Posters, Shared, put_poster, take_poster};
+use crate::handover::{Posters, SharedTransport, put_poster, take_poster};
 use crate::plan::Plan;
 use crate::talk::{Broker, Session, talk};
 use crate::told::tell_closed;
 use crate::work::Task;
-use notices::Reason;
+use log_lines::CloseReason;
 use rawsocket::devices::{Sink, Source};
 use realm_inbox::Shut;
 use session::{Fault, open_session};
@@ -33,7 +33,7 @@ pub struct Reader<I, O, S: Shut> {
     pub posters: Posters<S>,
     pub transport: S,
     /// What the accepting thread has of the same stream.
-    pub shared: Shared<S>,
+    pub shared: SharedTransport<S>,
 }
 
 /// What it gives back.
@@ -46,7 +46,7 @@ pub struct Ended<I, O, S: Shut> {
     /// What became of the stream.
     pub course: Course<O>,
     /// Why the stream was closed.
-    pub reason: Reason,
+    pub reason: CloseReason,
 }
 
 impl<
@@ -108,7 +108,7 @@ fn untouched<I: Drop, O: Drop, S: Shut>(source: I, sink: O, posters: Posters<S>)
         source: Closed::of(source),
         posters,
         course: Course::Untouched(Closed::of(sink)),
-        reason: Reason::NoThread,
+        reason: CloseReason::NoThread,
     }
 }
 
@@ -148,7 +148,7 @@ fn serve<
             source: Closed::of(source),
             posters,
             course: Course::OpenedAlone(Closed::of(sink)),
-            reason: Reason::NoMemory,
+            reason: CloseReason::NoMemory,
         };
     };
     let session = Session {
@@ -168,10 +168,10 @@ fn serve<
 }
 
 // Why a connection has no session: the fault, unless its stream was ended by a stop.
-fn not_opened(plan: &Plan, fault: Fault) -> Reason {
+fn not_opened(plan: &Plan, fault: Fault) -> CloseReason {
     if plan.is_stopping.load(Ordering::SeqCst) {
-        Reason::Stop
+        CloseReason::Stop
     } else {
-        Reason::NotOpened(fault)
+        CloseReason::NotOpened(fault)
     }
 }

@@ -13,17 +13,16 @@ ghost use Rattle.broker_threads.specs.Writes.{IsNewDrain};
 use crate::closed::Closed;
 use crate::closing::Closing;
 use crate::course::Course;
-use crate::farewell::FarewellPoster;
 use crate::fate::Fate;
 use crate::plan::Plan;
 use crate::work::{Doing, Work};
 use crate::writer_thread::{Writer, Written};
 use connection::{
-    AskedPongs, EncodingPoster, OwedPongs, PongPoster, ReadEnd, Using, WriteEnd, read_posts,
-    share_pongs,
+    AskedPongs, EncodingPoster, FarewellPoster, OwedPongs, PongPoster, ReadEnd, Using, WriteEnd,
+    read_posts, share_pongs,
 };
+use log_lines::CloseReason;
 use message_tree::Text;
-use notices::Reason;
 use outbox_queue::{Drain, pair_of};
 use rawsocket::devices::{Sink, Source};
 use realm_inbox::{Act, Joining, Poster, RealmHistory, Shut};
@@ -61,7 +60,7 @@ pub struct Talked<O, S: Shut> {
     pub poster: Poster<S>,
     pub course: Course<O>,
     /// Why it is over.
-    pub reason: Reason,
+    pub reason: CloseReason,
 }
 
 /// Serves a session until it is over: starts its writer, asks the realm's actor for the session, posts what the source gives, and waits
@@ -115,12 +114,12 @@ fn not_begun<O, S: Shut>(poster: Poster<S>, refused: Refused<O>) -> Talked<O, S>
         Refused::Memory(sink) => Talked {
             poster,
             course: Course::OpenedAlone(sink),
-            reason: Reason::NoMemory,
+            reason: CloseReason::NoMemory,
         },
         Refused::Thread(written) => Talked {
             poster,
             course: Course::Served(ReadEnd::NoMemory, written),
-            reason: Reason::NoThread,
+            reason: CloseReason::NoThread,
         },
     }
 }
@@ -203,7 +202,7 @@ struct Ends {
 }
 
 // Why a session is over.
-fn reason_of(broker: Broker<'_>, ends: Ends, limit: u32) -> Reason {
+fn reason_of(broker: Broker<'_>, ends: Ends, limit: u32) -> CloseReason {
     let Broker {
         alloc: _,
         plan,
@@ -310,7 +309,7 @@ fn make<O: Sink + Drop, S: Shut>(
 
 // What a writer has, beside its sink.
 #[derive(Drop)]
-struct Tools<S> {
+struct WriterTools<S> {
     plan: Arc<Plan>,
     fate: Arc<Fate>,
     drain: Drain<Item, RealmHistory>,
@@ -324,7 +323,7 @@ fn prepare<S: Shut>(
     transport: &S,
     mut opened: Opened,
     poster: &Poster<S>,
-) -> Option<(Made<S>, Tools<S>)>
+) -> Option<(Made<S>, WriterTools<S>)>
     ensures own { IfSome result (λ r. r.0.joining.outbox.conn ≡ poster_conn poster.now) }
     ensures home { IfSome result (λ r. r.0.joining.outbox.chronicle ≡ home_of_poster poster.now) }
     ensures asks { IfSome result (λ r. r.0.joining.authid ≡ (session_of opened).authid) }
@@ -341,7 +340,7 @@ fn prepare<S: Shut>(
     let using = in_use.enter(opened.serializer).ok()?;
     let (joining, drain) = joining(alloc, plan, opened.authid.take(), poster, transport)?;
     let (asked, owed) = share_pongs(alloc).ok()?;
-    let tools = Tools {
+    let tools = WriterTools {
         plan: Arc::try_clone(plan).ok()?,
         fate: Arc::try_clone(fate).ok()?,
         drain,

@@ -1,8 +1,9 @@
 //! What is told of connections, and of the broker.
 use crate::log::Log;
 use broker_config::Fault;
-use notices::{
-    Reason, Refusal, Stopping, accept_failed, accepted, closed, refused, retained_full, stopping,
+use log_lines::{
+    CloseReason, ConnectionRefusal, Stopping, accept_failed, accepted, closed, refused,
+    retained_full, stopping,
 };
 use std::sync::Wait;
 use wamp_ids::{Conn, Topic};
@@ -15,14 +16,19 @@ pub fn tell_accepted<R: Wait>(rt: &R, log: &Option<Log>, conn: Conn, peer: &Opti
 }
 
 /// Tells of a connection that is refused before it gets a number.
-pub fn tell_refused<R: Wait>(rt: &R, log: &Option<Log>, peer: &Option<String>, refusal: Refusal) {
+pub fn tell_refused<R: Wait>(
+    rt: &R,
+    log: &Option<Log>,
+    peer: &Option<String>,
+    refusal: ConnectionRefusal,
+) {
     if let Some(log) = log {
         log.tell(rt, refused(log.alloc(), text_of(peer), refusal));
     }
 }
 
 /// Tells of a connection that is closed.
-pub fn tell_closed<R: Wait>(rt: &R, log: &Option<Log>, conn: Conn, reason: Reason) {
+pub fn tell_closed<R: Wait>(rt: &R, log: &Option<Log>, conn: Conn, reason: CloseReason) {
     if let Some(log) = log {
         log.tell(rt, closed(log.alloc(), conn, reason));
     }

@@ -56,7 +56,7 @@ impl<O: Drop> Written<O> {
     ghost use Rattle.broker_threads.specs.Courses.{seen_by};
 
     /// The half that was written to, and the newest that was known of its realm's history, if anything was.
-    pub fn into_parts(self) -> (Closed<O>, Option<Seen>)
+    pub fn into_parts(self) -> (Closed<O>, Option<SeenHistory>)
         ensures sink { result.0 ≡ self.sink }
         ensures seen { result.1 ≡ seen_by self }
     {
@@ -69,7 +69,7 @@ impl<O: Drop> Written<O> {
             octets: _,
         } = self;
         match seen {
-            Some(history) => (sink, Some(Seen { realm, history })),
+            Some(history) => (sink, Some(SeenHistory { realm, history })),
             None => (sink, None),
         }
     }
@@ -77,7 +77,7 @@ impl<O: Drop> Written<O> {
 
 /// What a writer saw last of the history of a realm.
 #[derive(Drop)]
-pub struct Seen {
+pub struct SeenHistory {
     /// The realm's place.
     pub realm: usize,
     /// What it saw. It takes no bytes.

@@ -1,5 +1,5 @@
-//! What the drivers of `schedules` and `realm_actor` share: items as text, messages in JSON as what a
-//! client says, and grants.
+//! What the drivers of `realm_core` and `realm_actor` share: items as text, messages in JSON as what a client says, and
+//! grants.
 #![tactic(auto)]
 
 mod grants;

@@ -2,7 +2,8 @@
 ghost use Rattle.std.specs.Prelude.{◌≡◌, ◌++◌, ◌∷◌, []};
 ghost use Rattle.ghost_state.specs.GhostList.{items_of};
 
-use realm_inbox::{GhostList, IdSource};
+use realm_actor::IdSource;
+use realm_inbox::GhostList;
 use std::snapshot::Snapshot;
 
 /// Gives 0, 1, 2 and so on.

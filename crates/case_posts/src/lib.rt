@@ -1,5 +1,5 @@
-//! What the drivers of `realm_actor` share: transports that are flags, words that are counted, the parts of a line, acts and what a Join
-//! brings, and how it is told what came of a post.
+//! What the drivers of `realm_actor` share: transports that are flags, words that are counted, the parts of a line,
+//! acts and what a Join brings, and how it is told what came of a post.
 #![tactic(auto)]
 
 mod acts;

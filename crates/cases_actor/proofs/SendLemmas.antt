@@ -6,8 +6,8 @@ use Rattle.outbox_queue.proofs.SendLemmas.{drain_send}
 use Rattle.outbox_queue.specs.contracts.drain.Drain as Drain
 use Rattle.realm_inbox.proofs.SendLemmas as ends
 use Rattle.realm_inbox.specs.contracts.ends.Poster as Poster
-use Rattle.session.proofs.SendLemmas.{item_send}
-use Rattle.session.specs.contracts.messages.item.Item as Item
+use Rattle.wamp_messages.proofs.SendLemmas.{item_send}
+use Rattle.wamp_messages.specs.contracts.item.Item as Item
 use Rattle.case_posts.proofs.SendLemmas.{wire_send}
 use Rattle.case_posts.specs.contracts.wire.Wire as Wire
 use Rattle.case_posts.specs.contracts.wire.WireShut.TheImpl as shut

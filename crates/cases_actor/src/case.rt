@@ -1,6 +1,7 @@
 //! The words of the table.
 use crate::replaying::Replaying;
 use crate::room::Room;
+use crate::settling::Settling;
 use crate::threads::publish_all;
 use case_items::grant_of;
 use case_posts::{act_of, capacity, conn_and_rest};
@@ -18,6 +19,7 @@ pub struct Case {
     grants: Vec<(String, String)>,
     room: Option<Room>,
     replaying: Replaying,
+    settling: Settling,
 }
 
 impl Case {
@@ -27,6 +29,7 @@ impl Case {
             grants: Vec::new(alloc),
             room: None,
             replaying: Replaying::new(alloc),
+            settling: Settling::new(),
         }
     }
 
@@ -45,10 +48,11 @@ impl Case {
             }
             "grant" => self.grant(alloc, text),
             "actor" => self.begin(alloc),
+            "pair" => self.settling.begin(alloc),
             "line" => self.line(&rt, alloc, text),
             "threads" => publish_all(rt, alloc, number_of(text)),
             _ => match &mut self.room {
-                None => line_of(alloc, "no actor"),
+                None => self.settling.take(&rt, alloc, (word, text)),
                 Some(room) => step(&rt, alloc, room, word, text),
             },
         }

@@ -1,9 +1,9 @@
 //! What is written as JSON.
 use case_text::spell;
 use message_tree::Appender;
+use msgpack_to_json::write_json;
 use std::alloc::Global;
 use std::io;
-use transcoder::write_json;
 
 /// What is written for the value at the front of octets, and the octets after it.
 pub fn json(alloc: Global, octets: &[u8]) -> io::Result<String> {

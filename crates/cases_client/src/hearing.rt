@@ -1,7 +1,7 @@
 //! What a broker's message says, in words.
 use crate::json::tree_json;
 use case_text::line_of;
-use client::{EventDetails, Heard, read_heard};
+use client_messages::{EventDetails, Heard, read_heard};
 use message_tree::{Message, Text};
 use session::{Args, Request};
 use std::alloc::Global;

@@ -1,5 +1,5 @@
 //! What a client says, from a message that a broker reads.
-use client::ClientMessage;
+use client_messages::ClientMessage;
 use message_tree::{Dict, Message, Options, Tree};
 use session::{Fault, Said, read_said};
 use std::alloc::{AllocError, Global};

@@ -2,7 +2,7 @@
 use crate::json::message_json;
 use crate::messages::client_message;
 use case_text::line_of;
-use client::{ClientMessage, Fault, said_message};
+use client_messages::{ClientMessage, Fault, said_message};
 use message_tree::{Dict, Message, Options, Text, Tree};
 use std::alloc::{AllocError, Global};
 use std::io;

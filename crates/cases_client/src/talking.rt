@@ -3,7 +3,7 @@ use crate::hearing::in_words;
 use crate::messages::client_message;
 use case_text::{is_refused, octets_of, spelled};
 use client_session::{ClientMessage, Fault, Link, Serializer};
-use rawsocket::devices::testing::{FailsAt, OneByOne};
+use case_devices::{FailsAt, OneByOne};
 use rawsocket::devices::{MemorySource, Sink, Source, WriteSink};
 use rawsocket::{Kind, write_frame};
 use std::alloc::Global;

@@ -1,6 +1,6 @@
 //! Wishes, as the options that ask for them.
 use crate::json::tree_json;
-use client::{PublishWishes, SubscribeWishes};
+use client_messages::{PublishWishes, SubscribeWishes};
 use message_tree::{Options, Text, Tree};
 use std::alloc::Global;
 use std::io;

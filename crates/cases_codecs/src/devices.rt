@@ -10,7 +10,7 @@
 //! `never` is a call that isn't made.
 use case_text::{number_of, part, spell};
 use rawsocket::Fault;
-use rawsocket::devices::testing::{FailsAt, OneByOne};
+use case_devices::{FailsAt, OneByOne};
 use rawsocket::devices::{
     MemorySink, MemorySource, ReadSource, Sink, Source, Turns, read_turn, write_all,
 };

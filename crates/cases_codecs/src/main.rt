@@ -1,5 +1,6 @@
-//! Cases of trees (`message_tree`), of their serializations (`json_codec`, `msgpack_codec`) and of frames (`rawsocket`), as lines of
-//! standard input; what each is answered by is printed. In a text or in octets `\7f` is an octet.
+//! Cases of trees (`message_tree`), of their serializations (`json_codec`, `msgpack_codec`) and of frames
+//! (`rawsocket`), as lines of standard input; what each is answered by is printed. In a text or in octets `\7f` is an
+//! octet.
 //!
 //! - `# TEXT` begins a case, and is printed as it stands.
 //! - Messages:

@@ -1,7 +1,7 @@
 //! Writers that hold back, have no room, or fail to flush.
 use crate::devices::ALL;
 use case_text::{crossing, line_of, may_be_sent, spelled};
-use rawsocket::devices::testing::FailsAt;
+use case_devices::FailsAt;
 use rawsocket::devices::{MemorySink, MemorySource, ReadSource, Sink, Turns, WriteSink, write_all};
 use rawsocket::{Deframer, Fault};
 use std::alloc::Global;

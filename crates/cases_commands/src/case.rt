@@ -8,7 +8,7 @@ use client_commands::{
     SubscribeWishes, publish, subscribe, value_of,
 };
 use message_tree::{Content, Text, Tree};
-use rawsocket::devices::testing::{FailsAt, OneByOne};
+use case_devices::{FailsAt, OneByOne};
 use rawsocket::devices::{MemorySource, Sink, Source, WriteSink};
 use rawsocket::{Kind, write_frame};
 use std::alloc::Global;

@@ -1,7 +1,7 @@
 -- The next item that is owed.
 use Rattle.std.proofs.Common.{◌≡◌, ℕ, List, [], ◌∷◌, ◌++◌, length, Some, refl, sym, ap, ◌∙◌, append_assoc, append-nil}
 use Rattle.std.specs.Prelude.{slice_get}
-use Rattle.session.specs.declared.messages.item.Item.{Item}
+use Rattle.wamp_messages.specs.declared.item.Item.{Item}
 use Rattle.cases_connection.specs.Listing.{owed, Owes}
 use Rattle.cases_connection.specs.declared.owed.Listed.{Listed}
 use Rattle.cases_connection.specs.declared.owed.ListHistory.{ListHistory}

@@ -2,7 +2,7 @@
 use Rattle.std.specs.Prelude.{◌≡◌, ℕ, List, [], ◌++◌, Option, None, Some}
 use Rattle.std.proofs.Common.{append-nil, subst}
 use mathlib.Core.List.{IsPrefix}
-use Rattle.session.specs.declared.messages.item.Item.{Item}
+use Rattle.wamp_messages.specs.declared.item.Item.{Item}
 use Rattle.cases_connection.specs.declared.owed.Listed.{Listed}
 use Rattle.cases_connection.specs.declared.owed.ListHistory.{ListHistory}
 

@@ -5,12 +5,10 @@ use crate::reader::Stream;
 use crate::sessions::{Sessions, threads};
 use crate::writer::Debt;
 use case_text::{line_of, number_of, octets_of};
-use connection::Seats;
 use std::alloc::{AllocError, Global};
 use std::io;
 use std::sync::Wait;
 use std::thread::Threads;
-use wamp_ids::Conn;
 
 /// What the lines of a case have said so far.
 #[derive(Drop)]
@@ -20,7 +18,6 @@ pub struct Case {
     debt: Debt,
     stream: Stream,
     sessions: Sessions,
-    seats: Seats,
 }
 
 impl Case {
@@ -31,7 +28,6 @@ impl Case {
             debt: Debt::new(alloc),
             stream: Stream::new(alloc),
             sessions: Sessions::none(alloc)?,
-            seats: Seats::new(),
         })
     }
 
@@ -67,7 +63,6 @@ impl Case {
             "enter" => self.enter(text)?,
             "room" => self.stream.room = number_of(text) as usize,
             "fails" => self.devices.failing = number_of(text),
-            "back" => self.give_back(text),
             "event" | "letters" | "published" | "pong" => self.owe(alloc, line)?,
             _ => return line_of(alloc, "no case has this word"),
         }
@@ -92,27 +87,18 @@ impl Case {
         }
     }
 
-    fn give_back(&mut self, text: &str) {
-        if let Some(conn) = Conn::new(number_of(text)) {
-            self.seats.give_back(conn);
-        }
-    }
-
     // Does what a word alone asks for.
     fn run<R: Wait + Copy>(&mut self, rt: &R, alloc: Global, word: &str) -> io::Result<String> {
         match word {
             "slowly" => self.devices.manner = Manner::Slow,
             "held" => self.devices.manner = Manner::Held,
             "fed" => self.devices.manner = Manner::Fed,
-            "seats" => self.seats = Seats::new(),
             "goodbye" => self.owe(alloc, word)?,
             "leave" => self.sessions.leave(),
             "shared" => return self.sessions.shared(alloc),
             "others" => return self.sessions.others(alloc),
             "crossing" => return threads(alloc),
             "forward" => self.forward(rt, alloc)?,
-            "take" => return self.seat(alloc),
-            "fill" => return self.fill(alloc),
             "write" => return self.debt.write(rt, alloc, self.client, self.devices),
             "writes" => {
                 return self
@@ -152,30 +138,5 @@ impl Case {
             self.debt.forward(alloc, args)?;
         }
         Ok(())
-    }
-
-    // Takes a seat, and gives its number.
-    fn seat(&mut self, alloc: Global) -> io::Result<String> {
-        match self.seats.take() {
-            Ok(conn) => {
-                let number = conn.value();
-                Ok(format!(in alloc; "{number}\n")?)
-            }
-            Err(fault) => Ok(format!(in alloc; "{fault}\n")?),
-        }
-    }
-
-    // Takes all seats that are free, and gives their count and the last number.
-    fn fill(&mut self, alloc: Global) -> io::Result<String> {
-        let mut count: u64 = 0;
-        let mut last: u64 = 0;
-        for _ in 0..1000 {
-            let Ok(conn) = self.seats.take() else {
-                break;
-            };
-            count = count.wrapping_add(1);
-            last = conn.value();
-        }
-        Ok(format!(in alloc; "{count} taken, the last {last}\n")?)
     }
 }

@@ -2,22 +2,25 @@
 //!
 //! - `# TEXT` begins a case, and is printed as it stands. Its client speaks JSON and takes 512 octets in one payload.
 //! - `client SERIALIZER LIMIT`: another client, of `json` or `msgpack`.
-//! - `seats`: a new table; `take` takes a seat, `back CONN` gives one back, and `fill` takes all that are free.
-//! - What a connection is owed: `event SUBSCRIPTION PUBLICATION ARGUMENTS`, the arguments in JSON; `letters SUBSCRIPTION PUBLICATION N
-//!   LETTER`, an EVENT with one text of so many letters; `published REQUEST PUBLICATION`, `pong TEXT`, `goodbye`.
+//! - What a connection is owed: `event SUBSCRIPTION PUBLICATION ARGUMENTS`, the arguments in JSON;
+//!   `letters SUBSCRIPTION PUBLICATION N LETTER`, an EVENT with one text of so many letters;
+//!   `published REQUEST PUBLICATION`, `pong TEXT`, `goodbye`.
 //! - `write` writes all that, and tells what the device got and how it ended.
-//! - `early TEXT`: octets that the opening of the session read behind HELLO; `octets TEXT`: those that come after. `\7f` is an octet.
+//! - `early TEXT`: octets that the opening of the session read behind HELLO; `octets TEXT`: those that come after.
+//!   `\7f` is an octet.
 //! - `publish N`, `subscribe N`: octets that come after, of a request whose topic or pattern has so many letters.
 //! - `room N`: how many acts are received before they come back.
-//! - `enter SERIALIZER`: a session of the realm is live that uses it; `leave`: the last that entered ends. `shared` tells what two of
-//!   them use, or more. `crossing`: what may go to other threads.
+//! - `enter SERIALIZER`: a session of the realm is live that uses it; `leave`: the last that entered ends. `shared`
+//!   tells what two of them use, or more. `crossing`: what may go to other threads.
 //! - `forward` reads the octets, and what they publish is owed, as EVENTs of subscription 1 and publication 3.
 //! - `read` reads the octets, and tells what was posted and how it ended.
 //! - `weigh` reads the octets, and tells for how many octets the heaviest post counts while it waits.
-//! - `pongs COUNT OCTETS FIRST WRITTEN SECOND`: a thread posts so many PINGs of so many octets. Once so many of them are posted, so many PONGs are
-//!   written; and once so many PINGs are posted, their writer ends. What is told is how many were posted each time.
-//! - `slowly`: devices give and take one octet at a time. `held`: the device written to holds octets back until it is told to pass them
-//!   on, and only those passed on are told. `fed`: the same, and each item is owed only once all before it was passed on.
+//! - `pongs COUNT OCTETS FIRST WRITTEN SECOND`: a thread posts so many PINGs of so many octets. Once so many of them
+//!   are posted, so many PONGs are written; and once so many PINGs are posted, their writer ends. What is told is how
+//!   many were posted each time.
+//! - `slowly`: devices give and take one octet at a time. `held`: the device written to holds octets back until it is
+//!   told to pass them on, and only those passed on are told. `fed`: the same, and each item is owed only once all
+//!   before it was passed on.
 //! - `fails N`: the call of this number fails, from 0.
 //! - `reads`, `writes`: the same for each call that fails, the first one first, until none does.
 #![tactic(auto)]

@@ -3,7 +3,7 @@ use crate::acts::{Log, Nowhere};
 use crate::client::{Client, Devices, Manner};
 use connection::{EncodingPoster, InUse, ReadEnd, read_posts};
 use rawsocket::Deframer;
-use rawsocket::devices::testing::{FailsAt, OneByOne};
+use case_devices::{FailsAt, OneByOne};
 use rawsocket::devices::{MemorySource, Source};
 use session::{CarriedArgs, Opened};
 use std::alloc::{AllocError, Global};

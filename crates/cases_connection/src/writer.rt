@@ -7,7 +7,7 @@ use case_text::{line_of, spelled};
 use connection::{WriteEnd, write_items};
 use message_tree::Shared;
 use outbox_queue::Drain;
-use rawsocket::devices::testing::{FailsAt, OneByOne};
+use case_devices::{FailsAt, OneByOne};
 use rawsocket::devices::{Sink, WriteSink};
 use session::{CarriedArgs, Item, Publication};
 use std::alloc::{AllocError, Global};

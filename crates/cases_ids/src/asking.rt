@@ -4,10 +4,10 @@ use case_text::{line_of, octets_of};
 use eligibility::{Lists, Who};
 use message_tree::{Dict, Tree};
 use msgpack_cursor::{Dictionary, Seen, message};
-use request_options::{PublishOptions, SubscribeOptions};
 use std::alloc::{AllocError, Global};
 use std::io;
 use wamp_ids::Policy;
+use wamp_messages::{PublishOptions, SubscribeOptions};
 
 /// What `REQUEST OPTIONS` asks for, or `none` of either request.
 pub fn options(

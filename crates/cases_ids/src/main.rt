@@ -1,6 +1,6 @@
 //! Cases of ids, topics and patterns (`wamp_ids`), of who is eligible (`eligibility`), and of what options ask for
-//! (`request_options`), as lines of standard input; what each is answered by is printed. In a text `\7f` is an octet, and `-` alone is
-//! the empty text.
+//! (`wamp_messages`), as lines of standard input; what each is answered by is printed. In a text `\7f` is an octet, and
+//! `-` alone is the empty text.
 //!
 //! - `# TEXT` begins a case, and is printed as it stands.
 //! - `id N`, `conn N`: the id, or the connection and its seat.
@@ -15,14 +15,15 @@
 //!   here on.
 //! - `admits JSON`: whether the lists of these options admit the receiver.
 //! - `takes JSON`: the same of lists that are taken out of these options.
-//! - `stands OCTETS`: the same, by a twin, of lists that are read where these options stand in MessagePack; in octets `\7f` is an
-//!   octet; or that one has a wrong type.
+//! - `stands OCTETS`: the same, by a twin, of lists that are read where these options stand in MessagePack; in octets
+//!   `\7f` is an octet; or that one has a wrong type.
 //! - `beyond KEY`: the same for lists under this key, each with a number beyond 64 bits.
 //! - `everyone`: the same for no lists.
 //! - `threads`: that lists and who they name may be shared between threads.
 //! - `faults`: each fault.
-//! - `options publish OCTETS`, `options subscribe OCTETS`, `options publish-json JSON`, `options subscribe-json JSON`: what the options
-//!   of such a request ask for, and whether they admit the receiver; `options none`: what both requests ask for without options.
+//! - `options publish OCTETS`, `options subscribe OCTETS`, `options publish-json JSON`, `options subscribe-json JSON`:
+//!   what the options of such a request ask for, and whether they admit the receiver; `options none`: what both
+//!   requests ask for without options.
 #![tactic(auto)]
 
 mod admitting;

@@ -1,5 +1,5 @@
-//! Cases of subscriptions (`subscription_index`) and of retained publications (`retained`), as lines of standard input; what each is
-//! answered by is printed. In a text `\7f` is an octet, and `-` alone is the empty text.
+//! Cases of subscriptions (`subscription_index`) and of retained publications (`retained`), as lines of standard input;
+//! what each is answered by is printed. In a text `\7f` is an octet, and `-` alone is the empty text.
 //!
 //! - `# TEXT` begins a case, with nothing held and nothing kept, and is printed as it stands.
 //! - Subscriptions:

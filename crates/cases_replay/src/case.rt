@@ -1,8 +1,8 @@
 //! A case: the input of a replay, the devices that it is read from and written to, and the run.
 use crate::commands::{command, explained, failure, reports};
 use crate::script::Script;
-use broker_commands::Fault;
 use case_text::{Table, line_of};
+use command_line::Fault;
 use std::alloc::Global;
 use std::io;
 

@@ -1,7 +1,7 @@
 //! Words of a command line, and faults as they are reported.
 use crate::clients::{publish_line, subscribe_line};
-use broker_commands::{Command, Fault, explain, read_command, report, report_failure, shown_line};
 use broker_config::{Config, Ids};
+use command_line::{Command, Fault, explain, read_command, report, report_failure, shown_line};
 use rawsocket::devices::MemorySink;
 use std::alloc::{AllocError, Global};
 use std::io;

@@ -1,4 +1,4 @@
-//! Cases of `broker_commands`: of `replay`, of the command line and of grants, as lines of standard input; what each gives is printed.
+//! Cases of `replay`, of the command line and of grants, as lines of standard input; what each gives is printed.
 //!
 //! - `# TEXT` begins a case, and is printed as it stands.
 //! - `grants TEXT`: the grants, as the command line has them.
@@ -6,8 +6,8 @@
 //! - `read N fails`, `write N fails`: the call with this number, from 0; a flush is a write.
 //! - `> LINE` is a line of the input, `>> LINE` a line that has no end.
 //! - `run` replays the input, and prints the output and the fault.
-//! - `reads`, `writes`: replays it so for each read, or each write and flush, that fails, the first one first, until none does, and says
-//!   how many octets were written and the fault: a line for those that come to the same.
+//! - `reads`, `writes`: replays it so for each read, or each write and flush, that fails, the first one first, until
+//!   none does, and says how many octets were written and the fault: a line for those that come to the same.
 //! - `command WORDS`: what is read of these words of a command line.
 //! - `explain WORDS`: what is written of these words, which are refused, and the exit status.
 //! - `reason TEXT`: what is written of a fault with this reason, and the exit status.

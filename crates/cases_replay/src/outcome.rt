@@ -1,5 +1,5 @@
 //! What a replay comes to.
-use broker_commands::Fault;
+use command_line::Fault;
 use std::alloc::Global;
 use std::io;
 

@@ -1,9 +1,10 @@
 //! A replay over devices that may fail.
 use crate::outcome::Outcome;
-use broker_commands::{Fault, read_grants, replay};
 use broker_config::{Config, Ids};
-use rawsocket::devices::testing::{FailsAt, OneByOne};
+use case_devices::{FailsAt, OneByOne};
+use command_line::{Fault, read_grants};
 use rawsocket::devices::{MemorySource, Sink, Source, WriteSink};
+use replay::replay;
 use std::alloc::Global;
 use std::io;
 use wamp_ids::Topic;
@@ -111,7 +112,10 @@ impl Script {
         if config.realms.is_empty() {
             return Ok(None);
         }
-        Ok(replay(alloc, source, sink, &config).err())
+        match replay(alloc, source, sink, &config) {
+            Ok(()) => Ok(None),
+            Err(fault) => Ok(Some(Fault::from(fault))),
+        }
     }
 
     fn config(&self, alloc: Global) -> io::Result<Result<Config, Fault>> {

@@ -1,15 +1,16 @@
 //! Cases of `session` and of `arguments`, as lines of standard input; what each is answered by is printed.
 //!
 //! - `# TEXT` begins a case, and is printed as it stands.
-//! - `say JSON`: what a client's message says, of options what they ask for, as `asking.rt` puts it; `text OCTETS` and `payload OCTETS`: the same
-//!   of one in JSON that may be anything, and of one in MessagePack; or `differs` where the tree that the text or the octets decode to says something else.
+//! - `say JSON`: what a client's message says, of options what they ask for, as `asking.rt` puts it; `text OCTETS` and
+//!   `payload OCTETS`: the same of one in JSON that may be anything, and of one in MessagePack; or `differs` where the
+//!   tree that the text or the octets decode to says something else.
 //! - `event MARKS JSON`: the EVENT that a PUBLISH in JSON gives subscription 1; the
 //!   marks are letters of `dtr`: disclosed, with its topic, retained.
 //! - `carried JSON`: whether the arguments of a PUBLISH are carried, and whether they are taken so.
-//! - `args OCTETS`: the elements of a list in MessagePack as Arguments, or as Arguments and ArgumentsKw: how many they are, whether
-//!   they are carried, and each in JSON; then what is kept of them for the end of a message, in MessagePack and in JSON (`-` where
-//!   nothing is), as they were read, of a copy, and once both were asked for; behind the last two what is put behind the octets
-//!   `ab`, or `uncarried`.
+//! - `args OCTETS`: the elements of a list in MessagePack as Arguments, or as Arguments and ArgumentsKw: how many they
+//!   are, whether they are carried, and each in JSON; then what is kept of them for the end of a message, in
+//!   MessagePack and in JSON (`-` where nothing is), as they were read, of a copy, and once both were asked for; behind
+//!   the last two what is put behind the octets `ab`, or `uncarried`.
 //! - `trees JSON`: the same of the arguments of a PUBLISH in JSON.
 //! - `arguments`: none, and a list alone.
 //! - `threads`: that what is said and published may be shared between threads.
@@ -22,8 +23,9 @@
 //!   - `first N`: only so many of the octets;
 //!   - `slowly`, `read N fails`, `write N fails`, as devices do;
 //!   - `then TEXT`: octets for the frames of an opened session.
-//! - `reads`, `writes`: opens a session so for each read, or each write and flush, that fails, the first one first, until none does, and
-//!   says how many octets were written and what came of it: a line for those that come to the same.
+//! - `reads`, `writes`: opens a session so for each read, or each write and flush, that fails, the first one first,
+//!   until none does, and says how many octets were written and what came of it: a line for those that come to the
+//!   same.
 #![tactic(auto)]
 
 mod asking;

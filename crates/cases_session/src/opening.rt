@@ -1,6 +1,6 @@
 //! The opening of a session over devices.
 use case_text::{is_refused, spelled};
-use rawsocket::devices::testing::{FailsAt, OneByOne};
+use case_devices::{FailsAt, OneByOne};
 use rawsocket::devices::{MemorySource, Sink, Source, WriteSink};
 use rawsocket::{Deframer, Frame, Kind, Serializer};
 use session::{Fault, Opened, open_session};

@@ -5,7 +5,7 @@ use mathlib.Core.Option.{some, some-injective, some-ne-none}
 use lib.ListN.{get_elem?}
 use Rattle.crossbeam_queue.specs.Fifo.{Forks, Merges, Learns}
 use Rattle.crossbeam_queue.proofs.Lists.{at_set}
-use Rattle.chronicle.specs.declared.rule.View.{View}
+use Rattle.chronicle.specs.declared.rule.ChronicleView.{ChronicleView}
 use Rattle.chronicle.specs.Recorded.{Reaches}
 use Rattle.chronicle.specs.body.TokenRule.{owner, token, unwritten, with_checked, nobody, Fits, BeginOwner}
 
@@ -45,12 +45,12 @@ module _ {H : Type 0} (begins : H → H → Type 0) (itself : (h : H) → begins
   reaches_on (Some h) (Some k) (Some l) p q = on h k l p q
 
   -- who owns nothing fits every owner, where what it is of and has checked begins the history
-  fits_unowned : (owner place : ℕ) (history : Option H) (v : View H) → v.owns ≢ true → Reaches begins v.history history → Reaches begins v.checked history → Fits begins owner history place v
+  fits_unowned : (owner place : ℕ) (history : Option H) (v : ChronicleView H) → v.owns ≢ true → Reaches begins v.history history → Reaches begins v.checked history → Fits begins owner history place v
   fits_unowned owner place history v not before checked = record { owns = λ is. absurd (not is); history = before; checked = checked }
 
   pub begun : BeginOwner {H = H} begins (unwritten ∷ [])
   begun =
-      let F : ℕ → View H → Type 0 = Fits begins 0 None in
+      let F : ℕ → ChronicleView H → Type 0 = Fits begins 0 None in
       let none : Each F [] = λ j u at. absurd (some-ne-none u (sym at)) in
       record {
         owner = 0;
@@ -58,15 +58,15 @@ module _ {H : Type 0} (begins : H → H → Type 0) (itself : (h : H) → begins
         each_view = each_with F [] unwritten none (record { owns = λ _. (refl, refl); history = tt; checked = tt });
       }
 
-  abbrev Rule : List (Unit {0}) → List (View H) → Type 0
+  abbrev Rule : List (Unit {0}) → List (ChronicleView H) → Type 0
   Rule items views = BeginOwner begins views
 
-  pub records : (place : ℕ) (v : View H) (next : Option H) → v.owns ≡ true → Reaches begins v.history next → Forks Rule place v (owner next v.checked) (token next)
+  pub records : (place : ℕ) (v : ChronicleView H) (next : Option H) → v.owns ≡ true → Reaches begins v.history next → Forks Rule place v (owner next v.checked) (token next)
   records place v next may longer items views rule at =
       let mine = rule.each_view place v at in let is = mine.owns may in
       let on_ : Reaches begins rule.newest next = subst (λ h. Reaches begins h next) is.1 longer in
-      let F : ℕ → View H → Type 0 = Fits begins place next in
-      let own : View H = owner next v.checked in let vs = set views place own in
+      let F : ℕ → ChronicleView H → Type 0 = Fits begins place next in
+      let own : ChronicleView H = owner next v.checked in let vs = set views place own in
       let each : Each F vs = each_set F views place own
       (record { owns = λ _. (refl, refl); history = reaches_itself next; checked = reaches_on v.checked rule.newest next mine.checked on_ })
       (λ j u other stood. let fits = rule.each_view j u stood in
@@ -77,11 +77,11 @@ module _ {H : Type 0} (begins : H → H → Type 0) (itself : (h : H) → begins
         each_view = each_with F vs (token next) each (fits_unowned place (length vs) next (token next) (λ p. true≢false (sym p)) (reaches_itself next) tt);
       }
 
-  pub checks : (place : ℕ) (v : View H) (other : ℕ) (taken : View H) → v.owns ≡ true → Merges Rule place v other taken (with_checked v taken) nobody
+  pub checks : (place : ℕ) (v : ChronicleView H) (other : ℕ) (taken : ChronicleView H) → v.owns ≡ true → Merges Rule place v other taken (with_checked v taken) nobody
   checks place v other taken may items views rule at two at' =
       let mine = rule.each_view place v at in let is = mine.owns may in
-      let F : ℕ → View H → Type 0 = Fits begins place rule.newest in
-      let own : View H = with_checked v taken in let vs = set views place own in
+      let F : ℕ → ChronicleView H → Type 0 = Fits begins place rule.newest in
+      let own : ChronicleView H = with_checked v taken in let vs = set views place own in
       let stood : get_elem? views other ≡ some taken = ⊎_elim (λ (put : (other ≡ place) × (own ≡ taken)). absurd (two put.0)) (λ (old : (other ≢ place) × (get_elem? views other ≡ some taken)). old.1) (at_set views place other own taken at') in
       let each : Each F vs = each_set F views place own
       (record { owns = λ _. (refl, is.1); history = mine.history; checked = (rule.each_view other taken stood).history })
@@ -92,5 +92,5 @@ module _ {H : Type 0} (begins : H → H → Type 0) (itself : (h : H) → begins
         each_view = each_set F vs other nobody (fits_unowned place other rule.newest nobody (λ p. true≢false (sym p)) tt tt) (λ j u apart was. each j u was);
       }
 
-  pub shows : (place : ℕ) (v : View H) → v.owns ≡ true → Learns Rule place v (λ items. Reaches begins v.checked v.history)
+  pub shows : (place : ℕ) (v : ChronicleView H) → v.owns ≡ true → Learns Rule place v (λ items. Reaches begins v.checked v.history)
   shows place v may items views rule at = let mine = rule.each_view place v at in subst (λ h. Reaches begins v.checked h) (sym (mine.owns may).1) mine.checked

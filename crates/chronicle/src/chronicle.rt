@@ -5,22 +5,22 @@ ghost use Rattle.chronicle.specs.Recorded.{Reaches};
 ghost use Rattle.chronicle.specs.body.TokenRule.{owner, token};
 
 use crate::history::History;
-use crate::rule::{BeginsOwner, Checks, Naming, Records, Shows, View};
+use crate::rule::{BeginsOwner, Checks, ChronicleView, Naming, Records, Shows};
 use crossbeam_queue::{Pass, RuledArrayQueue};
 use std::alloc::{AllocError, Global};
 use std::marker::{Brand, Model};
 
 // Nothing is ever pushed to it: it is there for its rule.
-type Queue<H> = RuledArrayQueue<(), View<H>, BeginsOwner>;
+type Queue<H> = RuledArrayQueue<(), ChronicleView<H>, BeginsOwner>;
 
 // What the chronicle, or one token, knows. It takes no bytes.
-type Place<H> = Pass<(), View<H>>;
+type Knowledge<H> = Pass<(), ChronicleView<H>>;
 
 /// A history that its owner makes longer. Contracts see which chronicle it is, and the history, if one was recorded.
 #[derive(Drop)]
 pub struct Chronicle<H: History> {
     queue: Queue<H>,
-    place: Place<H>,
+    place: Knowledge<H>,
 }
 
 impl<H: History> Model for Chronicle<H> {
@@ -39,11 +39,11 @@ impl<H: History> Model for Chronicle<H> {
 
 /// That a chronicle had this history. It takes no bytes. Contracts see which chronicle, and the history.
 #[derive(Drop)]
-pub struct Token<H> {
-    place: Place<H>,
+pub struct HistoryToken<H> {
+    place: Knowledge<H>,
 }
 
-impl<H> Model for Token<H> {
+impl<H> Model for HistoryToken<H> {
     ghost use Rattle.std.specs.Prelude.{◌≡◌, []};
     ghost use Rattle.crossbeam_queue.specs.Passes.{view as shown};
     ghost use Rattle.chronicle.specs.Recorded.{Recorded};
@@ -69,30 +69,34 @@ impl<H: History> Chronicle<H> {
     }
 
     /// Records the history, which the one before has to begin, and gives a token of it.
-    pub fn record(&mut self, history: &H) -> Token<H>
+    pub fn record(&mut self, history: &H) -> HistoryToken<H>
         requires { Reaches H.begins self.old.history (Some history.now) }
         ensures chronicle { self.new ≡ record self.old { history = Some history.now } }
         ensures token { result ≡ self.new }
     {
-        Token {
+        HistoryToken {
             place: cut::<H, Brand>(&self.queue, &mut self.place, history),
         }
     }
 
     /// Takes in a token of this chronicle, and shows that its history begins the chronicle's.
-    pub fn check(&mut self, token: Token<H>)
+    pub fn check(&mut self, token: HistoryToken<H>)
         requires { token.chronicle ≡ self.old.chronicle }
         ensures same { self.new ≡ self.old }
         ensures begins { Reaches H.begins token.history self.new.history }
     {
-        let Token { place } = token;
+        let HistoryToken { place } = token;
         self.queue.absorb::<Checks>(&mut self.place, place);
         self.queue.learn_as::<Shows>(&mut self.place);
     }
 }
 
 // Cuts a token of the next history, which the caller picks, off the owner's place.
-fn cut<H: History, J: Naming<H>>(queue: &Queue<H>, place: &mut Place<H>, history: &H) -> Place<H>
+fn cut<H: History, J: Naming<H>>(
+    queue: &Queue<H>,
+    place: &mut Knowledge<H>,
+    history: &H,
+) -> Knowledge<H>
     requires queue { IsPassOf queue.now place.old }
     requires owns { (shown place.old).owns ≡ true }
     requires next { J.next ≡ Some history.now }

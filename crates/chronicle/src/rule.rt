@@ -5,7 +5,7 @@ use crossbeam_queue::protocol::{Join, Lesson, Protocol, Split};
 use std::marker::{Brand, PhantomData};
 
 /// Whether it is the owner's, its history, and that of the token which it took in last. No value of it is made.
-pub struct View<H> {
+pub struct ChronicleView<H> {
     pub owns: bool,
     pub history: Option<H>,
     pub checked: Option<H>,
@@ -14,7 +14,7 @@ pub struct View<H> {
 /// The rule: what each is of, and has checked, begins what the owner has.
 pub struct BeginsOwner;
 
-impl<H: History> Protocol<(), View<H>> for BeginsOwner {
+impl<H: History> Protocol<(), ChronicleView<H>> for BeginsOwner {
     ghost use Rattle.chronicle.specs.body.TokenRule.{BeginOwner, unwritten};
 
     ghost holds = { λ items views. BeginOwner H.begins views };
@@ -40,7 +40,7 @@ pub struct Records<J> {
     of: PhantomData<J>,
 }
 
-impl<H, J: Naming<H>> Split<View<H>> for Records<J> {
+impl<H, J: Naming<H>> Split<ChronicleView<H>> for Records<J> {
     ghost use Rattle.chronicle.specs.body.TokenRule.{owner, token};
 
     ghost left = { λ v. owner J.next v.checked };
@@ -51,7 +51,7 @@ impl<H, J: Naming<H>> Split<View<H>> for Records<J> {
 /// The owner takes a token in.
 pub struct Checks;
 
-impl<H> Join<View<H>> for Checks {
+impl<H> Join<ChronicleView<H>> for Checks {
     ghost use Rattle.chronicle.specs.body.TokenRule.{with_checked, nobody};
 
     ghost both = { with_checked };
@@ -62,7 +62,7 @@ impl<H> Join<View<H>> for Checks {
 /// What the owner took in last begins what it has.
 pub struct Shows;
 
-impl<H: History> Lesson<(), View<H>> for Shows {
+impl<H: History> Lesson<(), ChronicleView<H>> for Shows {
     ghost use Rattle.chronicle.specs.Recorded.{Reaches};
 
     ghost fact = { λ v items. Reaches H.begins v.checked v.history };

@@ -4,10 +4,10 @@ use Rattle.std.specs.Prelude.{◌⊎◌, length}
 use Rattle.std.specs.declared.option.Option.{Option}
 use Rattle.rawsocket.specs.declared.handshake.Serializer.{Serializer}
 use Rattle.session.specs.Opened.{Exchange, exchange}
-use Rattle.client.specs.declared.client_message.ClientMessage.TheVariants.{Hello}
-use Rattle.client.specs.declared.wishes.SubscribeWishes.{SubscribeWishes}
-use Rattle.client.specs.declared.heard.Heard.{Heard}
-use Rattle.client.specs.declared.heard.Heard.TheVariants.{Abort}
+use Rattle.client_messages.specs.declared.client_message.ClientMessage.TheVariants.{Hello}
+use Rattle.client_messages.specs.declared.wishes.SubscribeWishes.{SubscribeWishes}
+use Rattle.client_messages.specs.declared.heard.Heard.{Heard}
+use Rattle.client_messages.specs.declared.heard.Heard.TheVariants.{Abort}
 use Rattle.client_session.specs.Handshake.{Replies}
 use Rattle.client_session.specs.Hearing.{Ear, HearsNext, Line, Terms, ear, heard_at, terms}
 use Rattle.client_session.specs.Saying.{saying}

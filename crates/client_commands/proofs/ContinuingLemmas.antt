@@ -2,7 +2,7 @@
 use Rattle.std.proofs.Common.{◌≡◌, ◌++◌, ◌∙◌, ℕ, List, [], take, Result, Ok, Err, ap, inl, inr, sym, append_assoc, append-nil}
 use Rattle.rawsocket.specs.Devices.{GrowsByBeginning}
 use Rattle.session.specs.Opened.{Exchange, exchange}
-use Rattle.client.specs.declared.heard.Heard.{Heard}
+use Rattle.client_messages.specs.declared.heard.Heard.{Heard}
 use Rattle.client_session.specs.Hearing.{Ear, HearsNext, IsNext, Stand, Terms, answers_to, stand}
 use Rattle.client_session.specs.Sessions.{HearsInSession}
 use Rattle.client_session.specs.declared.fault.Fault.TheVariants.{NoMemory, Refused, NoBroker, FrameTooLong, FrameType, TooDeep, Malformed, NoBrokerMessage, Unsayable, TooLongForBroker, Ended, ReadFault, WriteFault, TooManyReads, TooManyWrites}

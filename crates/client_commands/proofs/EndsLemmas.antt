@@ -5,8 +5,8 @@ use Rattle.std.specs.declared.option.Option.{Option}
 use Rattle.message_tree.specs.Data.{Data}
 use Rattle.rawsocket.specs.declared.handshake.Serializer.{Serializer}
 use Rattle.session.specs.Opened.{Exchange, exchange}
-use Rattle.client.specs.declared.client_message.ClientMessage.TheVariants.{Goodbye as GoodbyeSaid}
-use Rattle.client.specs.declared.wishes.PublishWishes.{PublishWishes}
+use Rattle.client_messages.specs.declared.client_message.ClientMessage.TheVariants.{Goodbye as GoodbyeSaid}
+use Rattle.client_messages.specs.declared.wishes.PublishWishes.{PublishWishes}
 use Rattle.client_session.specs.Hearing.{Ear, Terms}
 use Rattle.client_session.specs.Saying.{saying}
 use Rattle.client_session.specs.Sessions.{Welcomed}

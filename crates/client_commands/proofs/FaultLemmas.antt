@@ -2,9 +2,9 @@
 use Rattle.std.proofs.Common.{◌≡◌, refl, sym, ap, subst, ℕ, Bool, true, List, Result, Ok, Err}
 use Rattle.std.specs.Prelude.{IfErr}
 use Rattle.rawsocket.specs.Steps.{Fine, Meter, Told, WholeSteps, told_by}
-use Rattle.client.specs.declared.client_message.ClientMessage.{ClientMessage}
-use Rattle.client.specs.declared.heard.Heard.{Heard}
-use Rattle.client.specs.declared.heard.Heard.TheVariants as heard
+use Rattle.client_messages.specs.declared.client_message.ClientMessage.{ClientMessage}
+use Rattle.client_messages.specs.declared.heard.Heard.{Heard}
+use Rattle.client_messages.specs.declared.heard.Heard.TheVariants as heard
 use Rattle.client_session.specs.Faults.{read_told, write_told}
 use Rattle.client_session.specs.Hearing.{Terms}
 use Rattle.client_session.specs.Saying.{IsCutShort}

@@ -4,13 +4,13 @@ use Rattle.std.specs.declared.option.Option.{Option}
 use Rattle.rawsocket.specs.Devices.{GrowsByBeginning}
 use Rattle.rawsocket.specs.declared.handshake.Serializer.{Serializer}
 use Rattle.session.specs.Opened.{Exchange, exchange}
-use Rattle.client.specs.declared.wishes.SubscribeWishes.{SubscribeWishes}
-use Rattle.client.specs.declared.heard.Heard.{Heard}
+use Rattle.client_messages.specs.declared.wishes.SubscribeWishes.{SubscribeWishes}
+use Rattle.client_messages.specs.declared.heard.Heard.{Heard}
 use Rattle.client_session.specs.Hearing.{Ear, HearsNext, Terms, ear}
 use Rattle.client_session.specs.Sessions.{Welcomed}
 use Rattle.client_commands.specs.Acts.{Asks, Continues, Joins, Listens, Prints, PrintsAfterAsking, PrintsPartly, asked, events, exchange_of, is_event, line_for, printed, granted, standing, terms_of, writing}
 use Rattle.client_commands.specs.Notes.{Noting}
-use Rattle.client_commands.specs.declared.grants.Granted.{Granted}
+use Rattle.client_commands.specs.declared.subscriptions.Granted.{Granted}
 use Rattle.client_commands.proofs.ContinuingLemmas.{continues-still, prints-later}
 
 -- nothing is heard yet, and this is written

@@ -1,7 +1,7 @@
 -- Notes, one after another.
 use Rattle.std.proofs.Common.{◌≡◌, ◌++◌, ◌∙◌, ℕ, List, [], ◌∷◌, take, drop, sym, ap, arith, append_assoc, append-nil}
 use Rattle.std.proofs.lemmas.List.{take-append-drop}
-use Rattle.client.specs.declared.heard.Heard.{Heard}
+use Rattle.client_messages.specs.declared.heard.Heard.{Heard}
 use Rattle.client_commands.specs.Acts.{note_for, noted}
 use Rattle.client_commands.specs.Notes.{IsNoted, Noting}
 

@@ -5,7 +5,7 @@ use Rattle.std.proofs.lemmas.List.Folds.{list_any-append}
 use Rattle.std.proofs.lemmas.Bool.{or_from}
 use Rattle.std.proofs.lemmas.List.{take_all}
 use Rattle.message_tree.specs.Data.{Data}
-use Rattle.client.specs.declared.wishes.PublishWishes.{PublishWishes}
+use Rattle.client_messages.specs.declared.wishes.PublishWishes.{PublishWishes}
 use Rattle.client_session.specs.Hearing.{Ear, Terms}
 use Rattle.client_commands.specs.Lines.{IsPublishedOf, PublishesInput, PublishesLine, ended, has_line_feed}
 

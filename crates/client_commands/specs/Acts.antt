@@ -5,14 +5,14 @@ use Rattle.std.specs.declared.option.Option.{Option}
 use Rattle.rawsocket.specs.Devices.{GrowsByBeginning}
 use Rattle.rawsocket.specs.declared.handshake.Serializer.{Serializer}
 use Rattle.session.specs.Opened.{Exchange, exchange}
-use Rattle.session.specs.Arguments.{Arguments}
-use Rattle.client.specs.declared.client_message.ClientMessage.{ClientMessage}
-use Rattle.client.specs.declared.client_message.ClientMessage.TheVariants.{Hello, Goodbye as GoodbyeSaid, Subscribe, Publish}
-use Rattle.client.specs.Wishes.{subscribe_options, publish_options}
-use Rattle.client.specs.declared.wishes.SubscribeWishes.{SubscribeWishes}
-use Rattle.client.specs.declared.wishes.PublishWishes.{PublishWishes}
-use Rattle.client.specs.declared.heard.Heard.{Heard}
-use Rattle.client.specs.declared.heard.Heard.TheVariants.{Welcome, Abort, Goodbye, Published, Subscribed, Event}
+use Rattle.wamp_messages.specs.Arguments.{Arguments}
+use Rattle.client_messages.specs.declared.client_message.ClientMessage.{ClientMessage}
+use Rattle.client_messages.specs.declared.client_message.ClientMessage.TheVariants.{Hello, Goodbye as GoodbyeSaid, Subscribe, Publish}
+use Rattle.client_messages.specs.Wishes.{subscribe_options, publish_options}
+use Rattle.client_messages.specs.declared.wishes.SubscribeWishes.{SubscribeWishes}
+use Rattle.client_messages.specs.declared.wishes.PublishWishes.{PublishWishes}
+use Rattle.client_messages.specs.declared.heard.Heard.{Heard}
+use Rattle.client_messages.specs.declared.heard.Heard.TheVariants.{Welcome, Abort, Goodbye, Published, Subscribed, Event}
 use Rattle.client_session.specs.Handshake.{Replies}
 use Rattle.client_session.specs.Hearing.{Ear, HearsNext, Terms, ear, heard_at, terms}
 use Rattle.client_session.specs.Saying.{saying}
@@ -22,7 +22,7 @@ use Rattle.client_commands.specs.Faults.{is_of_message, of_message}
 use Rattle.client_commands.specs.Notes.{IsNoted, Noting, note_of}
 use Rattle.client_commands.specs.declared.fault.Fault.{Fault}
 use Rattle.client_commands.specs.declared.fault.Fault.TheVariants.{Refused, Unexpected}
-use Rattle.client_commands.specs.declared.grants.Granted.{Granted}
+use Rattle.client_commands.specs.declared.subscriptions.Granted.{Granted}
 
 -- the terms of a session
 abbrev pub terms_of : Welcomed → Terms

@@ -3,12 +3,12 @@ use Rattle.std.specs.Prelude.{◌≡◌, ◌≢◌, ◌+◌, ◌<◌, ◌⊎◌,
 use Rattle.std.specs.declared.option.Option.{Option}
 use Rattle.message_tree.specs.Data.{Data}
 use Rattle.rawsocket.specs.declared.handshake.Serializer.{Serializer}
-use Rattle.session.specs.Arguments.{Arguments, FitMessages, is_all_carried}
+use Rattle.wamp_messages.specs.Arguments.{Arguments, FitMessages, is_all_carried}
 use Rattle.session.specs.Opened.{Exchange}
-use Rattle.client.specs.declared.client_message.ClientMessage.TheVariants.{Goodbye as GoodbyeSaid}
-use Rattle.client.specs.declared.heard.Heard.{Heard}
-use Rattle.client.specs.declared.heard.Heard.TheVariants.{Published}
-use Rattle.client.specs.declared.wishes.PublishWishes.{PublishWishes}
+use Rattle.client_messages.specs.declared.client_message.ClientMessage.TheVariants.{Goodbye as GoodbyeSaid}
+use Rattle.client_messages.specs.declared.heard.Heard.{Heard}
+use Rattle.client_messages.specs.declared.heard.Heard.TheVariants.{Published}
+use Rattle.client_messages.specs.declared.wishes.PublishWishes.{PublishWishes}
 use Rattle.client_session.specs.Hearing.{Ear, HearsNext, Terms}
 use Rattle.client_session.specs.Saying.{saying}
 use Rattle.client_session.specs.Sessions.{Welcomed}

@@ -3,9 +3,9 @@ use Rattle.std.specs.Prelude.{ℕ, true, List, [], ◌∷◌, ◌++◌, codes, N
 use Rattle.std.specs.declared.option.Option.{Option}
 use Rattle.message_tree.specs.Data.{Data, flag, text, dict, Entries, no_entries, put}
 use Rattle.json_codec.specs.Encoder.{json_text}
-use Rattle.session.specs.Arguments.{Arguments, is_all_carried}
+use Rattle.wamp_messages.specs.Arguments.{Arguments, is_all_carried}
 use Rattle.session.specs.ToClient.{number}
-use Rattle.client.specs.declared.heard.EventDetails.{EventDetails}
+use Rattle.client_messages.specs.declared.heard.EventDetails.{EventDetails}
 
 -- the entries, with this at k where there is one
 abbrev pub put_some : List ℕ → Option Data → Entries → Entries

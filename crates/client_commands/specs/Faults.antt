@@ -8,8 +8,8 @@ use Rattle.client_session.specs.declared.welcomed.NoSession.{NoSession}
 use Rattle.client_session.specs.declared.welcomed.NoSession.TheVariants as no_session
 use Rattle.client_session.specs.declared.welcomed.Unheard.{Unheard}
 use Rattle.client_session.specs.declared.welcomed.Unheard.TheVariants as unheard
-use Rattle.client.specs.declared.heard.Heard.{Heard}
-use Rattle.client.specs.declared.heard.Heard.TheVariants.{Abort, Goodbye, Error}
+use Rattle.client_messages.specs.declared.heard.Heard.{Heard}
+use Rattle.client_messages.specs.declared.heard.Heard.TheVariants.{Abort, Goodbye, Error}
 use Rattle.client_commands.specs.declared.fault.Fault.{Fault}
 use Rattle.client_commands.specs.declared.fault.Fault.TheVariants.{NoMemory, ReadFault, WriteFault, Usage, BadLine, TooManyTurns, Refused, Connection, Unexpected, ForeignEvent, Closed}
 

@@ -4,9 +4,9 @@ use Rattle.std.specs.declared.option.Option.{Option}
 use Rattle.std.specs.List.{list_any}
 use Rattle.message_tree.specs.Data.{Data, list, item, no_items}
 use Rattle.rawsocket.specs.declared.handshake.Serializer.{Serializer}
-use Rattle.session.specs.Arguments.{Arguments}
+use Rattle.wamp_messages.specs.Arguments.{Arguments}
 use Rattle.session.specs.Opened.{Exchange}
-use Rattle.client.specs.declared.wishes.PublishWishes.{PublishWishes}
+use Rattle.client_messages.specs.declared.wishes.PublishWishes.{PublishWishes}
 use Rattle.client_session.specs.Hearing.{Ear, Terms}
 use Rattle.client_session.specs.Sessions.{Welcomed}
 use Rattle.client_commands.specs.Acts.{IsPublished, Joins, Leaves, standing, terms_of}

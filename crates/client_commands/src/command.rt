@@ -1,5 +1,5 @@
 //! What the commands are told.
-use client::{PublishWishes, SubscribeWishes};
+use client_messages::{PublishWishes, SubscribeWishes};
 use client_session::Serializer;
 use message_tree::{Content, Text};
 

@@ -4,7 +4,7 @@ ghost use Rattle.std.specs.Option.{option_map, option_copied};
 ghost use Rattle.message_tree.specs.Data.{Data, is_carried, entries_carried, text, flag, put, no_entries, dict};
 ghost use Rattle.message_tree.specs.View.{view, dict_view};
 ghost use Rattle.json_codec.specs.Encoder.{json_text};
-ghost use Rattle.session.specs.Arguments.{is_carried_if_any};
+ghost use Rattle.wamp_messages.specs.Arguments.{is_carried_if_any};
 ghost use Rattle.session.specs.ToClient.{number};
 ghost use Rattle.client_commands.specs.EventLine.{put_some, number_if_any, text_if_any, put_arguments, put_publisher, event_entries, event_line};
 

@@ -2,7 +2,7 @@
 ghost use Rattle.std.specs.Prelude.{◌≡◌, IfErr, IfOk, true};
 ghost use Rattle.rawsocket.specs.Steps.{told_by};
 ghost use Rattle.session.specs.Opened.{exchange};
-ghost use Rattle.client.specs.declared.client_message.ClientMessage.TheVariants.{Hello as HelloSaid};
+ghost use Rattle.client_messages.specs.declared.client_message.ClientMessage.TheVariants.{Hello as HelloSaid};
 ghost use Rattle.client_commands.specs.Acts.{IsTurnedAway, Joins};
 ghost use Rattle.client_commands.specs.Faults.{AreFailuresTold, IsOfBroker, IsOfNoContents, TellsEnd, is_of_message, sink_told, source_told};
 

@@ -1,15 +1,14 @@
 //! What `wampd subscribe` and `wampd publish` do, over any device.
 //!
-//! It stands on `client_session` for the session with a broker, on `client` for wishes, and on `json_codec` for the values that are
-//! read and printed. Contracts say what is said to the broker and in which order, which line is printed for which event, and that
-//! each failure of a device is told, with nothing tried again after it; the device that notes go to is the one whose failures are
-//! passed over. Command lines, sockets and threads are for the crates above.
+//! The session with a broker is `client_session`'s. Contracts say what is said to the broker and in which order, which
+//! line is printed for which event, and that each failure of a device is told, with nothing tried again after it; the
+//! device that notes go to is the one whose failures are passed over. Command lines, sockets and threads are for the
+//! crates above.
 #![tactic(auto)]
 
 mod command;
 mod event_lines;
 mod fault;
-mod grants;
 mod hearing;
 mod joining;
 mod leaving;
@@ -18,9 +17,10 @@ mod message_args;
 mod noting;
 mod publishing;
 mod subscribing;
+mod subscriptions;
 mod value;
 
-pub use client::{PublishWishes, SubscribeWishes};
+pub use client_messages::{PublishWishes, SubscribeWishes};
 pub use client_session::{Fault as LinkFault, Serializer};
 pub use command::{Arguments, Contact, PublishCommand, SubscribeCommand};
 pub use event_lines::event_line;

@@ -2,7 +2,7 @@
 ghost use Rattle.std.specs.Prelude.{◌≡◌, ◌≢◌, ◌⊎◌, IfOk, IfErr, Err, None, Some, false, true};
 ghost use Rattle.message_tree.specs.View.{view};
 ghost use Rattle.message_tree.specs.Data.{is_carried, list, item, no_items};
-ghost use Rattle.session.specs.Arguments.{is_args, is_kwargs};
+ghost use Rattle.wamp_messages.specs.Arguments.{is_args, is_kwargs};
 ghost use Rattle.client_commands.specs.Ends.{AreUncarried, IsUnread, arguments_of};
 ghost use Rattle.client_commands.specs.Faults.{IsOfBroker, IsOfHere, is_blamed};
 ghost use Rattle.client_commands.specs.Lines.{IsArgumentsOfLine};

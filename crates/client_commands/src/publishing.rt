@@ -2,7 +2,7 @@
 ghost use Rattle.std.specs.Prelude.{◌≡◌, ◌≢◌, ◌⊎◌, ◌<◌, ◌++◌, ◌+◌, ℕ, List, [], IfOk, IfErr, OnOk, Some, false, length, true};
 ghost use Rattle.rawsocket.specs.Steps.{WholeSteps, failures_told, meter, told_by};
 ghost use Rattle.session.specs.Opened.{exchange};
-ghost use Rattle.client.specs.declared.heard.Heard.TheVariants.{Published as PublishedHeard};
+ghost use Rattle.client_messages.specs.declared.heard.Heard.TheVariants.{Published as PublishedHeard};
 ghost use Rattle.client_session.specs.Hearing.{Ear};
 ghost use Rattle.client_commands.specs.Acts.{Acknowledges, IsPublished, IsTurnedAway, publication, standing, terms_of};
 ghost use Rattle.client_commands.specs.Ends.{EndsAtLine, EndsInAll, EndsInInput, EndsInLines, EndsInWords, EndsPublishing, HearsAnother, IsUnacknowledged};

@@ -3,9 +3,9 @@ ghost use Rattle.std.specs.Prelude.{◌≡◌, ◌++◌, ◌⊎◌, IfOk, IfErr,
 ghost use Rattle.rawsocket.specs.Devices.{GrowsByBeginning};
 ghost use Rattle.rawsocket.specs.Steps.{Fine, Steps, WholeSteps, meter, told_by};
 ghost use Rattle.session.specs.Opened.{exchange};
-ghost use Rattle.client.specs.declared.client_message.ClientMessage.TheVariants.{Subscribe as SubscribeSaid};
-ghost use Rattle.client.specs.Wishes.{subscribe_options};
-ghost use Rattle.client.specs.declared.heard.Heard.TheVariants.{Subscribed as SubscribedHeard};
+ghost use Rattle.client_messages.specs.declared.client_message.ClientMessage.TheVariants.{Subscribe as SubscribeSaid};
+ghost use Rattle.client_messages.specs.Wishes.{subscribe_options};
+ghost use Rattle.client_messages.specs.declared.heard.Heard.TheVariants.{Subscribed as SubscribedHeard};
 ghost use Rattle.client_commands.specs.Acts.{EndsAfterAsking, Follows, IsCaused, IsTurnedAway, Prints, PrintsAfterAsking, Subscribes, asked, granted_with, is_event, line_for, may_come, note_for, standing, terms_of};
 ghost use Rattle.client_commands.specs.Notes.{IsNoted, noting};
 ghost use Rattle.client_commands.specs.Faults.{AreFailuresTold, IsNoEnd, IsOfBroker, IsOfHere, IsOfMessage, IsOfNoMessage, TellsEnd, is_of_message, output_told, sink_told, source_told};
@@ -13,12 +13,12 @@ ghost use Rattle.client_commands.specs.Faults.{AreFailuresTold, IsNoEnd, IsOfBro
 use crate::command::SubscribeCommand;
 use crate::event_lines::event_line;
 use crate::fault::Fault;
-use crate::grants::{Granted, grant, topic_told};
 use crate::hearing::{fault_of, hear, say};
 use crate::joining::join;
 use crate::leaving::{answer_goodbye, leave};
 use crate::noting::{note_of, tell};
-use client::SubscribeWishes;
+use crate::subscriptions::{Granted, grant, topic_told};
+use client_messages::SubscribeWishes;
 use client_session::{ClientMessage, ClientSession, Heard, Link};
 use message_tree::Text;
 use rawsocket::devices::{Sink, Source, Turns, send};

@@ -5,7 +5,7 @@ use Rattle.rawsocket.specs.Frames.{Content, spelled, fault_of, kept, Reads, Begi
 use Rattle.rawsocket.proofs.Lemmas.{pieces_join}
 use Rattle.rawsocket.proofs.Stream.{fault_on, kept_fine}
 use Rattle.rawsocket.specs.declared.fault.Fault as stream
-use Rattle.client.specs.declared.heard.Heard.{Heard}
+use Rattle.client_messages.specs.declared.heard.Heard.{Heard}
 use Rattle.client_session.specs.Hearing.{Terms, Stand, stand, Ear, ear, PassesOver, Hears, IsQuiet, Stops, ReadsMore, ReadStops, IsLost, IsNext, HearsNext}
 use Rattle.client_session.specs.declared.fault.Fault.{Fault}
 use Rattle.client_session.specs.declared.fault.Fault.TheVariants.{NoMemory, Refused, NoBroker, FrameTooLong, FrameType, TooDeep, Malformed, NoBrokerMessage, Unsayable, TooLongForBroker, Ended, ReadFault, WriteFault, TooManyReads, TooManyWrites}

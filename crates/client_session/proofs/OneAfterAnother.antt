@@ -7,7 +7,7 @@ use Rattle.rawsocket.specs.declared.frame.Kind.{Kind}
 use Rattle.rawsocket.specs.declared.frame.Kind.TheVariants as kind
 use Rattle.rawsocket.specs.declared.handshake.Serializer.{Serializer}
 use Rattle.rawsocket.proofs.Lemmas.{pieces_join}
-use Rattle.client.specs.declared.heard.Heard.{Heard}
+use Rattle.client_messages.specs.declared.heard.Heard.{Heard}
 use Rattle.client_session.specs.Hearing.{Terms, Ear, Hears, HearsNext, IsAside, answers_to, message}
 use Rattle.client_session.specs.Laws.{HearsAll, IsAnswerable, SayAll, messages, payload_in}
 use Rattle.client_session.specs.declared.fault.Fault.TheVariants.{NoMemory}

@@ -5,7 +5,7 @@ use Rattle.std.specs.List.{AllByRecursion}
 use Rattle.rawsocket.specs.Devices.{GrowsByBeginning}
 use Rattle.rawsocket.specs.Frames.{Content}
 use Rattle.rawsocket.proofs.Lemmas.{grown_further, whole_grown}
-use Rattle.client.specs.declared.heard.Heard.{Heard}
+use Rattle.client_messages.specs.declared.heard.Heard.{Heard}
 use Rattle.client_session.specs.Hearing.{Terms, Stand, stand, IsAside, IsAnsweredPartly, PassesOver, BeginsAnswers, PassesFirst, StopsFirst, HearsFirst, SaysNothingFirst, IsUnheard, Hears, IsQuiet, IsStuck, Stops, answer_to, answers_to, message, ping}
 use Rattle.client_session.specs.declared.fault.Fault.{Fault}
 use Rattle.client_session.specs.declared.fault.Fault.TheVariants.{NoMemory, Refused, NoBroker, FrameTooLong, FrameType, TooDeep, Malformed, NoBrokerMessage, Unsayable, TooLongForBroker, Ended, ReadFault, WriteFault, TooManyReads, TooManyWrites}

@@ -1,8 +1,8 @@
 -- What a session is told, and what it isn't.
 use Rattle.std.proofs.Common.{◌≡◌, List, ℕ, Result, Ok, Err, inr, refl, sym, subst}
 use Rattle.rawsocket.specs.Steps.{Fine}
-use Rattle.client.specs.declared.client_message.ClientMessage.{ClientMessage}
-use Rattle.client.specs.declared.heard.Heard.{Heard}
+use Rattle.client_messages.specs.declared.client_message.ClientMessage.{ClientMessage}
+use Rattle.client_messages.specs.declared.heard.Heard.{Heard}
 use Rattle.client_session.specs.Faults.{write_told}
 use Rattle.client_session.specs.Hearing.{Ear, HearsNext, Line, Terms, heard_at}
 use Rattle.client_session.specs.Saying.{IsUnsaid}

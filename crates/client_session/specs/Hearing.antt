@@ -12,8 +12,8 @@ use Rattle.rawsocket.specs.declared.handshake.Serializer.{Serializer}
 use Rattle.session.specs.Opened.{ByKind, pong}
 use Rattle.session.specs.Serializer.{Decodes, IsUndecodable}
 use Rattle.session.specs.declared.fault.Fault.TheVariants as session
-use Rattle.client.specs.FromBroker.{heard_of}
-use Rattle.client.specs.declared.heard.Heard.{Heard}
+use Rattle.client_messages.specs.FromBroker.{heard_of}
+use Rattle.client_messages.specs.declared.heard.Heard.{Heard}
 use Rattle.client_session.specs.declared.fault.Fault.{Fault}
 use Rattle.client_session.specs.declared.fault.Fault.TheVariants.{NoMemory, FrameTooLong, FrameType, TooDeep, Malformed, NoBrokerMessage, TooLongForBroker, Ended, ReadFault, WriteFault, TooManyReads, TooManyWrites}
 

@@ -6,7 +6,7 @@ use Rattle.rawsocket.specs.declared.frame.Kind.{Kind}
 use Rattle.rawsocket.specs.declared.frame.Kind.TheVariants as kind
 use Rattle.rawsocket.specs.declared.handshake.Serializer.{Serializer}
 use Rattle.session.specs.Opened.{ByKind}
-use Rattle.client.specs.declared.heard.Heard.{Heard}
+use Rattle.client_messages.specs.declared.heard.Heard.{Heard}
 use Rattle.client_session.specs.Hearing.{Ear, Says, Terms, answers_to}
 
 -- the payload of a message

@@ -6,8 +6,8 @@ use Rattle.rawsocket.specs.Frames.{spelled}
 use Rattle.rawsocket.specs.declared.handshake.Serializer.{Serializer}
 use Rattle.session.specs.Serializer.{serialized}
 use Rattle.session.specs.body.SerializedParts.{has_spelling}
-use Rattle.client.specs.declared.client_message.ClientMessage.{ClientMessage}
-use Rattle.client.specs.ToBroker.{message_for, options_depth}
+use Rattle.client_messages.specs.declared.client_message.ClientMessage.{ClientMessage}
+use Rattle.client_messages.specs.ToBroker.{message_for, options_depth}
 use Rattle.client_session.specs.Hearing.{Terms, message}
 use Rattle.client_session.specs.declared.fault.Fault.{Fault}
 use Rattle.client_session.specs.declared.fault.Fault.TheVariants.{NoMemory, Unsayable, TooLongForBroker, WriteFault, TooManyWrites}

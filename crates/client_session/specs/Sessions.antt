@@ -2,8 +2,8 @@
 use Rattle.std.specs.Prelude.{◌≡◌, ⊤, ◌⊎◌, ℕ, Bool, true, false, List, [], ◌∷◌, ◌++◌, Contains, Result, Ok, Err}
 use Rattle.rawsocket.specs.Frames.{Content}
 use Rattle.rawsocket.specs.Steps.{Told, Fine}
-use Rattle.client.specs.declared.heard.Heard.{Heard}
-use Rattle.client.specs.declared.heard.Heard.TheVariants.{Welcome, Abort, Subscribed, Event}
+use Rattle.client_messages.specs.declared.heard.Heard.{Heard}
+use Rattle.client_messages.specs.declared.heard.Heard.TheVariants.{Welcome, Abort, Subscribed, Event}
 use Rattle.client_session.specs.Faults.{read_told, write_told}
 use Rattle.client_session.specs.Hearing.{Ear, HearsNext, Line, Terms, ear}
 use Rattle.client_session.specs.declared.fault.Fault.{Fault}

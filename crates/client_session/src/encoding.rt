@@ -6,8 +6,8 @@ ghost use Rattle.client_session.specs.Hearing.{terms};
 ghost use Rattle.client_session.specs.Saying.{payload_of, saying, IsUnsaid, IsUnwritten};
 
 use crate::fault::Fault;
-use crate::inbox::Broker;
-use client::{ClientMessage, said_message};
+use crate::inbox::BrokerTerms;
+use client_messages::{ClientMessage, said_message};
 use message_tree::Message;
 use rawsocket::{Kind, Serializer, write_frame};
 use std::alloc::Global;
@@ -40,15 +40,19 @@ fn payload_of(alloc: Global, serializer: Serializer, said: ClientMessage) -> Res
 {
     let message = match said_message(alloc, said) {
         Ok(message) => message,
-        Err(client::Fault::NoMemory) => return Err(Fault::NoMemory),
-        Err(client::Fault::TooDeep) => return Err(Fault::Unsayable),
-        Err(client::Fault::NoBrokerMessage) => unreachable!(),
+        Err(client_messages::Fault::NoMemory) => return Err(Fault::NoMemory),
+        Err(client_messages::Fault::TooDeep) => return Err(Fault::Unsayable),
+        Err(client_messages::Fault::NoBrokerMessage) => unreachable!(),
     };
     encode(alloc, serializer, &message)
 }
 
 /// The frame that says this to a broker.
-pub(crate) fn frame_of(alloc: Global, broker: Broker, said: ClientMessage) -> Result<Vec<u8>, Fault>
+pub(crate) fn frame_of(
+    alloc: Global,
+    broker: BrokerTerms,
+    said: ClientMessage,
+) -> Result<Vec<u8>, Fault>
     requires { broker.limit ≤ 16777215 }
     ensures ok { IfOk result (λ v. v.items ≡ saying broker.serializer said) }
     ensures fits { OnOk result (length (payload_of broker.serializer said) ≤ broker.limit) }

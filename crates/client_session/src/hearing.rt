@@ -6,9 +6,9 @@ ghost use Rattle.client_session.specs.Faults.{write_told};
 ghost use Rattle.client_session.specs.Hearing.{Says, SaysNothing, first_kind, stand, terms, ping, HearsFirst, IsUnheard, IsAnswered, StopsAt, PassesFirst, StopsFirst, Gives};
 
 use crate::fault::Fault;
-use crate::inbox::Broker;
+use crate::inbox::BrokerTerms;
 use crate::sending::send;
-use client::{Heard, read_heard};
+use client_messages::{Heard, read_heard};
 use rawsocket::devices::{Sink, Turns};
 use rawsocket::{Frame, Kind, Serializer, write_frame};
 use session::decode;
@@ -29,9 +29,9 @@ fn read_message(alloc: Global, serializer: Serializer, payload: &[u8]) -> Result
     };
     match read_heard(alloc, message) {
         Ok(heard) => Ok(heard),
-        Err(client::Fault::NoMemory) => Err(Fault::NoMemory),
-        Err(client::Fault::NoBrokerMessage) => Err(Fault::NoBrokerMessage),
-        Err(client::Fault::TooDeep) => unreachable!(),
+        Err(client_messages::Fault::NoMemory) => Err(Fault::NoMemory),
+        Err(client_messages::Fault::NoBrokerMessage) => Err(Fault::NoBrokerMessage),
+        Err(client_messages::Fault::TooDeep) => unreachable!(),
     }
 }
 
@@ -151,7 +151,7 @@ fn pass_first<O: Sink>(
 /// What the next message says among the frames that wait. Those before it are answered.
 pub(crate) fn hear_waiting<O: Sink>(
     alloc: Global,
-    broker: Broker,
+    broker: BrokerTerms,
     waiting: &mut VecDeque<Frame>,
     sink: &mut O,
     turns: &mut Turns,

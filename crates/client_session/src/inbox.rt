@@ -7,7 +7,7 @@ ghost use Rattle.client_session.specs.Hearing.{ReadsMore, ReadStops, IsLost, Hea
 
 use crate::fault::Fault;
 use crate::hearing::hear_waiting;
-use client::Heard;
+use client_messages::Heard;
 use rawsocket::devices::{Sink, Source, Turns, read_piece};
 use rawsocket::{Deframer, Frame, Serializer};
 use std::alloc::Global;
@@ -15,7 +15,7 @@ use std::collections::VecDeque;
 
 /// A broker, by its handshake.
 #[derive(Clone, Copy, Drop)]
-pub(crate) struct Broker {
+pub(crate) struct BrokerTerms {
     /// How messages are serialized.
     pub serializer: Serializer,
     /// How many octets it takes in one payload.
@@ -24,7 +24,7 @@ pub(crate) struct Broker {
 
 /// What came and is not heard yet: whole frames, and the octets behind them.
 #[derive(Drop)]
-pub(crate) struct Inbox {
+pub(crate) struct UnheardFrames {
     pub waiting: VecDeque<Frame>,
     pub deframer: Deframer,
 }
@@ -81,8 +81,8 @@ fn read_more<I: Source>(
 /// What the next message says of the frames that wait and of those that come.
 pub(crate) fn hear_next<I: Source, O: Sink>(
     alloc: Global,
-    broker: Broker,
-    inbox: &mut Inbox,
+    broker: BrokerTerms,
+    inbox: &mut UnheardFrames,
     source: &mut I,
     sink: &mut O,
     buffer: &mut [u8],

@@ -2,7 +2,7 @@
 //! contract.
 ghost use Rattle.std.specs.Prelude.{List, Ok, [], ◌∷◌, ◌++◌};
 ghost use Rattle.rawsocket.specs.Frames.{Reads};
-ghost use Rattle.client.specs.declared.heard.Heard.{Heard as Hearing};
+ghost use Rattle.client_messages.specs.declared.heard.Heard.{Heard as Hearing};
 ghost use Rattle.client_session.specs.Hearing.{Ear, HearsNext, Terms};
 ghost use Rattle.client_session.specs.Laws.{HearsAll};
 

@@ -1,9 +1,35 @@
-//! The session of a client over a stream (WAMP, "RawSocket Transport"): what it writes to a broker, and what it hears from it.
+//! The session of a client over a stream (WAMP, "RawSocket Transport"): what it writes to a broker, and what it hears
+//! from it.
 //!
-//! It stands on `client` and `session` for messages, on `rawsocket` for frames, handshakes and devices, and on both codecs.
-//! Contracts say which octets are written for what is said, and that what is heard is what the octets that were read say,
-//! frame by frame and in their order, whatever pieces they came in. Each failure of a device is told, and nothing is tried
-//! again after it.
+//! A [`Link`] says and hears messages one by one. A [`ClientSession`] is a link whose broker has welcomed it.
+//!
+//! ```
+//! // as in cases_client/src/talking.rt
+//! match Link::connect(alloc, source, sink, self.serializer) {
+//!     Ok(mut link) => match say_all(alloc, &link, sink, &self.sayings)? {
+//!         None => hear_all(alloc, &mut link, source, sink),
+//!         Some(end) => ended(alloc, end),
+//!     },
+//!     Err(fault) => ended(alloc, fault_line(alloc, fault)?),
+//! }
+//! // say_all, for each message:
+//! match link.say(alloc, sink, said) {
+//!     Ok(()) => {}
+//!     Err(fault) => return Ok(Some(fault_line(alloc, fault)?)),
+//! }
+//! // hear_all, up to the fault that ends it:
+//! match link.hear(alloc, source, sink) {
+//!     Ok(heard) => lines.push_str(in_words(alloc, heard)?.as_str())?,
+//!     Err(fault) => {
+//!         let end = fault_line(alloc, fault)?;
+//!         return Ok(Talk { lines, count, end });
+//!     }
+//! }
+//! ```
+//!
+//! Contracts say which octets are written for what is said, and that what is heard is what the octets that were read
+//! say, frame by frame and in their order, whatever pieces they came in. Each failure of a device is told, and nothing
+//! is tried again after it.
 #![tactic(auto)]
 
 mod encoding;
@@ -16,7 +42,7 @@ mod link;
 mod sending;
 mod welcomed;
 
-pub use client::{Args, ClientMessage, EventDetails, Heard, Request};
+pub use client_messages::{Args, ClientMessage, EventDetails, Heard, Request};
 pub use fault::Fault;
 pub use link::Link;
 pub use rawsocket::Serializer;

@@ -10,9 +10,9 @@ ghost use Rattle.client_session.specs.Saying.{payload_of, saying, IsCutShort};
 use crate::encoding::frame_of;
 use crate::fault::Fault;
 use crate::handshake::shake_hands;
-use crate::inbox::{Broker, Inbox, hear_next};
+use crate::inbox::{BrokerTerms, UnheardFrames, hear_next};
 use crate::sending::send;
-use client::{ClientMessage, Heard};
+use client_messages::{ClientMessage, Heard};
 use rawsocket::devices::{PIECE, Sink, Source, Turns};
 use rawsocket::{Deframer, Serializer};
 use std::alloc::Global;
@@ -23,8 +23,8 @@ use std::marker::Model;
 /// from it and is not heard yet. The streams themselves are passed to each call, the same ones each time.
 #[derive(Drop)]
 pub struct Link {
-    broker: Broker,
-    inbox: Inbox,
+    broker: BrokerTerms,
+    inbox: UnheardFrames,
 }
 
 impl Model for Link {
@@ -78,8 +78,8 @@ impl Link {
         let mut writing = Turns::new();
         match shake_hands(alloc, serializer, source, sink, &mut reading, &mut writing) {
             Ok(limit) => Ok(Link {
-                broker: Broker { serializer, limit },
-                inbox: Inbox {
+                broker: BrokerTerms { serializer, limit },
+                inbox: UnheardFrames {
                     waiting: VecDeque::new(alloc),
                     deframer: Deframer::new(alloc),
                 },

@@ -7,7 +7,7 @@ ghost use Rattle.client_session.specs.Sessions.{HearsInSession, IsGreeting, IsJu
 
 use crate::fault::Fault;
 use crate::link::Link;
-use client::Heard;
+use client_messages::Heard;
 use message_tree::Text;
 use rawsocket::devices::{Sink, Source};
 use std::alloc::Global;

@@ -10,7 +10,7 @@ use Rattle.connection.specs.Reader.{PostsAll, PostsSome, IsPosted, batch}
 use Rattle.session.specs.Opened.{ByKind}
 use Rattle.session.specs.Faults.{stream_fault}
 use Rattle.session.specs.declared.fault.Fault.{Fault}
-use Rattle.session.specs.declared.messages.said.Said as session
+use Rattle.wamp_messages.specs.declared.said.Said as session
 use Rattle.realm_inbox.specs.Posted.{Posted, with_acts}
 use Rattle.realm_inbox.proofs.PosterLemmas.{with_both, with_none}
 use Rattle.realm_inbox.specs.declared.act.Act.{Act}

@@ -6,15 +6,15 @@ use Rattle.std.specs.List.{AllByRecursion}
 use Rattle.rawsocket.specs.Devices.{GrowsByBeginning}
 use Rattle.session.specs.declared.fault.Fault.{Fault}
 use Rattle.session.specs.declared.fault.Fault.TheVariants as fault
-use Rattle.session.specs.declared.messages.item.Item.{Item}
+use Rattle.wamp_messages.specs.declared.item.Item.{Item}
 use Rattle.session.specs.ItemFrames.{octets_of, IsTooLong}
 use Rattle.connection.specs.Writer.{IsWritable, frames_of, IsWhole, LacksLast, IsRefused, IsMissing, IsBegun, IsWrittenBy, WritesSince}
 use Rattle.connection.specs.body.Writer.{output, Passes, HandsOver, IsOfDevice, EndsBetween, EndsWith, StopsAt, EndsFrom, BreaksAt}
-use Rattle.connection.specs.declared.writer.Client.{Client}
+use Rattle.connection.specs.declared.writer.ClientTerms.{ClientTerms}
 use Rattle.connection.specs.declared.writer.WriteEnd.{WriteEnd}
 use Rattle.connection.specs.declared.writer.WriteEnd.TheVariants.{Stopped, Dropped, Device, TooLong, NoMemory, TooManyTurns}
 
-module _ (client : Client) where
+module _ (client : ClientTerms) where
   pub none_so_far : (taken : List Item) (written held : List ℕ) → held ≡ [] → WritesSince taken taken written written (Passes client [] held)
   none_so_far taken written held empty =
       record { items = []; octets = []; took = sym (append-nil taken); wrote = sym (append-nil written); written = record { writable = tt; octets_are = empty } }

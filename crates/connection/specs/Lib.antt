@@ -1,5 +1,4 @@
 pub mod Posts
 pub mod Reader
-pub mod Seats
 pub mod Writer
 pub mod body

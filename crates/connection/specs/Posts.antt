@@ -9,8 +9,8 @@ use Rattle.realm_inbox.specs.declared.act.Act.TheVariants.{Said, Ping, Spoilt}
 use Rattle.session.specs.Faults.{stream_fault}
 use Rattle.session.specs.Opened.{ByKind}
 use Rattle.session.specs.declared.fault.Fault.{Fault}
-use Rattle.session.specs.declared.messages.said.Said as session
-use Rattle.session.specs.declared.messages.said.Said.TheVariants.{Abort, Goodbye}
+use Rattle.wamp_messages.specs.declared.said.Said as session
+use Rattle.wamp_messages.specs.declared.said.Said.TheVariants.{Abort, Goodbye}
 -- what a payload says
 pub use Rattle.session.specs.Says.{Says, HasNoShape, SaysNothing}
 

@@ -4,7 +4,7 @@ use mathlib.Core.List.{IsPrefix}
 use Rattle.std.specs.List.{flat_map, AllByRecursion}
 use Rattle.rawsocket.specs.Steps.{Told, Fine, Failed, NoTurn}
 use Rattle.rawsocket.specs.declared.handshake.Serializer.{Serializer}
-use Rattle.session.specs.declared.messages.item.Item.{Item}
+use Rattle.wamp_messages.specs.declared.item.Item.{Item}
 use Rattle.session.specs.ToClient.{message_of}
 use Rattle.outbox_queue.specs.Ends.{Taking}
 use Rattle.outbox_queue.specs.Rule.{Grows}

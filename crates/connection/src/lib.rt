@@ -1,27 +1,26 @@
-//! The two ends of a connection (WAMP, "RawSocket Transport"): what its reader posts of the octets that come, what its writer
-//! writes of the items that are owed, and the seats that connections sit at.
+//! The two ends of a connection (WAMP, "RawSocket Transport"): what its reader posts of the octets that come, what its
+//! writer writes of the items that are owed, and the posters between.
 //!
-//! [`read_posts`] and [`write_items`] run in a thread each, and end where their stream, the other threads or want of memory make them. Each
-//! says by its end what was posted, or written, of all that it read, or took. By an [`EncodingPoster`] a reader posts what is encoded
-//! once for many receivers, and by a [`PongPoster`] it reads on only while its client takes its PONGs.
+//! [`read_posts`] and [`write_items`] run in a thread each, and end where their stream, the other threads or want of
+//! memory make them. Each says by its end what was posted, or written, of all that it read, or took. By an
+//! [`EncodingPoster`] a reader posts what is encoded once for many receivers, by a [`PongPoster`] it reads on only
+//! while its client takes its PONGs, and by a [`FarewellPoster`] it knows whether its client said ABORT, or HELLO once
+//! more.
 //!
-//! It stands on `session`, `rawsocket`, `outbox_queue` and `realm_inbox`. Contracts compare what was posted with what the octets spell,
-//! and what was written with the frames of the items.
+//! Contracts compare what was posted with what the octets spell, and what was written with the frames of the items.
 #![tactic(auto)]
 
 mod encoding_poster;
-mod fault;
+mod farewell_poster;
 mod in_use;
 mod pongs;
 mod reader;
-mod seats;
 mod weight;
 mod writer;
 
 pub use encoding_poster::EncodingPoster;
-pub use fault::Fault;
+pub use farewell_poster::FarewellPoster;
 pub use in_use::{InUse, Using};
 pub use pongs::{AskedPongs, OwedPongs, PongPoster, share_pongs};
 pub use reader::{ReadEnd, read_posts};
-pub use seats::Seats;
 pub use writer::{Watch, WriteEnd, write_items, write_watched};

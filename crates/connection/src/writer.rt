@@ -63,7 +63,7 @@ impl Watch for Unwatched {
 
 /// For whom a writer writes: what the client asked for in its handshake.
 #[derive(Clone, Copy, Drop)]
-struct Client {
+struct ClientTerms {
     serializer: Serializer,
     limit: u32,
 }
@@ -227,7 +227,7 @@ fn give_up<S: Sink>(sink: &mut S, gathered: &mut Gathered, fault: Fault) -> Writ
 /// Makes the frame of an item behind what is gathered. That is handed over once it is long.
 fn add_frame<S: Sink, W: Watch>(
     sink: &mut S,
-    client: Client,
+    client: ClientTerms,
     item: &Item,
     gathered: &mut Gathered,
     watch: &mut W,
@@ -264,7 +264,7 @@ fn write_next<R: Wait, H: Owed<Item>, S: Sink, W: Watch>(
     rt: &R,
     drain: &mut Drain<Item, H>,
     sink: &mut S,
-    client: Client,
+    client: ClientTerms,
     gathered: &mut Gathered,
     watch: &mut W,
     until: Until,
@@ -331,7 +331,7 @@ pub fn write_items<R: Wait, H: Owed<Item>, S: Sink>(
         alloc,
         drain,
         sink,
-        Client { serializer, limit },
+        ClientTerms { serializer, limit },
         &mut Unwatched,
         Until::Closed,
     )
@@ -365,7 +365,7 @@ pub fn write_watched<R: Wait, H: Owed<Item>, S: Sink, W: Watch>(
         alloc,
         drain,
         sink,
-        Client { serializer, limit },
+        ClientTerms { serializer, limit },
         watch,
         Until::Whole,
     )
@@ -377,7 +377,7 @@ fn write_until<R: Wait, H: Owed<Item>, S: Sink, W: Watch>(
     alloc: Global,
     drain: Drain<Item, H>,
     sink: &mut S,
-    client: Client,
+    client: ClientTerms,
     watch: &mut W,
     until: Until,
 ) -> (Drain<Item, H>, WriteEnd)

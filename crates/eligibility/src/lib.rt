@@ -1,11 +1,11 @@
 //! Who is to receive a publication: subscriber black- and whitelisting, and publisher exclusion.
 //!
-//! It stands on `wamp_ids`, `message_tree` and `msgpack_cursor`. Contracts say whom the options of a PUBLISH admit, by a definition that
-//! names sessions, authids and authroles, and which options are refused.
+//! Contracts say whom the options of a PUBLISH admit, by a definition that names sessions, authids and authroles, and
+//! which options are refused.
 #![tactic(auto)]
 
 mod fault;
-mod ids;
+mod id_set;
 pub mod laws;
 mod lists;
 mod numbers;

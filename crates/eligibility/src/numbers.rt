@@ -4,11 +4,11 @@ ghost use Rattle.message_tree.specs.Data.{list, whole, fits_codecs};
 ghost use Rattle.msgpack_codec.specs.Grammar.{Spells};
 ghost use Rattle.eligibility.specs.Options.{each_of, number_of};
 ghost use Rattle.eligibility.specs.Lists.{has_number};
-ghost use Rattle.eligibility.specs.body.Ids.{holds};
+ghost use Rattle.eligibility.specs.body.IdSet.{holds};
 ghost use Rattle.eligibility.specs.body.Standing.{AreHeld};
 
 use crate::fault::Fault;
-use crate::ids::{self, Ids, LARGE};
+use crate::id_set::{self, IdSet, LARGE};
 use msgpack_cursor::{Elements, Seen, Value};
 use std::alloc::{AllocError, Global};
 use std::marker::Model;
@@ -19,7 +19,7 @@ use wamp_ids::Id;
 /// that spell them, which takes no memory; what is kept is the set of the ids.
 #[derive(Drop)]
 pub(crate) struct Numbers {
-    ids: Ids,
+    ids: IdSet,
     given: Snapshot<Vec<u8>>,
 }
 
@@ -29,7 +29,7 @@ impl Model for Numbers {
     ghost use Rattle.std.specs.List.Sorted.{IsSorted};
     ghost use Rattle.eligibility.specs.Options.{number_of};
     ghost use Rattle.eligibility.specs.Lists.{has_number};
-    ghost use Rattle.eligibility.specs.body.Ids.{holds};
+    ghost use Rattle.eligibility.specs.body.IdSet.{holds};
     ghost use Rattle.eligibility.specs.body.Standing.{listed_in};
 
     ghost Value = { List ℤ };
@@ -55,7 +55,7 @@ impl Numbers {
     {
         let given = snapshot_of(alloc, octets)?;
         let mut ids = ids_of(alloc, items, room)?;
-        ids::put_in_order(&mut ids);
+        id_set::put_in_order(&mut ids);
         Ok(Numbers { ids, given })
     }
 
@@ -63,7 +63,7 @@ impl Numbers {
     pub fn has(&self, id: Id) -> bool
         ensures { result ≡ has_number id self.now }
     {
-        ids::has(&self.ids, id.value())
+        id_set::has(&self.ids, id.value())
     }
 }
 
@@ -90,14 +90,14 @@ fn is_large(item: &Value<'_>) -> bool {
     matches!(item.seen(), Seen::Whole(number) if number >= LARGE)
 }
 
-fn ids_of(alloc: Global, items: Elements<'_>, room: usize) -> Result<Ids, Fault>
+fn ids_of(alloc: Global, items: Elements<'_>, room: usize) -> Result<IdSet, Fault>
     ensures ok { IfOk result (λ ids. AreHeld (holds ids) (each_of number_of items.entry)) }
     ensures bad { result ≡ Err Fault.Shape → each_of number_of items.entry ≡ None }
 {
     let mut items = items;
-    let mut ids = ids::with_room(alloc, room)?;
+    let mut ids = id_set::with_room(alloc, room)?;
     while let Some(item) = items.next() {
-        ids::add(&mut ids, number_of(&item)?)?;
+        id_set::add(&mut ids, number_of(&item)?)?;
     }
     Ok(ids)
 }

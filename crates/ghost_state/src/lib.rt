@@ -1,9 +1,9 @@
 //! State that only contracts see: a count, and a list that grows at its end.
 //!
-//! A value of it takes no bytes, so nothing that runs can depend on it. Who owns one keeps in it what happened: how often a
-//! device was called, what was posted so far.
+//! A value of it takes no bytes, so nothing that runs can depend on it. Who owns one keeps in it what happened: how
+//! often a device was called, what was posted so far.
 //!
-//! It stands on no other crate. Contracts say what each call adds.
+//! Contracts say what each call adds.
 #![tactic(auto)]
 
 mod ghost_count;

@@ -4,7 +4,7 @@ ghost use Rattle.std.specs.Bool.{MatchBool};
 ghost use Rattle.std.specs.Str.{bytes_eq};
 ghost use Rattle.json_to_msgpack.specs.body.Keys.{key_octets, has_key};
 
-use crate::refusal::Refusal;
+use crate::refusal::TextRefusal;
 use bumpalo::Bump;
 use std::alloc::Global;
 use std::collections::BTreeSet;
@@ -52,7 +52,7 @@ impl<'a> DeepKeys<'a> {
         arena: &'a Bump,
         key: Key<'a>,
         within: bool,
-    ) -> Result<(), Refusal>
+    ) -> Result<(), TextRefusal>
         ensures { OnOk result ((q : List ℕ) → has_key self.new q
             ≡ cond (bytes_eq (key_octets key.entry) q) (not within) (has_key self.old q)) }
     {
@@ -64,7 +64,7 @@ impl<'a> DeepKeys<'a> {
 
     /// The same where a key is set or may have been.
     #[inline(never)]
-    fn set(&mut self, arena: &'a Bump, key: Key<'a>, within: bool) -> Result<(), Refusal>
+    fn set(&mut self, arena: &'a Bump, key: Key<'a>, within: bool) -> Result<(), TextRefusal>
         ensures { OnOk result ((q : List ℕ) → has_key self.new q
             ≡ cond (bytes_eq (key_octets key.entry) q) (not within) (has_key self.old q)) }
     {
@@ -95,23 +95,23 @@ impl<'a> DeepKeys<'a> {
         self.keys.remove(text);
     }
 
-    fn insert(&mut self, text: &'a str) -> Result<(), Refusal>
+    fn insert(&mut self, text: &'a str) -> Result<(), TextRefusal>
         ensures { OnOk result ((q : List ℕ)
             → has_key self.new q ≡ cond (bytes_eq text.now q) true (has_key self.old q)) }
     {
         let Ok(_) = self.keys.insert(text) else {
-            return Err(Refusal::NoMemory);
+            return Err(TextRefusal::NoMemory);
         };
         Ok(())
     }
 }
 
 /// The same text, for as long as the arena stays.
-fn kept<'a>(arena: &'a Bump, text: &str) -> Result<&'a str, Refusal>
+fn kept<'a>(arena: &'a Bump, text: &str) -> Result<&'a str, TextRefusal>
     ensures { IfOk result (λ copy. copy.now ≡ text.now) }
 {
     match arena.try_alloc_str(text) {
         Ok(copy) => Ok(copy),
-        Err(_) => Err(Refusal::NoMemory),
+        Err(_) => Err(TextRefusal::NoMemory),
     }
 }

@@ -13,7 +13,7 @@ ghost use Rattle.json_to_msgpack.specs.body.Keys.{key_octets};
 
 use crate::deep_keys::Key;
 use crate::lexer::Lexer;
-use crate::refusal::Refusal;
+use crate::refusal::TextRefusal;
 use crate::token::Token;
 use crate::writing::{put, put_all, put_bytes_head, put_from_zero, put_text_head, put_whole_short};
 use base64::DecodeAllocError;
@@ -29,22 +29,22 @@ const LIMIT: usize = 0x1_0000_0000;
 
 /// A text, as it stands.
 #[inline(always)]
-fn put_text(text: &str, out: &mut Vec<u8>) -> Result<(), Refusal>
+fn put_text(text: &str, out: &mut Vec<u8>) -> Result<(), TextRefusal>
     ensures { OnOk result (IsLeafAdded (text_data text.now) out.old.items out.new.items) }
 {
     if text.len() >= LIMIT {
-        return Err(Refusal::Unclear);
+        return Err(TextRefusal::Unclear);
     }
     put_text_head(text.len(), out)?;
     put_all(text.as_bytes(), out)
 }
 
 /// A byte string.
-fn put_bytes(bytes: &[u8], out: &mut Vec<u8>) -> Result<(), Refusal>
+fn put_bytes(bytes: &[u8], out: &mut Vec<u8>) -> Result<(), TextRefusal>
     ensures { OnOk result (IsLeafAdded (bytes_data bytes.now) out.old.items out.new.items) }
 {
     if bytes.len() >= LIMIT {
-        return Err(Refusal::Unclear);
+        return Err(TextRefusal::Unclear);
     }
     put_bytes_head(bytes.len(), out)?;
     put_all(bytes, out)
@@ -52,7 +52,7 @@ fn put_bytes(bytes: &[u8], out: &mut Vec<u8>) -> Result<(), Refusal>
 
 /// A whole number from 0.
 #[inline(always)]
-pub(crate) fn put_natural(number: u64, out: &mut Vec<u8>) -> Result<(), Refusal>
+pub(crate) fn put_natural(number: u64, out: &mut Vec<u8>) -> Result<(), TextRefusal>
     ensures { OnOk result (IsLeafAdded (whole (pos number)) out.old.items out.new.items) }
 {
     put_from_zero(number, out)
@@ -60,20 +60,20 @@ pub(crate) fn put_natural(number: u64, out: &mut Vec<u8>) -> Result<(), Refusal>
 
 /// A whole number.
 #[inline(always)]
-fn put_whole(number: i128, out: &mut Vec<u8>) -> Result<(), Refusal>
+fn put_whole(number: i128, out: &mut Vec<u8>) -> Result<(), TextRefusal>
     requires { fits_codecs number ≡ true }
     ensures { OnOk result (IsLeafAdded (whole number) out.old.items out.new.items) }
 {
     put_whole_short(number, out)
 }
 
-fn put_null(out: &mut Vec<u8>) -> Result<(), Refusal>
+fn put_null(out: &mut Vec<u8>) -> Result<(), TextRefusal>
     ensures { OnOk result (IsLeafAdded null out.old.items out.new.items) }
 {
     put(0xc0, out)
 }
 
-fn put_flag(value: bool, out: &mut Vec<u8>) -> Result<(), Refusal>
+fn put_flag(value: bool, out: &mut Vec<u8>) -> Result<(), TextRefusal>
     ensures { OnOk result (IsLeafAdded (flag value) out.old.items out.new.items) }
 {
     if value {
@@ -85,7 +85,7 @@ fn put_flag(value: bool, out: &mut Vec<u8>) -> Result<(), Refusal>
 
 /// A string: a byte string where it is the mark and then base64, otherwise a text.
 #[inline(always)]
-pub(crate) fn put_string(alloc: Global, text: &str, out: &mut Vec<u8>) -> Result<(), Refusal>
+pub(crate) fn put_string(alloc: Global, text: &str, out: &mut Vec<u8>) -> Result<(), TextRefusal>
     ensures { OnOk result (IsLeafAdded (string_tree text.now) out.old.items out.new.items) }
 {
     if let Some((0, rest)) = text.as_bytes().split_first() {
@@ -96,19 +96,19 @@ pub(crate) fn put_string(alloc: Global, text: &str, out: &mut Vec<u8>) -> Result
 
 /// A string that begins with the mark, and what is behind this.
 #[inline(never)]
-fn put_marked(alloc: Global, text: &str, rest: &[u8], out: &mut Vec<u8>) -> Result<(), Refusal>
+fn put_marked(alloc: Global, text: &str, rest: &[u8], out: &mut Vec<u8>) -> Result<(), TextRefusal>
     requires { text.now ≡ 0 ∷ rest.now }
     ensures { OnOk result (IsLeafAdded (string_tree text.now) out.old.items out.new.items) }
 {
     match STANDARD.decode(alloc, rest) {
         Ok(bytes) => put_bytes(&bytes, out),
-        Err(DecodeAllocError::OutOfMemory) => Err(Refusal::NoMemory),
+        Err(DecodeAllocError::OutOfMemory) => Err(TextRefusal::NoMemory),
         Err(DecodeAllocError::DecodeError(_)) => put_text(text, out),
     }
 }
 
 /// A number that isn't whole, and whether it isn't too large for a float.
-fn put_float(negative: bool, numeral: &Numeral, out: &mut Vec<u8>) -> Result<bool, Refusal>
+fn put_float(negative: bool, numeral: &Numeral, out: &mut Vec<u8>) -> Result<bool, TextRefusal>
     ensures { IfOk result
         (λ fits. IsNumberPut fits (float_of negative numeral.now) out.old.items out.new.items) }
 {
@@ -120,7 +120,7 @@ fn put_float(negative: bool, numeral: &Numeral, out: &mut Vec<u8>) -> Result<boo
 }
 
 /// A number with no sign.
-fn put_unsigned(numeral: &Numeral, out: &mut Vec<u8>) -> Result<bool, Refusal>
+fn put_unsigned(numeral: &Numeral, out: &mut Vec<u8>) -> Result<bool, TextRefusal>
     ensures { IfOk result
         (λ fits. IsNumberPut fits (number_from false numeral.now) out.old.items out.new.items) }
 {
@@ -134,7 +134,7 @@ fn put_unsigned(numeral: &Numeral, out: &mut Vec<u8>) -> Result<bool, Refusal>
 }
 
 /// A number behind a minus: -0 is a float.
-fn put_negative(numeral: &Numeral, out: &mut Vec<u8>) -> Result<bool, Refusal>
+fn put_negative(numeral: &Numeral, out: &mut Vec<u8>) -> Result<bool, TextRefusal>
     ensures { IfOk result
         (λ fits. IsNumberPut fits (number_from true numeral.now) out.old.items out.new.items) }
 {
@@ -175,7 +175,7 @@ fn few_digits(number: &[u8]) -> Option<u64>
 
 /// A number, by its text, and whether it isn't too large.
 #[inline(always)]
-fn put_number(number: &[u8], out: &mut Vec<u8>) -> Result<bool, Refusal>
+fn put_number(number: &[u8], out: &mut Vec<u8>) -> Result<bool, TextRefusal>
     ensures { IfOk result
         (λ fits. IsNumberPut fits (number_of number.now) out.old.items out.new.items) }
 {
@@ -191,7 +191,7 @@ fn put_number(number: &[u8], out: &mut Vec<u8>) -> Result<bool, Refusal>
 /// The same of any number.
 #[inline(never)]
 #[tactic(auto, unfolding(serde_json::specs::Read::number_of))]
-fn put_any_number(number: &[u8], out: &mut Vec<u8>) -> Result<bool, Refusal>
+fn put_any_number(number: &[u8], out: &mut Vec<u8>) -> Result<bool, TextRefusal>
     ensures { IfOk result
         (λ fits. IsNumberPut fits (number_of number.now) out.old.items out.new.items) }
 {
@@ -204,7 +204,7 @@ fn put_any_number(number: &[u8], out: &mut Vec<u8>) -> Result<bool, Refusal>
 
 /// The value that a token is, and whether it isn't a number too large.
 #[inline(always)]
-fn put_leaf(alloc: Global, token: Token, out: &mut Vec<u8>) -> Result<bool, Refusal>
+fn put_leaf(alloc: Global, token: Token, out: &mut Vec<u8>) -> Result<bool, TextRefusal>
     ensures { IfOk result
         (λ fits. IsTokenPut fits (token_of token.entry) out.old.items out.new.items) }
 {
@@ -223,7 +223,7 @@ pub(crate) fn put_other(
     alloc: Global,
     lexer: &mut Lexer<'_>,
     out: &mut Vec<u8>,
-) -> Result<bool, Refusal>
+) -> Result<bool, TextRefusal>
     ensures { IfOk result
         (λ fits. IsLeafTaken fits lexer.old lexer.new out.old.items out.new.items) }
 {
@@ -239,7 +239,7 @@ pub(crate) fn put_key<'a>(
     alloc: Global,
     lexer: &mut Lexer<'a>,
     out: &mut Vec<u8>,
-) -> Result<Key<'a>, Refusal>
+) -> Result<Key<'a>, TextRefusal>
     ensures { IfOk result
         (λ key. IsKeyAdded (key_octets key) lexer.old lexer.new out.old.items out.new.items) }
 {
@@ -256,7 +256,7 @@ fn put_other_key<'a>(
     alloc: Global,
     lexer: &mut Lexer<'a>,
     out: &mut Vec<u8>,
-) -> Result<Key<'a>, Refusal>
+) -> Result<Key<'a>, TextRefusal>
     ensures { IfOk result
         (λ key. IsKeyAdded (key_octets key) lexer.old lexer.new out.old.items out.new.items) }
 {

@@ -6,11 +6,11 @@ ghost use Rattle.json.specs.Token as grammar;
 ghost use Rattle.json.specs.Lex.{may_begin, may_close, tokens};
 ghost use Rattle.json_to_msgpack.specs.body.Lexing.{token_of, place_of, tokens_left, Begins, BeginsNatural, IsTaken, opening, closing, IsAfterValue, IsAfterKey, IsStringAt};
 
-use crate::refusal::Refusal;
+use crate::literals::{natural_at, word_at};
+use crate::refusal::TextRefusal;
 use crate::scan::{octet_at, plain_end, spaces_end};
 use crate::token::{Place, Token};
 use crate::unescape::unescape;
-use crate::words::{natural_at, word_at};
 use std::alloc::Global;
 use std::marker::Model;
 
@@ -57,12 +57,12 @@ fn plain_at<'a>(text: &'a str, at: usize) -> Option<(&'a str, usize)>
 
 /// The string at a place, without its escapes, and where the text goes on behind it.
 #[inline(always)]
-fn string_at(alloc: Global, text: &str, at: usize) -> Result<(String, usize), Refusal>
+fn string_at(alloc: Global, text: &str, at: usize) -> Result<(String, usize), TextRefusal>
     ensures { IfOk result (λ r. (drop at text.now ≡ 34 ∷ drop (at + 1) text.now)
         × IsStringAt text.now (at + 1) (string_bytes r.0) r.1) }
 {
     let Some(b'"') = octet_at(text.as_bytes(), at) else {
-        return Err(Refusal::Unclear);
+        return Err(TextRefusal::Unclear);
     };
     unescape(alloc, text, at + 1)
 }
@@ -103,14 +103,14 @@ fn token_at<'a>(
     alloc: Global,
     text: &'a str,
     at: usize,
-) -> Result<(Token<'a>, Place, usize), Refusal>
+) -> Result<(Token<'a>, Place, usize), TextRefusal>
     ensures { IfOk result
         (λ r. Begins (drop at text.now) (token_of r.0) r.1 (drop r.2 text.now)) }
 {
     match octet_at(text.as_bytes(), at) {
         Some(b'"') => string_token(alloc, text, at),
         Some(_) => word_token(text, at),
-        None => Err(Refusal::Unclear),
+        None => Err(TextRefusal::Unclear),
     }
 }
 
@@ -141,14 +141,14 @@ fn string_token<'a>(
     alloc: Global,
     text: &'a str,
     at: usize,
-) -> Result<(Token<'a>, Place, usize), Refusal>
+) -> Result<(Token<'a>, Place, usize), TextRefusal>
     ensures { IfOk result
         (λ r. Begins (drop at text.now) (token_of r.0) r.1 (drop r.2 text.now)) }
 {
     match string_at(alloc, text, at) {
         Ok((string, end)) => match after_value(text.as_bytes(), end) {
             Some((place, next)) => Ok((Token::String(string), place, next)),
-            None => Err(Refusal::Unclear),
+            None => Err(TextRefusal::Unclear),
         },
         Err(refusal) => Err(refusal),
     }
@@ -156,16 +156,16 @@ fn string_token<'a>(
 
 /// The number or literal at a place.
 #[inline(always)]
-fn word_token<'a>(text: &'a str, at: usize) -> Result<(Token<'a>, Place, usize), Refusal>
+fn word_token<'a>(text: &'a str, at: usize) -> Result<(Token<'a>, Place, usize), TextRefusal>
     requires { at < length text.now }
     ensures { IfOk result
         (λ r. Begins (drop at text.now) (token_of r.0) r.1 (drop r.2 text.now)) }
 {
     let Some((token, end)) = word_at(text, at) else {
-        return Err(Refusal::Unclear);
+        return Err(TextRefusal::Unclear);
     };
     let Some((place, next)) = after_value(text.as_bytes(), end) else {
-        return Err(Refusal::Unclear);
+        return Err(TextRefusal::Unclear);
     };
     Ok((token, place, next))
 }
@@ -183,14 +183,14 @@ fn plain_key_at<'a>(text: &'a str, at: usize) -> Option<(&'a str, usize)>
 
 /// The key at a place, and where its value may begin.
 #[inline(always)]
-fn key_at(alloc: Global, text: &str, at: usize) -> Result<(String, usize), Refusal>
+fn key_at(alloc: Global, text: &str, at: usize) -> Result<(String, usize), TextRefusal>
     ensures { IfOk result (λ r. Begins (drop at text.now) (grammar.key (string_bytes r.0)) Place.Fresh
         (drop r.1 text.now)) }
 {
     match string_at(alloc, text, at) {
         Ok((key, end)) => match after_key(text.as_bytes(), end) {
             Some(next) => Ok((key, next)),
-            None => Err(Refusal::Unclear),
+            None => Err(TextRefusal::Unclear),
         },
         Err(refusal) => Err(refusal),
     }
@@ -358,11 +358,11 @@ impl<'a> Lexer<'a> {
 
     /// Takes a value with nothing inside.
     #[inline(always)]
-    pub(crate) fn take_token(&mut self, alloc: Global) -> Result<Token<'a>, Refusal>
+    pub(crate) fn take_token(&mut self, alloc: Global) -> Result<Token<'a>, TextRefusal>
         ensures { IfOk result (λ t. self.old ≡ token_of t ∷ self.new) }
     {
         if !self.place.is_open() {
-            return Err(Refusal::Unclear);
+            return Err(TextRefusal::Unclear);
         }
         match token_at(alloc, self.text, self.at) {
             Ok((token, place, at)) => {
@@ -376,11 +376,11 @@ impl<'a> Lexer<'a> {
 
     /// Takes a key and its colon.
     #[inline(always)]
-    pub(crate) fn take_key(&mut self, alloc: Global) -> Result<String, Refusal>
+    pub(crate) fn take_key(&mut self, alloc: Global) -> Result<String, TextRefusal>
         ensures { IfOk result (λ k. self.old ≡ grammar.key (string_bytes k) ∷ self.new) }
     {
         if !self.place.is_open() {
-            return Err(Refusal::Unclear);
+            return Err(TextRefusal::Unclear);
         }
         match key_at(alloc, self.text, self.at) {
             Ok((key, at)) => {

@@ -4,7 +4,7 @@ ghost use Rattle.serde_json.specs.Read.{read};
 ghost use Rattle.json_to_msgpack.specs.Transliteration.{IsTransliterated, IsWellFormed};
 
 use crate::lexer::Lexer;
-use crate::refusal::Refusal;
+use crate::refusal::TextRefusal;
 use crate::values::put_value;
 use bumpalo::Bump;
 use json::{Reader, Scratch};
@@ -45,7 +45,11 @@ fn text_of(octets: &[u8]) -> Option<&str>
 
 /// What a text is that is one value, with an arena for keys.
 #[inline(always)]
-fn message_of<'a>(alloc: Global, arena: &'a Bump, text: &'a str) -> Result<Transliteration, Refusal>
+fn message_of<'a>(
+    alloc: Global,
+    arena: &'a Bump,
+    text: &'a str,
+) -> Result<Transliteration, TextRefusal>
     requires { IsUtf8 text.now }
     ensures { IfOk result (IsTransliterated text.now) }
 {
@@ -56,7 +60,7 @@ fn message_of<'a>(alloc: Global, arena: &'a Bump, text: &'a str) -> Result<Trans
         return Ok(Transliteration::NoJson);
     }
     if !lexer.is_at_end() {
-        return Err(Refusal::Unclear);
+        return Err(TextRefusal::Unclear);
     }
     if fit.is_within() {
         return Ok(Transliteration::Octets(out));
@@ -127,7 +131,7 @@ pub fn to_msgpack(alloc: Global, json: &[u8]) -> Result<Transliteration, AllocEr
     let arena = Bump::new(alloc);
     match message_of(alloc, &arena, text) {
         Ok(message) => Ok(message),
-        Err(Refusal::Unclear) => judge(alloc, text),
-        Err(Refusal::NoMemory) => Err(AllocError),
+        Err(TextRefusal::Unclear) => judge(alloc, text),
+        Err(TextRefusal::NoMemory) => Err(AllocError),
     }
 }

@@ -7,7 +7,7 @@ ghost use Rattle.json.specs.Text.{short_escape, after_backslash, after_u, after_
 ghost use Rattle.json.specs.Lex.{in_string, in_escape};
 ghost use Rattle.json_to_msgpack.specs.body.Lexing.{IsUnit, IsEscape, IsStringAt};
 
-use crate::refusal::Refusal;
+use crate::refusal::TextRefusal;
 use crate::scan::{octet_at, plain_end};
 use std::alloc::Global;
 
@@ -113,7 +113,11 @@ fn escape(octets: &[u8], at: usize) -> Option<(char, usize)>
 
 /// A string from its first octet on, without its escapes, and where the text goes on behind it.
 #[inline(never)]
-pub(crate) fn unescape(alloc: Global, text: &str, from: usize) -> Result<(String, usize), Refusal>
+pub(crate) fn unescape(
+    alloc: Global,
+    text: &str,
+    from: usize,
+) -> Result<(String, usize), TextRefusal>
     requires { (from ≤ length text.now) × IsUtf8 (drop from text.now) }
     ensures { IfOk result (λ r. IsStringAt text.now from (string_bytes r.0) r.1) }
 {
@@ -123,17 +127,17 @@ pub(crate) fn unescape(alloc: Global, text: &str, from: usize) -> Result<(String
     'pieces: loop {
         let stop = plain_end(octets, at);
         let Some(end) = octet_at(octets, stop) else {
-            return Err(Refusal::Unclear);
+            return Err(TextRefusal::Unclear);
         };
         if end != b'"' && end != b'\\' {
-            return Err(Refusal::Unclear);
+            return Err(TextRefusal::Unclear);
         }
         unescaped.push_str(&text[at..stop])?;
         if end == b'"' {
             return Ok((unescaped, stop + 1));
         }
         let Some((c, next)) = escape(octets, stop + 1) else {
-            return Err(Refusal::Unclear);
+            return Err(TextRefusal::Unclear);
         };
         unescaped.push(c)?;
         at = next;

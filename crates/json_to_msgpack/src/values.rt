@@ -9,7 +9,7 @@ use crate::deep_keys::DeepKeys;
 use crate::fit::Fit;
 use crate::leaves::{put_key, put_natural, put_other, put_string};
 use crate::lexer::Lexer;
-use crate::refusal::Refusal;
+use crate::refusal::TextRefusal;
 use crate::writing::{close_dict, close_list, put, put_null_at};
 use bumpalo::Bump;
 use std::alloc::Global;
@@ -19,10 +19,10 @@ const MORE_LEVELS: u8 = 27;
 
 /// One more member: MessagePack counts them in four octets.
 #[inline(always)]
-fn one_more(count: u32) -> Result<u32, Refusal>
+fn one_more(count: u32) -> Result<u32, TextRefusal>
     ensures { IfOk result (λ n. n ≡ count + 1) }
 {
-    count.checked_add(1).ok_or(Refusal::Unclear)
+    count.checked_add(1).ok_or(TextRefusal::Unclear)
 }
 
 /// The value that the next tokens are, nested no deeper than there are levels. What messages mostly
@@ -35,7 +35,7 @@ pub(crate) fn put_value<'a>(
     lexer: &mut Lexer<'a>,
     level: u8,
     out: &mut Vec<u8>,
-) -> Result<Fit, Refusal>
+) -> Result<Fit, TextRefusal>
     ensures ok { IfOk result
         (λ fit. IsValuePut fit level lexer.old lexer.new out.old.items out.new.items) }
     ensures shorter { OnOk result (length lexer.new < length lexer.old) }
@@ -50,13 +50,13 @@ pub(crate) fn put_value<'a>(
     }
     if lexer.take_begin_array() {
         if level == 0 {
-            return Err(Refusal::Unclear);
+            return Err(TextRefusal::Unclear);
         }
         return put_list(alloc, arena, lexer, level - 1, out);
     }
     if lexer.take_begin_object() {
         if level == 0 {
-            return Err(Refusal::Unclear);
+            return Err(TextRefusal::Unclear);
         }
         return put_dict(alloc, arena, lexer, level - 1, out);
     }
@@ -88,7 +88,7 @@ fn put_list<'a>(
     lexer: &mut Lexer<'a>,
     level: u8,
     out: &mut Vec<u8>,
-) -> Result<Fit, Refusal>
+) -> Result<Fit, TextRefusal>
     ensures ok { IfOk result
         (λ fit. IsListPut fit level lexer.old lexer.new out.old.items out.new.items) }
     ensures shorter { OnOk result (length lexer.new < length lexer.old) }
@@ -132,7 +132,7 @@ fn put_dict<'a>(
     lexer: &mut Lexer<'a>,
     level: u8,
     out: &mut Vec<u8>,
-) -> Result<Fit, Refusal>
+) -> Result<Fit, TextRefusal>
     ensures ok { IfOk result
         (λ fit. IsDictPut fit level lexer.old lexer.new out.old.items out.new.items) }
     ensures shorter { OnOk result (length lexer.new < length lexer.old) }

@@ -4,34 +4,34 @@ ghost use Rattle.std.specs.Int.{w32, to_be_bytes};
 ghost use Rattle.message_tree.specs.Data.{fits_codecs};
 ghost use Rattle.msgpack_codec.specs.Short.{text_head, bytes_head, list_head, dict_head, whole_short, from_zero, below_zero};
 
-use crate::refusal::Refusal;
+use crate::refusal::TextRefusal;
 use std::alloc::Global;
 
 /// Writes one octet at the end.
 #[inline(always)]
-pub(crate) fn put(octet: u8, out: &mut Vec<u8>) -> Result<(), Refusal>
+pub(crate) fn put(octet: u8, out: &mut Vec<u8>) -> Result<(), TextRefusal>
     ensures { OnOk result (out.new.items ≡ out.old.items ++ octet ∷ []) }
 {
     match out.push(octet) {
         Ok(()) => Ok(()),
-        Err(_) => Err(Refusal::NoMemory),
+        Err(_) => Err(TextRefusal::NoMemory),
     }
 }
 
 /// Writes octets at the end.
 #[inline(always)]
-pub(crate) fn put_all(octets: &[u8], out: &mut Vec<u8>) -> Result<(), Refusal>
+pub(crate) fn put_all(octets: &[u8], out: &mut Vec<u8>) -> Result<(), TextRefusal>
     ensures { OnOk result (out.new.items ≡ out.old.items ++ octets.now) }
 {
     match out.extend_from_slice(octets) {
         Ok(()) => Ok(()),
-        Err(_) => Err(Refusal::NoMemory),
+        Err(_) => Err(TextRefusal::NoMemory),
     }
 }
 
 /// Writes an octet and the four of a number at the end, with one look at the room.
 #[inline(always)]
-fn put_five(first: u8, number: u32, out: &mut Vec<u8>) -> Result<(), Refusal>
+fn put_five(first: u8, number: u32, out: &mut Vec<u8>) -> Result<(), TextRefusal>
     ensures { OnOk result (out.new.items ≡ out.old.items ++ (first ∷ to_be_bytes w32 number)) }
 {
     let octets = number.to_be_bytes();
@@ -47,7 +47,7 @@ fn put_five(first: u8, number: u32, out: &mut Vec<u8>) -> Result<(), Refusal>
 /// The head of a text of so many octets.
 #[inline(always)]
 #[tactic(auto, unfolding(msgpack_codec::specs::Short::text_head))]
-pub(crate) fn put_text_head(len: usize, out: &mut Vec<u8>) -> Result<(), Refusal>
+pub(crate) fn put_text_head(len: usize, out: &mut Vec<u8>) -> Result<(), TextRefusal>
     requires { len < 2 ^ 32 }
     ensures { OnOk result (out.new.items ≡ out.old.items ++ text_head len) }
 {
@@ -61,7 +61,7 @@ pub(crate) fn put_text_head(len: usize, out: &mut Vec<u8>) -> Result<(), Refusal
 /// The same of 32 octets or more.
 #[inline(never)]
 #[tactic(auto, unfolding(msgpack_codec::specs::Short::text_head))]
-fn put_long_text_head(len: usize, out: &mut Vec<u8>) -> Result<(), Refusal>
+fn put_long_text_head(len: usize, out: &mut Vec<u8>) -> Result<(), TextRefusal>
     requires { (32 ≤ len) × (len < 2 ^ 32) }
     ensures { OnOk result (out.new.items ≡ out.old.items ++ text_head len) }
 {
@@ -78,7 +78,7 @@ fn put_long_text_head(len: usize, out: &mut Vec<u8>) -> Result<(), Refusal>
 
 /// The head of a byte string of so many octets.
 #[tactic(auto, unfolding(msgpack_codec::specs::Short::bytes_head))]
-pub(crate) fn put_bytes_head(len: usize, out: &mut Vec<u8>) -> Result<(), Refusal>
+pub(crate) fn put_bytes_head(len: usize, out: &mut Vec<u8>) -> Result<(), TextRefusal>
     requires { len < 2 ^ 32 }
     ensures { OnOk result (out.new.items ≡ out.old.items ++ bytes_head len) }
 {
@@ -96,7 +96,7 @@ pub(crate) fn put_bytes_head(len: usize, out: &mut Vec<u8>) -> Result<(), Refusa
 /// A number from 0.
 #[inline(always)]
 #[tactic(auto, unfolding(msgpack_codec::specs::Short::from_zero))]
-pub(crate) fn put_from_zero(number: u64, out: &mut Vec<u8>) -> Result<(), Refusal>
+pub(crate) fn put_from_zero(number: u64, out: &mut Vec<u8>) -> Result<(), TextRefusal>
     ensures { OnOk result (out.new.items ≡ out.old.items ++ from_zero number) }
 {
     if number < 0x80 {
@@ -109,7 +109,7 @@ pub(crate) fn put_from_zero(number: u64, out: &mut Vec<u8>) -> Result<(), Refusa
 /// A number from 128.
 #[inline(never)]
 #[tactic(auto, unfolding(msgpack_codec::specs::Short::from_zero))]
-fn put_from_128(number: u64, out: &mut Vec<u8>) -> Result<(), Refusal>
+fn put_from_128(number: u64, out: &mut Vec<u8>) -> Result<(), TextRefusal>
     requires { 128 ≤ number }
     ensures { OnOk result (out.new.items ≡ out.old.items ++ from_zero number) }
 {
@@ -128,7 +128,7 @@ fn put_from_128(number: u64, out: &mut Vec<u8>) -> Result<(), Refusal>
 
 /// The number -(below + 1).
 #[tactic(auto, unfolding(msgpack_codec::specs::Short::below_zero))]
-fn put_below_zero(below: u64, out: &mut Vec<u8>) -> Result<(), Refusal>
+fn put_below_zero(below: u64, out: &mut Vec<u8>) -> Result<(), TextRefusal>
     requires { below < 2 ^ 63 }
     ensures { OnOk result (out.new.items ≡ out.old.items ++ below_zero below) }
 {
@@ -150,7 +150,7 @@ fn put_below_zero(below: u64, out: &mut Vec<u8>) -> Result<(), Refusal>
 
 /// A whole number.
 #[inline(always)]
-pub(crate) fn put_whole_short(number: i128, out: &mut Vec<u8>) -> Result<(), Refusal>
+pub(crate) fn put_whole_short(number: i128, out: &mut Vec<u8>) -> Result<(), TextRefusal>
     requires { fits_codecs number ≡ true }
     ensures { OnOk result (out.new.items ≡ out.old.items ++ whole_short number) }
 {
@@ -162,7 +162,7 @@ pub(crate) fn put_whole_short(number: i128, out: &mut Vec<u8>) -> Result<(), Ref
 }
 
 /// Cuts off what stands behind a place and the octet there, which is dropped, and gives it back.
-fn cut(alloc: Global, at: usize, out: &mut Vec<u8>) -> Result<Vec<u8>, Refusal>
+fn cut(alloc: Global, at: usize, out: &mut Vec<u8>) -> Result<Vec<u8>, TextRefusal>
     requires { at < length out.old.items }
     ensures { IfOk result (λ body. (body.items ≡ drop (at + 1) out.old.items)
         × (out.new.items ≡ take at out.old.items)) }
@@ -191,7 +191,7 @@ pub(crate) fn close_list(
     head: usize,
     count: u32,
     out: &mut Vec<u8>,
-) -> Result<(), Refusal>
+) -> Result<(), TextRefusal>
     requires { head < length out.old.items }
     ensures items { OnOk result (out.new.items
         ≡ take head out.old.items ++ (list_head count ++ drop (head + 1) out.old.items)) }
@@ -208,7 +208,12 @@ pub(crate) fn close_list(
 /// The same of 16 members or more, which are moved behind the longer head.
 #[inline(never)]
 #[tactic(auto, unfolding(msgpack_codec::specs::Short::list_head))]
-fn close_long_list(alloc: Global, head: usize, count: u32, out: &mut Vec<u8>) -> Result<(), Refusal>
+fn close_long_list(
+    alloc: Global,
+    head: usize,
+    count: u32,
+    out: &mut Vec<u8>,
+) -> Result<(), TextRefusal>
     requires { (head < length out.old.items) × (16 ≤ count) }
     ensures { OnOk result (out.new.items
         ≡ take head out.old.items ++ (list_head count ++ drop (head + 1) out.old.items)) }
@@ -233,7 +238,7 @@ pub(crate) fn close_dict(
     head: usize,
     count: u32,
     out: &mut Vec<u8>,
-) -> Result<(), Refusal>
+) -> Result<(), TextRefusal>
     requires { head < length out.old.items }
     ensures items { OnOk result (out.new.items
         ≡ take head out.old.items ++ (dict_head count ++ drop (head + 1) out.old.items)) }
@@ -250,7 +255,12 @@ pub(crate) fn close_dict(
 /// The same of 16 members or more, which are moved behind the longer head.
 #[inline(never)]
 #[tactic(auto, unfolding(msgpack_codec::specs::Short::dict_head))]
-fn close_long_dict(alloc: Global, head: usize, count: u32, out: &mut Vec<u8>) -> Result<(), Refusal>
+fn close_long_dict(
+    alloc: Global,
+    head: usize,
+    count: u32,
+    out: &mut Vec<u8>,
+) -> Result<(), TextRefusal>
     requires { (head < length out.old.items) × (16 ≤ count) }
     ensures { OnOk result (out.new.items
         ≡ take head out.old.items ++ (dict_head count ++ drop (head + 1) out.old.items)) }

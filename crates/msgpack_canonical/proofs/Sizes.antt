@@ -7,7 +7,7 @@ use Rattle.std.proofs.Math.ListN.{drop_of_length-le}
 use Rattle.std.proofs.Math.Dec.{eqb-suc-zero}
 use Rattle.message_tree.specs.Data as tree
 use Rattle.msgpack_codec.specs.Short.{short, whole_short, from_zero, below_zero, text_head, bytes_head, list_head, dict_head, entries_short}
-use Rattle.msgpack_canonical.specs.declared.entries.Place.{Place}
+use Rattle.msgpack_canonical.specs.declared.entries.EntryPlace.{EntryPlace}
 use Rattle.msgpack_canonical.specs.body.Fitting.{fits, entries_fit}
 use Rattle.msgpack_canonical.specs.body.Entries.{Pair, kept, entry_octets, cut, entry_in, place_cmp, IsStanding, pairs, AreKept, is_some_octets, all_kept, cuts}
 use Rattle.msgpack_canonical.specs.body.Sorting.{in_order}
@@ -99,21 +99,21 @@ entries_short-pairs (tree.entry k d es) e =
     ∙ (ap (λ (v : List ℕ). text_head (length k) ++ (k ++ (v ++ octets_of (pairs es)))) value ∙ ap (λ (o : List ℕ). text_head (length k) ++ (k ++ (short d ++ o))) (entries_short-pairs es q.1)))
 
 module _ (written : List ℕ) where
-  cuts-entries : (ps : List Place) → All (IsStanding written) ps → cuts written ps ≡ octets_of (map (entry_in written) ps)
+  cuts-entries : (ps : List EntryPlace) → All (IsStanding written) ps → cuts written ps ≡ octets_of (map (entry_in written) ps)
   cuts-entries [] all = refl
   cuts-entries (p ∷ ps) all =
       let one = All-head (IsStanding written) p ps all in
       ap (λ (o : List ℕ). o ++ cuts written ps) one.parts ∙ ap (λ o. entry_octets (entry_in written p).0 (entry_in written p).1 ++ o) (cuts-entries ps (All-tail (IsStanding written) p ps all))
 
-  short-entries : (ps : List Place) → All (IsStanding written) ps → AreShort (map (entry_in written) ps)
+  short-entries : (ps : List EntryPlace) → All (IsStanding written) ps → AreShort (map (entry_in written) ps)
   short-entries [] all = tt
   short-entries (p ∷ ps) all = let one = All-head (IsStanding written) p ps all in (one.short_key, short-entries ps (All-tail (IsStanding written) p ps all))
 
-  length-map : (ps : List Place) → length (map (entry_in written) ps) ≡ length ps
+  length-map : (ps : List EntryPlace) → length (map (entry_in written) ps) ≡ length ps
   length-map [] = refl
   length-map (p ∷ ps) = ap suc (length-map ps)
 
-  module _ (arrived sorted : List Place) (es : tree.Entries) (k : AreKept written arrived es) (order : sorted ≡ in_order (place_cmp written) arrived) (stand : All (IsStanding written) sorted) where
+  module _ (arrived sorted : List EntryPlace) (es : tree.Entries) (k : AreKept written arrived es) (order : sorted ≡ in_order (place_cmp written) arrived) (stand : All (IsStanding written) sorted) where
     same-pairs : pairs es ≡ map (entry_in written) sorted
     same-pairs = k.same ∙ (sym (map-in_order written arrived) ∙ ap (map (entry_in written)) (sym order))
 
@@ -132,7 +132,7 @@ module _ (written : List ℕ) where
         ∙ ap (λ o. dict_head (length sorted) ++ o) (sym (entries_short-pairs es fit) ∙ (ap octets_of same-pairs ∙ sym (cuts-entries sorted stand)))
 
     -- what was put of such places, which may be called otherwise
-    pub dict-put : (written' : List ℕ) (sorted' : List Place) (b : Bool) (old new : List ℕ) → written' ≡ written → sorted' ≡ sorted → b ≡ (ltb (length sorted') (2 ^ 32) && all_kept (map (entry_in written') sorted'))
+    pub dict-put : (written' : List ℕ) (sorted' : List EntryPlace) (b : Bool) (old new : List ℕ) → written' ≡ written → sorted' ≡ sorted → b ≡ (ltb (length sorted') (2 ^ 32) && all_kept (map (entry_in written') sorted'))
         → (b ≡ true → new ≡ old ++ (dict_head (length sorted') ++ cuts written' sorted')) → (b ≡ fits (tree.dict es)) × (b ≡ true → new ≡ old ++ short (tree.dict es))
     dict-put written' sorted' b old new w s fit put =
         let is : b ≡ fits (tree.dict es) =
@@ -143,16 +143,16 @@ module _ (written : List ℕ) where
 
 -- ---- one place more
 
-pub cuts-step : (written : List ℕ) (ps : List Place) (i : ℕ) (d : Place) → i < length ps → cuts written (drop i ps) ≡ cut written (get_or ps i d) ++ cuts written (drop (i + 1) ps)
+pub cuts-step : (written : List ℕ) (ps : List EntryPlace) (i : ℕ) (d : EntryPlace) → i < length ps → cuts written (drop i ps) ≡ cut written (get_or ps i d) ++ cuts written (drop (i + 1) ps)
 cuts-step written ps i d lt = ap (cuts written) (drop-cons ps i d lt) ∙ ap (λ n. cut written (get_or ps i d) ++ cuts written (drop n ps)) (sym (add-one i))
 
-pub all_kept-step : (written : List ℕ) (ps : List Place) (i : ℕ) (d : Place) → i < length ps
+pub all_kept-step : (written : List ℕ) (ps : List EntryPlace) (i : ℕ) (d : EntryPlace) → i < length ps
     → all_kept (map (entry_in written) (drop i ps)) ≡ (is_some_octets (entry_in written (get_or ps i d)).1 && all_kept (map (entry_in written) (drop (i + 1) ps)))
 all_kept-step written ps i d lt =
     ap (λ xs. all_kept (map (entry_in written) xs)) (drop-cons ps i d lt)
     ∙ ap (λ n. is_some_octets (entry_in written (get_or ps i d)).1 && all_kept (map (entry_in written) (drop n ps))) (sym (add-one i))
 
-pub none-left : (written : List ℕ) (ps : List Place) (i : ℕ) → length ps ≤ i → drop i ps ≡ []
+pub none-left : (written : List ℕ) (ps : List EntryPlace) (i : ℕ) → length ps ≤ i → drop i ps ≡ []
 none-left written ps i le = drop_of_length-le ps le
 
 pub no-octets : (o : List ℕ) → (length o == 0) ≡ true → is_some_octets o ≡ false

@@ -18,13 +18,13 @@ pub(crate) const FEW: usize = 16;
 
 /// Where an entry stands in what was written: its key, and its value behind it where that is carried.
 #[derive(Clone, Copy, Debug, Drop)]
-pub(crate) struct Place {
+pub(crate) struct EntryPlace {
     start: u32,
     end: u32,
 }
 
 /// The place from `start` to `end`. There is no memory for one that ends behind 2^32 octets.
-fn place_of(start: usize, end: usize) -> Result<Place, AllocError>
+fn place_of(start: usize, end: usize) -> Result<EntryPlace, AllocError>
     ensures start { IfOk result (λ p. p.start ≡ start) }
     ensures end { IfOk result (λ p. p.end ≡ end) }
     ensures ordered { OnOk result (start ≤ end) }
@@ -32,14 +32,18 @@ fn place_of(start: usize, end: usize) -> Result<Place, AllocError>
     if start > end || end > u32::MAX as usize {
         return Err(AllocError);
     }
-    Ok(Place {
+    Ok(EntryPlace {
         start: start as u32,
         end: end as u32,
     })
 }
 
 /// One more entry, from `start` to `end`.
-pub(crate) fn add_place(places: &mut Vec<Place>, start: usize, end: usize) -> Result<(), AllocError>
+pub(crate) fn add_place(
+    places: &mut Vec<EntryPlace>,
+    start: usize,
+    end: usize,
+) -> Result<(), AllocError>
     ensures { OnOk result (IsPlaced start end places.old.items places.new.items) }
 {
     let place = place_of(start, end)?;
@@ -50,7 +54,7 @@ pub(crate) fn add_place(places: &mut Vec<Place>, start: usize, end: usize) -> Re
 }
 
 /// The octets of an entry.
-pub(crate) fn octets_at(written: &[u8], place: Place) -> &[u8]
+pub(crate) fn octets_at(written: &[u8], place: EntryPlace) -> &[u8]
     ensures { result.now ≡ cut written.now place }
 {
     let start = (place.start as usize).min(written.len());
@@ -60,7 +64,7 @@ pub(crate) fn octets_at(written: &[u8], place: Place) -> &[u8]
 }
 
 /// The key of an entry, and the octets of its value.
-pub(crate) fn entry_at(written: &[u8], place: Place) -> (&[u8], &[u8])
+pub(crate) fn entry_at(written: &[u8], place: EntryPlace) -> (&[u8], &[u8])
     ensures key { result.0.now ≡ (entry_in written.now place).0 }
     ensures value { result.1.now ≡ (entry_in written.now place).1 }
 {
@@ -71,28 +75,28 @@ pub(crate) fn entry_at(written: &[u8], place: Place) -> (&[u8], &[u8])
 }
 
 /// The key of an entry.
-fn key_at(written: &[u8], place: Place) -> &[u8]
+fn key_at(written: &[u8], place: EntryPlace) -> &[u8]
     ensures { result.now ≡ (entry_in written.now place).0 }
 {
     entry_at(written, place).0
 }
 
 /// How the keys of two entries compare, by their bytes.
-fn compare(written: &[u8], one: Place, other: Place) -> Ordering
+fn compare(written: &[u8], one: EntryPlace, other: EntryPlace) -> Ordering
     ensures { result ≡ place_cmp written.now one other }
 {
     key_order(key_at(written, one), key_at(written, other))
 }
 
 /// Whether two entries have one key.
-fn is_same(written: &[u8], one: Place, other: Place) -> bool
+fn is_same(written: &[u8], one: EntryPlace, other: EntryPlace) -> bool
     ensures { result ≡ eq_by_cmp (place_cmp written.now) one other }
 {
     compare(written, one, other).is_eq()
 }
 
 /// Where a place belongs by its key among others, and whether one with this key stands there.
-fn find(written: &[u8], sorted: &[Place], place: Place) -> (usize, bool)
+fn find(written: &[u8], sorted: &[EntryPlace], place: EntryPlace) -> (usize, bool)
     ensures within { result.0 ≤ length sorted.now }
     ensures there { result.1 ≡ true → (result.0 < length sorted.now)
         × (placed (place_cmp written.now) place sorted.now ≡ set sorted.now result.0 place) }
@@ -111,7 +115,11 @@ fn find(written: &[u8], sorted: &[Place], place: Place) -> (usize, bool)
 }
 
 /// Puts a place among others, in the stead of one with its key.
-fn put_place(sorted: &mut Vec<Place>, written: &[u8], place: Place) -> Result<(), AllocError>
+fn put_place(
+    sorted: &mut Vec<EntryPlace>,
+    written: &[u8],
+    place: EntryPlace,
+) -> Result<(), AllocError>
     ensures { OnOk result (sorted.new.items
         ≡ placed (place_cmp written.now) place sorted.old.items) }
 {
@@ -127,7 +135,11 @@ fn put_place(sorted: &mut Vec<Place>, written: &[u8], place: Place) -> Result<()
 }
 
 /// The places in the order of their keys, each put among those before: for few.
-fn few_in_order(alloc: Global, places: &[Place], written: &[u8]) -> Result<Vec<Place>, AllocError>
+fn few_in_order(
+    alloc: Global,
+    places: &[EntryPlace],
+    written: &[u8],
+) -> Result<Vec<EntryPlace>, AllocError>
     ensures { IfOk result (λ sorted. sorted.items
         ≡ in_order (place_cmp written.now) (reverse places.now)) }
 {
@@ -142,7 +154,7 @@ fn few_in_order(alloc: Global, places: &[Place], written: &[u8]) -> Result<Vec<P
 /// their keys: of each key the last place alone.
 pub(crate) fn put_in_order(
     alloc: Global,
-    places: &mut Vec<Place>,
+    places: &mut Vec<EntryPlace>,
     written: &[u8],
 ) -> Result<(), AllocError>
     ensures order { OnOk result (places.new.items
@@ -164,7 +176,7 @@ pub(crate) fn put_in_order(
 /// value that is written, and they are fewer than 2^32.
 pub(crate) fn put_entries(
     written: &[u8],
-    places: &[Place],
+    places: &[EntryPlace],
     out: &mut Appender,
 ) -> Result<bool, AllocError>
     ensures fits { IfOk result (λ b. b ≡ (nat_lt (length places.now) (2 ^ 32)

@@ -5,23 +5,23 @@ use msgpack_codec::Token;
 
 /// What a token begins: a list or dictionary of so many members, or a value with nothing inside.
 #[derive(Clone, Copy, Drop)]
-pub(crate) enum Kind {
+pub(crate) enum TokenKind {
     List(u64),
     Dict(u64),
     Leaf,
 }
 
-pub(crate) fn kind_of(token: &Token) -> Kind
+pub(crate) fn kind_of(token: &Token) -> TokenKind
     ensures { IsKind result token.now }
 {
     match token {
-        Token::List(count) => Kind::List(*count),
-        Token::Dict(count) => Kind::Dict(*count),
+        Token::List(count) => TokenKind::List(*count),
+        Token::Dict(count) => TokenKind::Dict(*count),
         Token::Null
         | Token::Flag(_)
         | Token::Whole(_)
         | Token::Text(_)
         | Token::Bytes(_)
-        | Token::Uncarried => Kind::Leaf,
+        | Token::Uncarried => TokenKind::Leaf,
     }
 }

@@ -7,9 +7,9 @@ ghost use Rattle.msgpack_codec.specs.body.Passing.{list_at};
 ghost use Rattle.msgpack_canonical.specs.body.Fitting.{IsPut, IsUnread};
 ghost use Rattle.msgpack_canonical.specs.body.Entries.{AreRead, IsEntryPut, IsNoEntry};
 
-use crate::entries::{FEW, Place, add_place, put_entries, put_in_order};
+use crate::entries::{EntryPlace, FEW, add_place, put_entries, put_in_order};
 use crate::heads::put_short_list_head;
-use crate::kinds::{Kind, kind_of};
+use crate::kinds::{TokenKind, kind_of};
 use crate::least::{least_entry, put_least_dict};
 use crate::leaves::{put_leaf, put_text};
 use crate::texts::first_text;
@@ -53,19 +53,19 @@ pub(crate) fn put_value<'a>(
         return Ok(None);
     };
     match kind_of(&token) {
-        Kind::List(count) => {
+        TokenKind::List(count) => {
             if room == 0 {
                 return Ok(None);
             }
             put_list(alloc, rest, count, room - 1, out)
         }
-        Kind::Dict(count) => {
+        TokenKind::Dict(count) => {
             if room == 0 {
                 return Ok(None);
             }
             put_dict(alloc, rest, count, room - 1, out)
         }
-        Kind::Leaf => {
+        TokenKind::Leaf => {
             let is_written = put_leaf(token, out)?;
             Ok(Some(Put { rest, is_written }))
         }
@@ -114,7 +114,7 @@ fn behind(octets: &[u8], room: u8) -> Option<&[u8]>
 
 /// A key and its value, written behind others.
 #[derive(Drop)]
-struct Entry<'a> {
+struct WrittenEntry<'a> {
     /// The others, and the key, and its value where that is written.
     written: Vec<u8>,
     /// The octets after the value.
@@ -124,7 +124,7 @@ struct Entry<'a> {
 }
 
 /// A key and its value, where the key is no text.
-fn pass_entry(octets: &[u8], room: u8, written: Vec<u8>) -> Option<Entry<'_>>
+fn pass_entry(octets: &[u8], room: u8, written: Vec<u8>) -> Option<WrittenEntry<'_>>
     ensures some { IfSome result (λ e. ((k : Data) (rest : List ℕ)
         → value_at room octets.now ≡ Ok (k, rest) → is_text k ≡ false)
         → IsEntryPut (value_at room) octets.now e.rest.now e.is_text
@@ -137,7 +137,7 @@ fn pass_entry(octets: &[u8], room: u8, written: Vec<u8>) -> Option<Entry<'_>>
     let Some(rest) = behind(value, room) else {
         return None;
     };
-    Some(Entry {
+    Some(WrittenEntry {
         written,
         rest,
         is_text: false,
@@ -151,7 +151,7 @@ fn put_entry<'a>(
     octets: &'a [u8],
     room: u8,
     written: Vec<u8>,
-) -> Result<Option<Entry<'a>>, AllocError>
+) -> Result<Option<WrittenEntry<'a>>, AllocError>
     ensures some { IfOk result (λ o. IfSome o (λ e. IsEntryPut (value_at room) octets.entry.now
         e.rest.now e.is_text written.items e.written.items)) }
     ensures none { IfOk result (λ o. IfNone o (IsNoEntry (value_at room) octets.entry.now)) }
@@ -159,7 +159,7 @@ fn put_entry<'a>(
     if let Some((entry, rest)) = least_entry(octets) {
         let mut written = written;
         written.extend_from_slice(entry.octets)?;
-        return Ok(Some(Entry {
+        return Ok(Some(WrittenEntry {
             written,
             rest,
             is_text: true,
@@ -181,7 +181,7 @@ fn put_entry<'a>(
     } else {
         out.into_before()
     };
-    Ok(Some(Entry {
+    Ok(Some(WrittenEntry {
         written,
         rest: put.rest,
         is_text: true,
@@ -192,7 +192,7 @@ fn put_entry<'a>(
 #[derive(Drop)]
 struct Entries<'a> {
     written: Vec<u8>,
-    places: Vec<Place>,
+    places: Vec<EntryPlace>,
     /// Whether each key is a text. Otherwise the dictionary isn't carried.
     are_texts: bool,
     /// The octets after the dictionary.

@@ -1,16 +1,16 @@
 #![tactic(auto)]
 
-//! Messages as MessagePack (the MessagePack specification, "Formats"; WAMP specification,
-//! "Serializers"), read by every spelling of its table and written by the shortest.
+//! Messages as MessagePack (the MessagePack specification, "Formats"; WAMP specification, "Serializers"), read by every
+//! spelling of its table and written by the shortest.
 //!
-//! What no tree carries (a float, a value of an extension type, a str that isn't UTF-8, a map with
-//! a key that isn't a str) is read past into `Uncarried`.
+//! What no tree carries (a float, a value of an extension type, a str that isn't UTF-8, a map with a key that isn't a
+//! str) is read past into `Uncarried`.
 //!
-//! [`pass`] and [`first_token`] read octets with no memory: the one passes over a value, the other
-//! takes a value with nothing inside, or the head of a list or dictionary.
+//! [`pass`] and [`first_token`] read octets with no memory: the one passes over a value, the other takes a value with
+//! nothing inside, or the head of a list or dictionary.
 //!
-//! It stands on `message_tree`. Contracts say which octets spell a message, that reading accepts each spelling of it and
-//! nothing else, and that what is written is the shortest.
+//! Contracts say which octets spell a message, that reading accepts each spelling of it and nothing else, and that what
+//! is written is the shortest.
 mod carriage;
 mod decoder;
 mod encoder;

@@ -49,7 +49,7 @@ pub struct Passed<'a> {
 
 /// A value, with its octets where it is a text: it may be a key.
 #[derive(Clone, Copy, Drop)]
-struct Seen<'a> {
+struct SeenValue<'a> {
     rest: &'a [u8],
     carriage: Carriage,
     text: Option<&'a [u8]>,
@@ -57,7 +57,7 @@ struct Seen<'a> {
 }
 
 /// A str that octets spell, the head among them: uncarried where it isn't UTF-8.
-fn text<'a>(front: &[u8], octets: &'a [u8], rest: &'a [u8]) -> Seen<'a>
+fn text<'a>(front: &[u8], octets: &'a [u8], rest: &'a [u8]) -> SeenValue<'a>
     ensures rest { result.rest.now ≡ rest.entry.now }
     ensures carriage { result.carriage ≡ carriage_of (text_from octets.entry.now) }
     ensures text { option_map (λ s. s.now) result.text ≡ text_of (text_from octets.entry.now) }
@@ -66,7 +66,7 @@ fn text<'a>(front: &[u8], octets: &'a [u8], rest: &'a [u8]) -> Seen<'a>
         front.now (short (text_from octets.entry.now)) }
 {
     match text_in(octets) {
-        Ok(_) => Seen {
+        Ok(_) => SeenValue {
             rest,
             carriage: Carriage::Carried,
             text: Some(octets),
@@ -98,13 +98,13 @@ fn is_flag(front: &[u8], flag: bool) -> bool
 
 /// A value that is no text.
 #[inline(always)]
-fn no_text(rest: &[u8], carriage: Carriage, is_shortest: bool) -> Seen<'_>
+fn no_text(rest: &[u8], carriage: Carriage, is_shortest: bool) -> SeenValue<'_>
     ensures rest { result.rest.now ≡ rest.entry.now }
     ensures carriage { result.carriage ≡ carriage }
     ensures text { option_map (λ s. s.now) result.text ≡ None }
     ensures shortest { result.is_shortest ≡ is_shortest }
 {
-    Seen {
+    SeenValue {
         rest,
         carriage,
         text: None,
@@ -124,7 +124,7 @@ fn whole(number: i128) -> Carriage
 }
 
 /// A whole number that octets spell before the rest.
-fn number_seen<'a>(all: &[u8], rest: &'a [u8], number: i128) -> Seen<'a>
+fn number_seen<'a>(all: &[u8], rest: &'a [u8], number: i128) -> SeenValue<'a>
     ensures rest { result.rest.now ≡ rest.entry.now }
     ensures carriage { result.carriage ≡ carriage_of (of_whole number) }
     ensures text { option_map (λ s. s.now) result.text ≡ None }
@@ -137,13 +137,13 @@ fn number_seen<'a>(all: &[u8], rest: &'a [u8], number: i128) -> Seen<'a>
 
 /// A short text.
 #[inline(always)]
-fn short_text_seen<'a>(text: &'a str, rest: &'a [u8]) -> Seen<'a>
+fn short_text_seen<'a>(text: &'a str, rest: &'a [u8]) -> SeenValue<'a>
     ensures rest { result.rest.now ≡ rest.entry.now }
     ensures carriage { result.carriage ≡ Carriage.Carried }
     ensures text { option_map (λ t. t.now) result.text ≡ Some text.entry.now }
     ensures shortest { result.is_shortest ≡ true }
 {
-    Seen {
+    SeenValue {
         rest,
         carriage: Carriage::Carried,
         text: Some(text.as_bytes()),
@@ -153,7 +153,7 @@ fn short_text_seen<'a>(text: &'a str, rest: &'a [u8]) -> Seen<'a>
 
 /// A value with nothing inside, after its first octet, and from that octet on.
 #[tactic(auto, unfolding(crate::specs::body::Decoder::leaf_at))]
-fn leaf<'a>(form: Form, all: &'a [u8], octets: &'a [u8]) -> Result<Seen<'a>, Fault>
+fn leaf<'a>(form: Form, all: &'a [u8], octets: &'a [u8]) -> Result<SeenValue<'a>, Fault>
     ensures ok { IfOk result (λ s. IsSeen (leaf_at form octets.entry.now)
         s.rest.now s.carriage (option_map (λ t. t.now) s.text)) }
     ensures err { IfErr result (λ e. leaf_at form octets.entry.now ≡ Err e) }
@@ -202,7 +202,7 @@ fn leaf<'a>(form: Form, all: &'a [u8], octets: &'a [u8]) -> Result<Seen<'a>, Fau
 /// The value at the front, which nests no more than `room` levels.
 #[cycle(passing)]
 #[tactic(auto, unfolding(crate::specs::body::Passing::written_at))]
-fn value(octets: &[u8], room: u8) -> Result<Seen<'_>, Fault>
+fn value(octets: &[u8], room: u8) -> Result<SeenValue<'_>, Fault>
     ensures ok { IfOk result (λ s. IsSeen (written_at room octets.now)
         s.rest.now s.carriage (option_map (λ t. t.now) s.text)) }
     ensures err { IfErr result (λ e. written_at room octets.now ≡ Err e) }
@@ -221,14 +221,14 @@ fn value(octets: &[u8], room: u8) -> Result<Seen<'_>, Fault>
 }
 
 /// A value whose head was passed over before it.
-fn behind(is_least: bool, seen: Seen) -> Seen
+fn behind(is_least: bool, seen: SeenValue) -> SeenValue
     ensures rest { result.rest.now ≡ seen.entry.rest.now }
     ensures carriage { result.carriage ≡ seen.entry.carriage }
     ensures text { option_map (λ t. t.now) result.text
         ≡ option_map (λ t. t.now) seen.entry.text }
     ensures shortest { result.is_shortest ≡ (is_least && seen.entry.is_shortest) }
 {
-    Seen {
+    SeenValue {
         rest: seen.rest,
         carriage: seen.carriage,
         text: seen.text,
@@ -239,7 +239,7 @@ fn behind(is_least: bool, seen: Seen) -> Seen
 /// A value after its first octet, with what is inside, and from that octet on.
 #[cycle(passing)]
 #[tactic(auto, unfolding(crate::specs::body::Passing::written_nest_at))]
-fn nest<'a>(form: Form, all: &'a [u8], octets: &'a [u8], room: u8) -> Result<Seen<'a>, Fault>
+fn nest<'a>(form: Form, all: &'a [u8], octets: &'a [u8], room: u8) -> Result<SeenValue<'a>, Fault>
     ensures ok { IfOk result (λ s. IsSeen
         (written_nest_at (written_at room) form octets.entry.now)
         s.rest.now s.carriage (option_map (λ t. t.now) s.text)) }
@@ -270,7 +270,7 @@ fn nest<'a>(form: Form, all: &'a [u8], octets: &'a [u8], room: u8) -> Result<See
 /// A member at the front, as a value that nests no more than `room` levels. Most are short texts.
 #[cycle(passing)]
 #[inline(always)]
-fn member(octets: &[u8], room: u8) -> Result<Seen<'_>, Fault>
+fn member(octets: &[u8], room: u8) -> Result<SeenValue<'_>, Fault>
     ensures ok { IfOk result (λ s. IsSeen (written_at room octets.now)
         s.rest.now s.carriage (option_map (λ t. t.now) s.text)) }
     ensures err { IfErr result (λ e. written_at room octets.now ≡ Err e) }
@@ -295,7 +295,7 @@ fn both(one: bool, other: bool) -> bool
 
 /// So many values, behind the head of a list.
 #[cycle(passing)]
-fn items(octets: &[u8], count: u64, room: u8) -> Result<Seen<'_>, Fault>
+fn items(octets: &[u8], count: u64, room: u8) -> Result<SeenValue<'_>, Fault>
     ensures ok { IfOk result (λ s. IsSeen (list_at (written_at room) count octets.now)
         s.rest.now s.carriage (option_map (λ t. t.now) s.text)) }
     ensures err { IfErr result (λ e. list_at (written_at room) count octets.now ≡ Err e) }
@@ -337,7 +337,7 @@ fn is_behind(last: Option<&[u8]>, key: &[u8]) -> bool
 
 /// What is known with one more pair.
 #[inline(always)]
-fn with<'a>(known: Known<'a>, key: Seen<'a>, carriage: Carriage) -> Known<'a>
+fn with<'a>(known: Known<'a>, key: SeenValue<'a>, carriage: Carriage) -> Known<'a>
     ensures { (found : Entries) (texts : Bool) (k v : Data)
         → AreKnown known.entry.are_texts known.entry.ascend
         (option_map (λ t. t.now) known.entry.last) known.entry.carriage found texts
@@ -379,7 +379,7 @@ fn map_carriage(known: Known) -> Carriage
 
 /// So many keys, each with its value behind it, behind the head of a map.
 #[cycle(passing)]
-fn pairs(octets: &[u8], count: u64, room: u8) -> Result<Seen<'_>, Fault>
+fn pairs(octets: &[u8], count: u64, room: u8) -> Result<SeenValue<'_>, Fault>
     ensures ok { IfOk result (λ s. IsSeen
         (pairs_at (written_at room) count no_entries true octets.now)
         s.rest.now s.carriage (option_map (λ t. t.now) s.text)) }

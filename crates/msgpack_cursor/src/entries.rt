@@ -50,14 +50,14 @@ impl<'a> DictionaryEntries<'a> {
 
 /// A key and its value, and the octets after them.
 #[derive(Drop)]
-pub(crate) struct Entry<'a> {
+pub(crate) struct CursorEntry<'a> {
     pub(crate) key: &'a str,
     pub(crate) value: Value<'a>,
     pub(crate) rest: &'a [u8],
 }
 
 /// The key at the front and the value behind it; `None` where the key is no text, or one is missing.
-pub(crate) fn entry_at(octets: &[u8], room: u8) -> Option<Entry<'_>>
+pub(crate) fn entry_at(octets: &[u8], room: u8) -> Option<CursorEntry<'_>>
     requires { room ≤ 100 }
     ensures some { IfSome result (λ e. IsEntry (value_at room) octets.now e.key.now e.value e.rest.now) }
     ensures none { IfNone result (IsNoEntry (value_at room) octets.now) }
@@ -68,5 +68,5 @@ pub(crate) fn entry_at(octets: &[u8], room: u8) -> Option<Entry<'_>>
     let Some((value, rest)) = first_value(rest, room) else {
         return None;
     };
-    Some(Entry { key, value, rest })
+    Some(CursorEntry { key, value, rest })
 }

@@ -1,10 +1,10 @@
 #![tactic(auto)]
 
-//! Values of MessagePack (MessagePack specification, "Formats") where they stand in octets: a message, the elements of a list one
-//! after another, the value of a dictionary's key. Nothing is copied, and no memory is taken.
+//! Values of MessagePack (MessagePack specification, "Formats") where they stand in octets: a message, the elements of
+//! a list one after another, the value of a dictionary's key. Nothing is copied, and no memory is taken.
 //!
-//! It stands on `msgpack_codec`, and reads each spelling that this reads. Contracts see a value as the data that
-//! `msgpack_codec::decode` makes of the octets.
+//! It reads each spelling that `msgpack_codec` reads. Contracts see a value as the data that `msgpack_codec::decode`
+//! makes of the octets.
 mod dictionary;
 mod elements;
 mod entries;

@@ -5,7 +5,7 @@ use mathlib.Core.List.{IsPrefix}
 use Rattle.atomic_table.specs.Seated.{TableId}
 use Rattle.outbox_queue.specs.declared.ends.Came.{Came}
 use Rattle.outbox_queue.specs.declared.owed.Note.{Note}
-use Rattle.outbox_queue.specs.declared.rule.View.{View}
+use Rattle.outbox_queue.specs.declared.rule.OutboxView.{OutboxView}
 use Rattle.outbox_queue.specs.Ends.{Last, Taking, TookAll, TookUnvouched, TookWhole, IsVouched, Owes, IsOf, came_with, or_else}
 use Rattle.outbox_queue.specs.Outbox.{EndsIn, MatchDrained}
 use Rattle.outbox_queue.specs.declared.drain.Drained.{Drained}
@@ -15,11 +15,11 @@ use Rattle.outbox_queue.specs.body.EndInvariants.{CameOver, MayHaveCome, last_of
 use Rattle.outbox_queue.proofs.OwedBeginnings.{prefix-on}
 
 module _ {T H : Type 0} (owed : H → ℕ → List T) (is_over : H → ℕ → Type 0) (belongs : H → TableId → Type 0) where
-  pub came_adds : (capacity : ℕ) (v : View T H) (came : Option (Came H)) → MayHaveCome owed is_over belongs capacity v came → is_some (last_of came v.added) ≡ true → v.adds ≡ true
+  pub came_adds : (capacity : ℕ) (v : OutboxView T H) (came : Option (Came H)) → MayHaveCome owed is_over belongs capacity v came → is_some (last_of came v.added) ≡ true → v.adds ≡ true
   came_adds capacity v None may is = absurd (cc is)
   came_adds capacity v (Some came) may is = may.adds
 
-  pub apart : (capacity : ℕ) (v : View T H) (added : List T) (came : Option (Came H)) → last_of came added ≡ None → MayHaveCome owed is_over belongs capacity v came
+  pub apart : (capacity : ℕ) (v : OutboxView T H) (added : List T) (came : Option (Came H)) → last_of came added ≡ None → MayHaveCome owed is_over belongs capacity v came
   apart capacity v added None none = tt
   apart capacity v added (Some came) none = absurd (cc none)
 
@@ -28,7 +28,7 @@ module _ {T H : Type 0} (owed : H → ℕ → List T) (is_over : H → ℕ → T
   none_left (x ∷ waiting) none = absurd (cc none)
 
   -- where nothing waits, all that was added was taken
-  pub took_all : (begins : H → H → Type 0) (capacity : ℕ) (v : View T H) (came : Option (Came H)) (waiting : List (Note T H)) (d : Taking T H) → MayHaveCome owed is_over belongs capacity v came → length waiting ≡ 0 → Waiting begins v waiting
+  pub took_all : (begins : H → H → Type 0) (capacity : ℕ) (v : OutboxView T H) (came : Option (Came H)) (waiting : List (Note T H)) (d : Taking T H) → MayHaveCome owed is_over belongs capacity v came → length waiting ≡ 0 → Waiting begins v waiting
       → d.last ≡ last_of came v.added → d.capacity ≡ capacity → d.conn ≡ v.conn → d.taken ≡ v.taken → IfSome d.last (λ _. TookAll owed is_over d)
   took_all begins capacity v None waiting d may none is here holds own taken = subst (λ (l : Option (Last T H)). IfSome l (λ _. TookAll owed is_over d)) (sym here) tt
   took_all begins capacity v (Some came) waiting d may none is here holds own taken =
@@ -38,45 +38,45 @@ module _ {T H : Type 0} (owed : H → ℕ → List T) (is_over : H → ℕ → T
       subst (λ (l : Option (Last T H)). IfSome l (λ _. TookAll owed is_over d)) (sym here) took
 
   -- an item was taken
-  pub goes_on : (begins : H → H → Type 0) (capacity : ℕ) (v w : View T H) (x : Note T H) (came : Option (Came H)) → MayHaveCome owed is_over belongs capacity v came → Settled begins belongs v x w
+  pub goes_on : (begins : H → H → Type 0) (capacity : ℕ) (v w : OutboxView T H) (x : Note T H) (came : Option (Came H)) → MayHaveCome owed is_over belongs capacity v came → Settled begins belongs v x w
       → MayHaveCome owed is_over belongs capacity w came
   goes_on begins capacity v w x None may is = tt
   goes_on begins capacity v w x (Some came) may is =
       let eq = is.0.0 in
-      let begun : IsPrefix (with_taken v x).taken v.added = subst (λ (u : View T H). IsPrefix u.taken v.added) eq is.2 in
+      let begun : IsPrefix (with_taken v x).taken v.added = subst (λ (u : OutboxView T H). IsPrefix u.taken v.added) eq is.2 in
       let then : CameOver owed is_over belongs capacity (with_taken v x) came = record { adds = may.adds; begins = begun; vouches = may.vouches; room = may.room } in
-      subst (λ (u : View T H). CameOver owed is_over belongs capacity u came) (sym eq) then
+      subst (λ (u : OutboxView T H). CameOver owed is_over belongs capacity u came) (sym eq) then
 
-  by_history : (capacity : ℕ) (v : View T H) (came : Came H) (history : Option H) → came.history ≡ history → CameOver owed is_over belongs capacity v came → Owes owed v.seen v.conn v.taken → Owes owed (or_else history v.seen) v.conn v.taken
+  by_history : (capacity : ℕ) (v : OutboxView T H) (came : Came H) (history : Option H) → came.history ≡ history → CameOver owed is_over belongs capacity v came → Owes owed v.seen v.conn v.taken → Owes owed (or_else history v.seen) v.conn v.taken
   by_history capacity v came None is may owes = owes
   by_history capacity v came (Some h) is may owes =
       let vouched : IsVouched owed is_over (Some h) v.conn v.added came.finds.count = subst (λ (o : Option H). IsVouched owed is_over o v.conn v.added came.finds.count) is may.vouches.vouched in
       prefix-on v.taken v.added (owed h v.conn) may.begins vouched.begins
 
-  pub newest_owes : (capacity : ℕ) (v : View T H) (came : Option (Came H)) → MayHaveCome owed is_over belongs capacity v came → Owes owed v.seen v.conn v.taken → Owes owed (or_else (came_with (last_of came v.added)) v.seen) v.conn v.taken
+  pub newest_owes : (capacity : ℕ) (v : OutboxView T H) (came : Option (Came H)) → MayHaveCome owed is_over belongs capacity v came → Owes owed v.seen v.conn v.taken → Owes owed (or_else (came_with (last_of came v.added)) v.seen) v.conn v.taken
   newest_owes capacity v None may owes = owes
   newest_owes capacity v (Some came) may owes = by_history capacity v came came.history refl may owes
 
-  of_history : (capacity : ℕ) (v : View T H) (came : Came H) (history : Option H) → came.history ≡ history → CameOver owed is_over belongs capacity v came → IsOf belongs v.seen v.chronicle → IsOf belongs (or_else history v.seen) v.chronicle
+  of_history : (capacity : ℕ) (v : OutboxView T H) (came : Came H) (history : Option H) → came.history ≡ history → CameOver owed is_over belongs capacity v came → IsOf belongs v.seen v.chronicle → IsOf belongs (or_else history v.seen) v.chronicle
   of_history capacity v came None is may of = of
   of_history capacity v came (Some h) is may of = subst (λ (o : Option H). IsOf belongs o v.chronicle) is may.vouches.is_of
 
-  pub newest_belongs : (capacity : ℕ) (v : View T H) (came : Option (Came H)) → MayHaveCome owed is_over belongs capacity v came → IsOf belongs v.seen v.chronicle → IsOf belongs (or_else (came_with (last_of came v.added)) v.seen) v.chronicle
+  pub newest_belongs : (capacity : ℕ) (v : OutboxView T H) (came : Option (Came H)) → MayHaveCome owed is_over belongs capacity v came → IsOf belongs v.seen v.chronicle → IsOf belongs (or_else (came_with (last_of came v.added)) v.seen) v.chronicle
   newest_belongs capacity v None may of = of
   newest_belongs capacity v (Some came) may of = of_history capacity v came came.history refl may of
 
   -- what the end that takes knows, once the other has come over
-  abbrev pub joined : View T H → Option H → List T → View T H
+  abbrev pub joined : OutboxView T H → Option H → List T → OutboxView T H
   joined t history added = record { adds = true; takes = true; conn = t.conn; chronicle = t.chronicle; history = history; added = added; seen = t.seen; taken = t.taken }
 
-  pub joins : (t a : View T H) (conn : ℕ) (chronicle : Option TableId) (history : Option H) (added : List T) → a ≡ adding conn chronicle history added → conn ≡ t.conn → chronicle ≡ t.chronicle → both a t ≡ joined t history added
+  pub joins : (t a : OutboxView T H) (conn : ℕ) (chronicle : Option TableId) (history : Option H) (added : List T) → a ≡ adding conn chronicle history added → conn ≡ t.conn → chronicle ≡ t.chronicle → both a t ≡ joined t history added
   joins t a conn chronicle history added is own home =
-      let first : both a t ≡ both (adding conn chronicle history added) t = ap (λ (u : View T H). both u t) is in
-      let Made : ℕ × Option TableId → View T H = λ y. record { adds = true; takes = true; conn = y.0; chronicle = y.1; history = history; added = added; seen = t.seen; taken = t.taken } in
+      let first : both a t ≡ both (adding conn chronicle history added) t = ap (λ (u : OutboxView T H). both u t) is in
+      let Made : ℕ × Option TableId → OutboxView T H = λ y. record { adds = true; takes = true; conn = y.0; chronicle = y.1; history = history; added = added; seen = t.seen; taken = t.taken } in
       let pair : (conn, chronicle) ≡ (t.conn, t.chronicle) = λ i. (own i, home i) in
       first ∙ ap Made pair
 
-  pub comes : (begins : H → H → Type 0) (capacity : ℕ) (t : View T H) (conn : ℕ) (chronicle : Option TableId) (history : Option H) (added : List T) (came : Came H) (waiting : List (Note T H))
+  pub comes : (begins : H → H → Type 0) (capacity : ℕ) (t : OutboxView T H) (conn : ℕ) (chronicle : Option TableId) (history : Option H) (added : List T) (came : Came H) (waiting : List (Note T H))
       → conn ≡ t.conn → chronicle ≡ t.chronicle → IsVouched owed is_over came.history conn added came.finds.count → IsOf belongs came.history chronicle → Waiting begins (joined t history added) waiting
       → (0 < came.finds.count → capacity ≤ length added) → CameOver owed is_over belongs capacity (joined t history added) came
   comes begins capacity t conn chronicle history added came waiting own home vouched is_of waits room =

@@ -20,7 +20,7 @@ use Rattle.crossbeam_queue.specs.contracts.array_queue.TurnsTableRuleOptionDoing
 use Rattle.crossbeam_utils.proofs.sync.parker.RuledParker.TheSendSync as parker
 use Rattle.crossbeam_utils.proofs.sync.parker.RuledUnparker.TheSendSync as unparker
 use Rattle.chronicle.proofs.SendLemmas.{token_send}
-use Rattle.chronicle.specs.contracts.chronicle.Token as Token
+use Rattle.chronicle.specs.contracts.chronicle.HistoryToken as HistoryToken
 use Rattle.ghost_state.proofs.SendLemmas.{count_send}
 use Rattle.outbox_queue.specs.contracts.counted.CountedPass as CountedPass
 use Rattle.outbox_queue.specs.contracts.drain.Drain as Drain
@@ -45,8 +45,8 @@ use Rattle.outbox_queue.specs.contracts.recorded.Moment as Moment
 use Rattle.outbox_queue.specs.contracts.recorded.Recorded as Recorded
 use Rattle.outbox_queue.specs.contracts.recorded.Recorded.TheInside as recorded
 use Rattle.outbox_queue.specs.contracts.rule.InStep as InStep
-use Rattle.outbox_queue.specs.contracts.rule.InStepProtocolStampedView.TheImpl as in_step
-use Rattle.outbox_queue.specs.contracts.rule.View as View
+use Rattle.outbox_queue.specs.contracts.rule.InStepProtocolStampedOutboxView.TheImpl as in_step
+use Rattle.outbox_queue.specs.contracts.rule.OutboxView as OutboxView
 use Rattle.outbox_queue.specs.declared.owed.Owed.{Ghosts}
 
 option_send : (R : RattleType) → IsSend R → IsSend (Option.the_row R)
@@ -57,7 +57,7 @@ module _ (T H : RattleType) (owed : Ghosts H.Denot T.Denot) where
   item = Stamped.the_row T H owed
 
   abbrev view : RattleType
-  view = View.the_row T H
+  view = OutboxView.the_row T H
 
   abbrev queue : RattleType
   queue = Slotted.the_row (Option.the_row item) (Doing.the_row item view) (Turns.the_row InStep.the_row) Global.the_row (turns.ghosts item view InStep.the_row (in_step.ghosts T H owed in_step.no_dict in_step.no_dict) turns.no_dict) global.ghosts
@@ -123,4 +123,4 @@ module _ (T H : RattleType) (owed : Ghosts H.Denot T.Denot) where
 
 -- a history as its chronicle recorded it may go to other threads, whatever it is
 pub recorded_send : (T H : RattleType) → IsSend (Recorded.the_row T H)
-recorded_send T H = view_send _ _ _ _ _ (declared_send (recorded.the_type T H) (search (crosses, sendable) depth 60, (as_row_send (Token.the_field (Moment.the_row T H)) (token_send (Moment.the_row T H)), tt)))
+recorded_send T H = view_send _ _ _ _ _ (declared_send (recorded.the_type T H) (search (crosses, sendable) depth 60, (as_row_send (HistoryToken.the_field (Moment.the_row T H)) (token_send (Moment.the_row T H)), tt)))

@@ -15,7 +15,7 @@ ghost use Rattle.atomic_table.specs.Seated.{TableId};
 use crate::counted::{CountedPass, Finds};
 use crate::owed::{Owed, Stamped};
 use crate::parting::Farewell;
-use crate::rule::{Adds, Ends, InStep, Naming, Over, Settles, Takes, View, Whole};
+use crate::rule::{Adds, Ends, InStep, OutboxView, Over, QueueNaming, Settles, Takes, Whole};
 use crossbeam_queue::{Pass, RuledArrayQueue};
 use ghost_state::GhostCount;
 use std::alloc::{AllocError, Global};
@@ -24,13 +24,13 @@ use std::snapshot::Snapshot;
 use std::sync::{Arc, Wait};
 
 /// The queue itself.
-pub type Queue<T, H> = RuledArrayQueue<Stamped<T, H>, View<T, H>, InStep>;
+pub type Queue<T, H> = RuledArrayQueue<Stamped<T, H>, OutboxView<T, H>, InStep>;
 
 /// What one end knows of the queue. It takes no bytes.
-pub type Place<T, H> = Pass<Stamped<T, H>, View<T, H>>;
+pub type Place<T, H> = Pass<Stamped<T, H>, OutboxView<T, H>>;
 
 /// The same, with the end's count of finds.
-pub type CountedPlace<T, H> = CountedPass<Stamped<T, H>, View<T, H>>;
+pub type CountedPlace<T, H> = CountedPass<Stamped<T, H>, OutboxView<T, H>>;
 
 /// The end that adds. Contracts see what was added, by which history, how often the queue was found full, and how much had been
 /// added when it last was.
@@ -302,7 +302,7 @@ impl<T: Drop, H: Owed<T>> Consumer<T, H> {
 
 /// Cuts the one pass of a new queue into those of the two ends. The caller picks the connection and the
 /// chronicle.
-fn cut<T, H: Owed<T>, J: Naming>(
+fn cut<T, H: Owed<T>, J: QueueNaming>(
     queue: &Queue<T, H>,
     place: &mut Place<T, H>,
     conn: u64,

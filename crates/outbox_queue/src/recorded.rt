@@ -6,7 +6,7 @@ ghost use Rattle.outbox_queue.specs.Tied.{IsTied, history_of};
 
 use crate::drain::Drain;
 use crate::owed::Owed;
-use chronicle::{Chronicle, History, Token};
+use chronicle::{Chronicle, History, HistoryToken};
 use std::marker::{Model, PhantomData};
 use std::snapshot::Snapshot;
 
@@ -39,7 +39,7 @@ pub type Book<T, H> = Chronicle<Moment<T, H>>;
 #[derive(Drop)]
 pub struct Recorded<T, H> {
     of: Snapshot<H>,
-    token: Token<Moment<T, H>>,
+    token: HistoryToken<Moment<T, H>>,
 }
 
 impl<T, H> Model for Recorded<T, H> {

@@ -5,11 +5,9 @@ pub(crate) mod ghost_octets;
 pub(crate) mod memory;
 pub(crate) mod no_octets;
 pub(crate) mod over_io;
-pub mod testing;
 pub(crate) mod turns;
 
 pub use device::{Sink, Source};
-pub use ghost_octets::GhostOctets;
 pub use memory::{MemorySink, MemorySource};
 pub use no_octets::NoOctets;
 pub use over_io::{ReadSource, WriteSink};

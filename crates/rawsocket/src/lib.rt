@@ -1,14 +1,36 @@
 #![tactic(auto)]
 
-//! RawSocket (WAMP specification, "RawSocket Transport"): the handshake, the frames of a stream that
-//! comes in any pieces, and the devices that octets come from and go to.
+//! RawSocket (WAMP specification, "RawSocket Transport"): the handshake, the frames of a stream that comes in any
+//! pieces, and the devices that octets come from and go to.
 //!
-//! A frame's length has 24 bits here: payloads of exactly 2^24 octets, and any use of the upper five
-//! bits of a frame's first octet, are left out.
+//! A frame's length has 24 bits here: payloads of exactly 2^24 octets, and any use of the upper five bits of a frame's
+//! first octet, are left out.
 //!
-//! It stands on `ghost_state` alone. Contracts say how each handshake is answered; that the frames of a stream, and the fault behind
-//! the last one, are those that its octets spell, whatever pieces they came in; and of a device which octets it gave or took, in how
-//! many calls, and how often it failed.
+//! ```
+//! // as in cases_codecs/src/handshakes.rt: a client's first four octets
+//! [first, second, third, fourth] => told(alloc, answer([*first, *second, *third, *fourth])),
+//! // as in cases_codecs/src/frames.rt: a frame behind what was written
+//! match write_frame(alloc, kind, payload, &mut self.out) {
+//!     Ok(()) => Ok(String::new(alloc)),
+//!     Err(fault) => Ok(format!(in alloc; "{fault}\n")?),
+//! }
+//! // A piece of a stream. Where memory was refused nothing has changed, so it may be fed again.
+//! match deframer.feed(alloc, piece) {
+//!     Err(Fault::NoMemory) => deframer.feed(alloc, piece),
+//!     fed => fed,
+//! }
+//! // What a piece completes:
+//! Ok(fed) => {
+//!     frames(text, &fed.frames)?;
+//!     tell_fault(text, fed.fault)
+//! }
+//! // as in cases_codecs/src/sending.rt: all octets to a device
+//! write_all(sink, ALL, &mut Turns::new())
+//! ```
+//!
+//! Contracts say how each handshake is answered; that the frames of a stream, and the fault behind the last one, are
+//! those that its octets spell, whatever pieces they came in; and of a device which octets it gave or took, in how many
+//! calls, and how often it failed.
 mod deframer;
 pub mod devices;
 mod fault;
@@ -18,7 +40,6 @@ pub mod laws;
 
 pub use deframer::{Deframer, Fed, next_frame};
 pub use devices::device::{Sink, Source};
-pub use devices::ghost_octets::GhostOctets;
 pub use devices::memory::{MemorySink, MemorySource};
 pub use devices::no_octets::NoOctets;
 pub use devices::over_io::{ReadSource, WriteSink};

@@ -4,7 +4,7 @@ use Rattle.std.specs.List.{filter}
 use Rattle.std.proofs.lemmas.Bool.{eq-eqb}
 use Rattle.wamp_ids.proofs.Lemmas.{same_pattern-true}
 use Rattle.wamp_ids.specs.Pattern.{PatternText, same_pattern}
-use Rattle.session.specs.declared.messages.item.Item.{Item}
+use Rattle.wamp_messages.specs.declared.item.Item.{Item}
 use Rattle.realm.specs.History.{History}
 use Rattle.realm.specs.Subscriptions.{holds, opened, held, number, number_among, numbered}
 use Rattle.realm.specs.Laws.{IsAmong}

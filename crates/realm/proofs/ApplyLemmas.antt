@@ -5,8 +5,8 @@ use Rattle.std.specs.declared.option.Option.{Option}
 use Rattle.std.specs.declared.result.Result.{Result}
 use Rattle.std.specs.List.{filter}
 use Rattle.std.proofs.lemmas.Bool.{eqb-true}
-use Rattle.request_options.specs.declared.publish_options.PublishOptions.{PublishOptions}
-use Rattle.request_options.specs.declared.subscribe_options.SubscribeOptions.{SubscribeOptions}
+use Rattle.wamp_messages.specs.declared.publish_options.PublishOptions.{PublishOptions}
+use Rattle.wamp_messages.specs.declared.subscribe_options.SubscribeOptions.{SubscribeOptions}
 use Rattle.wamp_ids.specs.Numbers.{id_of_word}
 use Rattle.wamp_ids.specs.Pattern.{PatternText, matches}
 use Rattle.subscription_index.specs.Index.{Held, IsIndex, holds_number as is_held, subscribed as answered}
@@ -14,15 +14,15 @@ use Rattle.subscription_index.specs.Members.{has_row, rows_of}
 use Rattle.retained.specs.Store.{retained_of, has_room, may_be_retained, set_topic}
 use Rattle.retained.proofs.Lemmas.{retained-more, has_room-retained}
 use Rattle.eligibility.specs.declared.who.Who.{Who}
-use Rattle.session.specs.Arguments.{Arguments}
-use Rattle.session.specs.declared.messages.said.Said.TheVariants.{Hello, Publish, Subscribe, Unsubscribe}
-use Rattle.session.specs.declared.messages.said.Said.TheVariants as say
-use Rattle.session.specs.declared.messages.item.Publication.{Publication}
-use Rattle.session.specs.declared.messages.item.Item.{Item}
-use Rattle.session.specs.declared.messages.item.Item.TheVariants.{Welcome, Abort, Goodbye, Error, Published, Subscribed, Pong}
-use Rattle.session.specs.declared.messages.item.Request.TheVariants as kind
-use Rattle.session.specs.declared.messages.item.Reason.{Reason}
-use Rattle.session.specs.declared.messages.item.Reason.TheVariants.{ProtocolViolation, GoodbyeAndOut, SystemShutdown, TooManySubscriptions}
+use Rattle.wamp_messages.specs.Arguments.{Arguments}
+use Rattle.wamp_messages.specs.declared.said.Said.TheVariants.{Hello, Publish, Subscribe, Unsubscribe}
+use Rattle.wamp_messages.specs.declared.said.Said.TheVariants as say
+use Rattle.wamp_messages.specs.declared.item.Publication.{Publication}
+use Rattle.wamp_messages.specs.declared.item.Item.{Item}
+use Rattle.wamp_messages.specs.declared.item.Item.TheVariants.{Welcome, Abort, Goodbye, Error, Published, Subscribed, Pong}
+use Rattle.wamp_messages.specs.declared.item.Request.TheVariants as kind
+use Rattle.wamp_messages.specs.declared.item.Reason.{Reason}
+use Rattle.wamp_messages.specs.declared.item.Reason.TheVariants.{ProtocolViolation, GoodbyeAndOut, SystemShutdown, TooManySubscriptions}
 use Rattle.realm.specs.declared.entry.Entry.{Entry}
 use Rattle.realm.specs.declared.entry.Entry.TheVariants.{Join, Said, Ping, Spoilt, Gone, Cut, Closed}
 use Rattle.realm.specs.declared.state.State.{State}

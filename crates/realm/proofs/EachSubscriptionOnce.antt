@@ -6,11 +6,11 @@ use Rattle.std.specs.List.{filter}
 use Rattle.wamp_ids.specs.Pattern.{PatternText, matches}
 use Rattle.subscription_index.specs.Members.{AscendsByNumber, IsBelowAll as IsBelowNamed}
 use Rattle.eligibility.specs.declared.who.Who.{Who}
-use Rattle.session.specs.declared.messages.said.Said.TheVariants.{Subscribe}
-use Rattle.session.specs.declared.messages.item.Publication.{Publication}
-use Rattle.session.specs.declared.messages.item.Item.{Item}
-use Rattle.session.specs.declared.messages.item.Item.TheVariants.{Event}
-use Rattle.session.specs.declared.messages.item.Reason.{Reason}
+use Rattle.wamp_messages.specs.declared.said.Said.TheVariants.{Subscribe}
+use Rattle.wamp_messages.specs.declared.item.Publication.{Publication}
+use Rattle.wamp_messages.specs.declared.item.Item.{Item}
+use Rattle.wamp_messages.specs.declared.item.Item.TheVariants.{Event}
+use Rattle.wamp_messages.specs.declared.item.Reason.{Reason}
 use Rattle.realm.specs.declared.entry.Entry.{Entry}
 use Rattle.realm.specs.declared.entry.Entry.TheVariants.{Said}
 use Rattle.realm.specs.History.{History, ◌▷◌}

@@ -9,9 +9,9 @@ use Rattle.subscription_index.specs.Index.{Row, IsStrictlyAscending, IsBeforeAll
 use Rattle.subscription_index.specs.Members.{has_row, same_row, rows_of}
 use Rattle.subscription_index.proofs.Lemmas.{pattern_of-has_row, same_row_self, ascending-filter}
 use Rattle.eligibility.specs.declared.who.Who.{Who}
-use Rattle.session.specs.declared.messages.item.Publication.{Publication}
-use Rattle.session.specs.declared.messages.item.Item.{Item}
-use Rattle.session.specs.declared.messages.item.Item.TheVariants.{Event}
+use Rattle.wamp_messages.specs.declared.item.Publication.{Publication}
+use Rattle.wamp_messages.specs.declared.item.Item.{Item}
+use Rattle.wamp_messages.specs.declared.item.Item.TheVariants.{Event}
 use Rattle.realm.specs.Yield.{events_of, names_topic, admits_who}
 use Rattle.realm.specs.body.LiveSessions.{session_of}
 use Rattle.realm.specs.Given.{items_for, StartsAbove, IsAscending, GivesEach}

@@ -13,9 +13,9 @@ use Rattle.subscription_index.specs.Receiver.{receiver_at, receivers}
 use Rattle.subscription_index.proofs.Lemmas.{same_row_self}
 use Rattle.eligibility.specs.Lists.{admits as eligible}
 use Rattle.eligibility.specs.declared.who.Who.{Who}
-use Rattle.session.specs.declared.messages.said.Said.TheVariants.{Subscribe, Unsubscribe}
-use Rattle.session.specs.declared.messages.item.Publication.{Publication}
-use Rattle.session.specs.declared.messages.item.Item.{Item}
+use Rattle.wamp_messages.specs.declared.said.Said.TheVariants.{Subscribe, Unsubscribe}
+use Rattle.wamp_messages.specs.declared.item.Publication.{Publication}
+use Rattle.wamp_messages.specs.declared.item.Item.{Item}
 use Rattle.realm.specs.declared.entry.Entry.TheVariants.{Join, Said}
 use Rattle.realm.specs.declared.state.State.{State}
 use Rattle.realm.specs.History.{History, begun, ◌▷◌}

@@ -3,16 +3,16 @@ use Rattle.std.proofs.Common.{◌≡◌, ℕ, Bool, true, false, cond, eqb, List
 use Rattle.std.specs.declared.result.Result.{Result}
 use Rattle.std.specs.Result.{result_ok}
 use Rattle.std.specs.List.{filter}
-use Rattle.request_options.specs.declared.publish_options.PublishOptions.{PublishOptions}
+use Rattle.wamp_messages.specs.declared.publish_options.PublishOptions.{PublishOptions}
 use Rattle.wamp_ids.specs.Pattern.{PatternText, matches}
 use Rattle.retained.specs.Store.{last_of_each, by_topic, put_by_topic, is_before}
 use Rattle.retained.proofs.Lemmas.{last_alone}
-use Rattle.session.specs.Arguments.{Arguments}
-use Rattle.session.specs.declared.messages.said.Said.TheVariants.{Publish}
-use Rattle.session.specs.declared.messages.item.Publication.{Publication}
-use Rattle.session.specs.declared.messages.item.Item.{Item}
-use Rattle.session.specs.declared.messages.item.Item.TheVariants.{Event}
-use Rattle.session.specs.declared.messages.item.Reason.{Reason}
+use Rattle.wamp_messages.specs.Arguments.{Arguments}
+use Rattle.wamp_messages.specs.declared.said.Said.TheVariants.{Publish}
+use Rattle.wamp_messages.specs.declared.item.Publication.{Publication}
+use Rattle.wamp_messages.specs.declared.item.Item.{Item}
+use Rattle.wamp_messages.specs.declared.item.Item.TheVariants.{Event}
+use Rattle.wamp_messages.specs.declared.item.Reason.{Reason}
 use Rattle.realm.specs.declared.entry.Entry.{Entry}
 use Rattle.realm.specs.declared.entry.Entry.TheVariants.{Said}
 use Rattle.realm.specs.History.{History, begun, ◌▷◌, same, longer}

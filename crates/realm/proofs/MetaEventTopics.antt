@@ -6,8 +6,8 @@ use Rattle.subscription_index.specs.declared.receiver.Receiver.{Receiver}
 use Rattle.subscription_index.specs.Index.{Row}
 use Rattle.subscription_index.specs.Receiver.{receivers}
 use Rattle.eligibility.specs.declared.who.Who.{Who}
-use Rattle.session.specs.declared.messages.item.Publication.{Publication}
-use Rattle.session.specs.declared.messages.item.Item.{Item}
+use Rattle.wamp_messages.specs.declared.item.Publication.{Publication}
+use Rattle.wamp_messages.specs.declared.item.Item.{Item}
 use Rattle.realm.specs.body.Outputs.{events_to, all_events}
 
 pub on_join-topic : is_topic (codes "wamp.session.on_join") ≡ true

@@ -8,8 +8,8 @@ use Rattle.wamp_ids.specs.Numbers.{seat_of}
 use Rattle.wamp_ids.specs.Pattern.{PatternText}
 use Rattle.realm.specs.declared.entry.Entry.{Entry}
 use Rattle.realm.specs.declared.entry.Entry.TheVariants.{Join, Said, Ping, Spoilt, Gone, Cut, Closed}
-use Rattle.session.specs.declared.messages.said.Said.TheVariants.{Subscribe}
-use Rattle.session.specs.declared.messages.item.Publication.{Publication}
+use Rattle.wamp_messages.specs.declared.said.Said.TheVariants.{Subscribe}
+use Rattle.wamp_messages.specs.declared.item.Publication.{Publication}
 use Rattle.realm.specs.History.{History, ◌▷◌, Begins, same, longer}
 use Rattle.realm.specs.Sessions.{who, live, ends, joined, conn_of, may_join, may_come, IsHistory, is_last_word}
 use Rattle.realm.specs.Subscriptions.{held}

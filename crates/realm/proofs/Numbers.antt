@@ -6,8 +6,8 @@ use Rattle.std.proofs.lemmas.Bool.{and_parts, or_cases}
 use Rattle.wamp_ids.proofs.Lemmas.{same_pattern-refl, same_pattern-true}
 use Rattle.wamp_ids.specs.Pattern.{PatternText, same_pattern}
 use Rattle.realm.specs.declared.entry.Entry.TheVariants.{Said}
-use Rattle.session.specs.declared.messages.said.Said.TheVariants.{Subscribe, Unsubscribe}
-use Rattle.session.specs.declared.messages.item.Reason.{Reason}
+use Rattle.wamp_messages.specs.declared.said.Said.TheVariants.{Subscribe, Unsubscribe}
+use Rattle.wamp_messages.specs.declared.item.Reason.{Reason}
 use Rattle.realm.specs.History.{History, begun, ◌▷◌}
 use Rattle.realm.specs.Sessions.{joined, ends}
 use Rattle.realm.specs.Subscriptions.{holds, opened, number, number_among, if_new, is_of, subscribed}

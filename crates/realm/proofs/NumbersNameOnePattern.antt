@@ -8,7 +8,7 @@ use Rattle.wamp_ids.proofs.Lemmas.{same_pattern-true}
 use Rattle.wamp_ids.specs.Pattern.{PatternText, same_pattern}
 use Rattle.realm.specs.declared.entry.Entry.{Entry}
 use Rattle.realm.specs.declared.entry.Entry.TheVariants.{Said}
-use Rattle.session.specs.declared.messages.said.Said.TheVariants.{Subscribe}
+use Rattle.wamp_messages.specs.declared.said.Said.TheVariants.{Subscribe}
 use Rattle.realm.specs.History.{History, ◌▷◌, Begins, same, longer}
 use Rattle.realm.specs.Sessions.{joined}
 use Rattle.realm.specs.Subscriptions.{holds, opened, number, number_among, if_new, subscribed}

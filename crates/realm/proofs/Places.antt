@@ -1,6 +1,6 @@
 -- Where an item goes among what is given.
 use Rattle.std.proofs.Common.{◌≡◌, ℕ, List, ◌++◌, take, drop}
-use Rattle.session.specs.declared.messages.item.Item.{Item}
+use Rattle.wamp_messages.specs.declared.item.Item.{Item}
 use Rattle.realm.specs.body.Outputs.{put_before}
 
 -- the first i are for connections below c

@@ -10,7 +10,7 @@ use Rattle.wamp_ids.specs.Numbers.{seat_of, id_of_word}
 use Rattle.subscription_index.proofs.Lemmas.{has_row-left, left_over}
 use Rattle.retained.specs.Store.{retained_of}
 use Rattle.eligibility.specs.declared.who.Who.{Who}
-use Rattle.session.specs.declared.messages.item.Reason.{Reason}
+use Rattle.wamp_messages.specs.declared.item.Reason.{Reason}
 use Rattle.realm.specs.declared.entry.Entry.{Entry}
 use Rattle.realm.specs.declared.entry.Entry.TheVariants.{Join}
 use Rattle.realm.specs.declared.state.State.{State}

@@ -6,9 +6,9 @@ use Rattle.std.specs.Result.{result_ok}
 use Rattle.std.proofs.lemmas.Bool.{eqb-true, and_parts}
 use Rattle.message_tree.specs.Data.{Items}
 use Rattle.eligibility.specs.declared.who.Who.{Who}
-use Rattle.session.specs.declared.messages.said.Said.TheVariants.{Hello, Abort, Goodbye, Publish, Subscribe, Unsubscribe}
-use Rattle.session.specs.declared.messages.item.Reason.{Reason}
-use Rattle.session.specs.declared.messages.item.Item.TheVariants.{Event}
+use Rattle.wamp_messages.specs.declared.said.Said.TheVariants.{Hello, Abort, Goodbye, Publish, Subscribe, Unsubscribe}
+use Rattle.wamp_messages.specs.declared.item.Reason.{Reason}
+use Rattle.wamp_messages.specs.declared.item.Item.TheVariants.{Event}
 use Rattle.realm.specs.declared.entry.Entry.{Entry}
 use Rattle.realm.specs.declared.entry.Entry.TheVariants.{Join, Said, Ping, Spoilt, Gone, Cut, Closed}
 use Rattle.realm.specs.History.{History}

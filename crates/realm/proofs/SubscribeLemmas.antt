@@ -3,14 +3,14 @@ use Rattle.std.proofs.Common.{◌≡◌, ℕ, suc, ◌+◌, ◌<◌, Bool, true,
 use Rattle.std.specs.declared.option.Option.{Option}
 use Rattle.std.specs.List.{list_any}
 use Rattle.std.proofs.lemmas.Bool.{eqb-true, eq-eqb, ltb-true, and_parts, false_from_ne_true}
-use Rattle.request_options.specs.declared.subscribe_options.SubscribeOptions.{SubscribeOptions}
+use Rattle.wamp_messages.specs.declared.subscribe_options.SubscribeOptions.{SubscribeOptions}
 use Rattle.wamp_ids.proofs.Lemmas.{same_pattern-refl, same_pattern-true}
 use Rattle.wamp_ids.specs.Pattern.{PatternText, same_pattern}
 use Rattle.subscription_index.specs.Index.{Held, IsIndex, number_held, number_of, count_of, insert_row, subscribed_by, joined_or_opened, subscribed as answered}
 use Rattle.subscription_index.specs.Members.{has_row, rows_of}
 use Rattle.subscription_index.proofs.Lemmas.{has_row-insert, has_row-number_held, has_row-not_held, has_row-number_of, has_row-no_number, length-rows_of, joined as joins, opened_anew}
-use Rattle.session.specs.declared.messages.said.Said.TheVariants.{Subscribe}
-use Rattle.session.specs.declared.messages.item.Reason.{Reason}
+use Rattle.wamp_messages.specs.declared.said.Said.TheVariants.{Subscribe}
+use Rattle.wamp_messages.specs.declared.item.Reason.{Reason}
 use Rattle.realm.specs.declared.entry.Entry.TheVariants.{Said}
 use Rattle.realm.specs.declared.state.State.{State}
 use Rattle.realm.specs.History.{History, ◌▷◌}

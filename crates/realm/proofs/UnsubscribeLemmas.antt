@@ -6,7 +6,7 @@ use Rattle.wamp_ids.specs.Pattern.{PatternText}
 use Rattle.subscription_index.specs.Index.{Held, Row, IsIndex, without, holds_number as is_held}
 use Rattle.subscription_index.specs.Members.{has_row, rows_of}
 use Rattle.subscription_index.proofs.Lemmas.{has_row-left, has_row-holds_no_number, left_over}
-use Rattle.session.specs.declared.messages.said.Said.TheVariants.{Unsubscribe}
+use Rattle.wamp_messages.specs.declared.said.Said.TheVariants.{Unsubscribe}
 use Rattle.realm.specs.declared.entry.Entry.TheVariants.{Said}
 use Rattle.realm.specs.History.{History, ◌▷◌}
 use Rattle.realm.specs.Subscriptions.{holds, opened, number_among, number, holds_number}

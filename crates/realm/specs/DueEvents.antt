@@ -1,11 +1,11 @@
 -- The EVENTs that an entry owes each session: all that are due are given, once, and no other.
 use Rattle.std.specs.Prelude.{ℕ, Bool, true, false, ◌≡◌, ◌⊎◌, List, ◌∷◌, ◌++◌, Some, Ok}
-use Rattle.request_options.specs.declared.subscribe_options.SubscribeOptions.{SubscribeOptions}
+use Rattle.wamp_messages.specs.declared.subscribe_options.SubscribeOptions.{SubscribeOptions}
 use Rattle.wamp_ids.specs.Pattern.{PatternText, matches}
-use Rattle.session.specs.declared.messages.said.Said.TheVariants.{Subscribe}
-use Rattle.session.specs.declared.messages.item.Publication.{Publication}
-use Rattle.session.specs.declared.messages.item.Item.{Item}
-use Rattle.session.specs.declared.messages.item.Item.TheVariants.{Event}
+use Rattle.wamp_messages.specs.declared.said.Said.TheVariants.{Subscribe}
+use Rattle.wamp_messages.specs.declared.item.Publication.{Publication}
+use Rattle.wamp_messages.specs.declared.item.Item.{Item}
+use Rattle.wamp_messages.specs.declared.item.Item.TheVariants.{Event}
 use Rattle.realm.specs.declared.entry.Entry.{Entry}
 use Rattle.realm.specs.declared.entry.Entry.TheVariants.{Said}
 use Rattle.realm.specs.History.{History, ◌▷◌}

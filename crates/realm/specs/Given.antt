@@ -1,7 +1,7 @@
 -- What an entry gave, connection by connection.
 use Rattle.std.specs.Prelude.{ℕ, cond, ◌==◌, ◌≡◌, ◌≤◌, ⊤, List, [], ◌∷◌}
 use Rattle.realm.specs.declared.entry.Entry.{Entry}
-use Rattle.session.specs.declared.messages.item.Item.{Item}
+use Rattle.wamp_messages.specs.declared.item.Item.{Item}
 use Rattle.realm.specs.History.{History}
 use Rattle.realm.specs.Yield.{yield}
 

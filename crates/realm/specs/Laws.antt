@@ -1,7 +1,7 @@
 -- What holds of every history.
 use Rattle.std.specs.Prelude.{ℕ, ℤ, Bool, true, false, ◌==◌, ◌&&◌, ◌≡◌, ◌≢◌, ◌≤◌, ◌<◌, ⊤, ◌⊎◌, take, List, [], ◌∷◌, ◌++◌, None, Some, Ok, option_map}
 use Rattle.std.specs.List.{list_any}
-use Rattle.request_options.specs.declared.publish_options.PublishOptions.{PublishOptions}
+use Rattle.wamp_messages.specs.declared.publish_options.PublishOptions.{PublishOptions}
 use Rattle.wamp_ids.specs.Numbers.{id_of_word}
 use Rattle.wamp_ids.specs.Pattern.{PatternText, matches}
 use Rattle.wamp_ids.specs.Uri.{is_reserved}
@@ -10,11 +10,11 @@ use Rattle.eligibility.specs.Lists.{has_number}
 use Rattle.retained.specs.Store.{of_topic}
 use Rattle.realm.specs.declared.entry.Entry.{Entry}
 use Rattle.realm.specs.declared.entry.Entry.TheVariants.{Said}
-use Rattle.session.specs.Arguments.{Arguments}
-use Rattle.session.specs.declared.messages.said.Said.TheVariants as say
-use Rattle.session.specs.declared.messages.item.Publication.{Publication}
-use Rattle.session.specs.declared.messages.item.Item.{Item}
-use Rattle.session.specs.declared.messages.item.Item.TheVariants.{Welcome, Abort, Goodbye, Error, Published, Subscribed, Unsubscribed, Event, Pong}
+use Rattle.wamp_messages.specs.Arguments.{Arguments}
+use Rattle.wamp_messages.specs.declared.said.Said.TheVariants as say
+use Rattle.wamp_messages.specs.declared.item.Publication.{Publication}
+use Rattle.wamp_messages.specs.declared.item.Item.{Item}
+use Rattle.wamp_messages.specs.declared.item.Item.TheVariants.{Welcome, Abort, Goodbye, Error, Published, Subscribed, Unsubscribed, Event, Pong}
 use Rattle.realm.specs.History.{History, ◌▷◌, Begins}
 use Rattle.realm.specs.Sessions.{who, live, ends, IsHistory}
 use Rattle.realm.specs.Words.{draws_word, word_of}

@@ -5,8 +5,8 @@ use Rattle.message_tree.specs.Data.{whole, text, list, dict, Items, no_items, it
 use Rattle.wamp_ids.specs.Numbers.{id_of_word}
 use Rattle.eligibility.specs.Lists.{everyone}
 use Rattle.eligibility.specs.declared.who.Who.{Who}
-use Rattle.session.specs.Arguments.{Arguments}
-use Rattle.session.specs.declared.messages.item.Publication.{Publication}
+use Rattle.wamp_messages.specs.Arguments.{Arguments}
+use Rattle.wamp_messages.specs.declared.item.Publication.{Publication}
 
 -- arguments that are a list alone
 abbrev pub listed : Items → Arguments

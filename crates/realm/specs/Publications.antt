@@ -3,16 +3,16 @@
 use Rattle.std.specs.Prelude.{ℕ, Bool, cond, not, ◌&&◌, ◌||◌, List, [], ◌∷◌, ◌++◌, None, Some, Ok, Err}
 use Rattle.std.specs.declared.option.Option.{Option}
 use Rattle.std.specs.declared.result.Result.{Result}
-use Rattle.request_options.specs.declared.publish_options.PublishOptions.{PublishOptions}
+use Rattle.wamp_messages.specs.declared.publish_options.PublishOptions.{PublishOptions}
 use Rattle.wamp_ids.specs.Numbers.{id_of_word}
 use Rattle.wamp_ids.specs.Uri.{is_topic, is_reserved}
 use Rattle.eligibility.specs.declared.who.Who.{Who}
 use Rattle.eligibility.specs.Lists.{Audience, admits as eligible}
-use Rattle.session.specs.Arguments.{Arguments, is_all_carried}
-use Rattle.session.specs.declared.messages.said.Said.TheVariants.{Publish}
-use Rattle.session.specs.declared.messages.item.Publication.{Publication}
-use Rattle.session.specs.declared.messages.item.Reason.{Reason}
-use Rattle.session.specs.declared.messages.item.Reason.TheVariants.{InvalidArgument, InvalidUri, RetainedFull}
+use Rattle.wamp_messages.specs.Arguments.{Arguments, is_all_carried}
+use Rattle.wamp_messages.specs.declared.said.Said.TheVariants.{Publish}
+use Rattle.wamp_messages.specs.declared.item.Publication.{Publication}
+use Rattle.wamp_messages.specs.declared.item.Reason.{Reason}
+use Rattle.wamp_messages.specs.declared.item.Reason.TheVariants.{InvalidArgument, InvalidUri, RetainedFull}
 use Rattle.retained.specs.Store.{retained_of, is_full, may_be_retained}
 use Rattle.realm.specs.declared.accepted_options.AcceptedOptions.{AcceptedOptions}
 use Rattle.realm.specs.declared.entry.Entry.TheVariants.{Said}

@@ -2,9 +2,9 @@
 -- (WAMP, "Ordering Guarantees for Publish & Subscribe".)
 use Rattle.std.specs.Prelude.{ℕ, false, cond, ◌==◌, ◌≡◌, List, [], ◌∷◌, ◌++◌, Some}
 use Rattle.std.specs.Option.{option_to_list}
-use Rattle.session.specs.declared.messages.item.Publication.{Publication}
-use Rattle.session.specs.declared.messages.item.Item.{Item}
-use Rattle.session.specs.declared.messages.item.Item.TheVariants.{Event}
+use Rattle.wamp_messages.specs.declared.item.Publication.{Publication}
+use Rattle.wamp_messages.specs.declared.item.Item.{Item}
+use Rattle.wamp_messages.specs.declared.item.Item.TheVariants.{Event}
 use Rattle.realm.specs.declared.entry.Entry.{Entry}
 use Rattle.realm.specs.History.{History, begun, ◌▷◌}
 use Rattle.realm.specs.Sessions.{conn_of}

@@ -7,11 +7,11 @@ use Rattle.std.specs.List.{list_any, list_all}
 use Rattle.wamp_ids.specs.Numbers.{id_of_word, seat_of}
 use Rattle.realm.specs.declared.entry.Entry.{Entry}
 use Rattle.realm.specs.declared.entry.Entry.TheVariants.{Join, Said, Ping, Spoilt, Gone, Cut, Closed}
-use Rattle.session.specs.declared.messages.said.Said as spoken
-use Rattle.session.specs.declared.messages.said.Said.TheVariants.{Hello, Abort, Goodbye, Publish, Subscribe, Unsubscribe}
+use Rattle.wamp_messages.specs.declared.said.Said as spoken
+use Rattle.wamp_messages.specs.declared.said.Said.TheVariants.{Hello, Abort, Goodbye, Publish, Subscribe, Unsubscribe}
 use Rattle.eligibility.specs.declared.who.Who.{Who}
-use Rattle.session.specs.declared.messages.item.Reason.{Reason}
-use Rattle.session.specs.declared.messages.item.Reason.TheVariants.{NotAuthorized, SessionIdTaken}
+use Rattle.wamp_messages.specs.declared.item.Reason.{Reason}
+use Rattle.wamp_messages.specs.declared.item.Reason.TheVariants.{NotAuthorized, SessionIdTaken}
 use Rattle.realm.specs.Grants.{Grants, role_in}
 use Rattle.realm.specs.History.{History, begun, ◌▷◌, grants_of}
 

@@ -3,13 +3,13 @@ use Rattle.std.specs.Prelude.{ℕ, Bool, false, cond, not, ◌==◌, ◌&&◌, �
 use Rattle.std.specs.declared.option.Option.{Option}
 use Rattle.std.specs.declared.result.Result.{Result}
 use Rattle.std.specs.List.{list_any, filter}
-use Rattle.request_options.specs.declared.subscribe_options.SubscribeOptions.{SubscribeOptions}
+use Rattle.wamp_messages.specs.declared.subscribe_options.SubscribeOptions.{SubscribeOptions}
 use Rattle.wamp_ids.specs.Pattern.{PatternText, is_pattern, same_pattern}
 use Rattle.wamp_ids.specs.declared.pattern.Policy.{Policy}
 use Rattle.realm.specs.declared.entry.Entry.TheVariants.{Said}
-use Rattle.session.specs.declared.messages.said.Said.TheVariants.{Subscribe, Unsubscribe}
-use Rattle.session.specs.declared.messages.item.Reason.{Reason}
-use Rattle.session.specs.declared.messages.item.Reason.TheVariants.{InvalidArgument, InvalidUri, TooManySubscriptions}
+use Rattle.wamp_messages.specs.declared.said.Said.TheVariants.{Subscribe, Unsubscribe}
+use Rattle.wamp_messages.specs.declared.item.Reason.{Reason}
+use Rattle.wamp_messages.specs.declared.item.Reason.TheVariants.{InvalidArgument, InvalidUri, TooManySubscriptions}
 use Rattle.realm.specs.History.{History, begun, ◌▷◌}
 use Rattle.realm.specs.Sessions.{joined, ends}
 

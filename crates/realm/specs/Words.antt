@@ -1,8 +1,8 @@
 -- Which entries draw a word: those that may publish something.
 use Rattle.std.specs.Prelude.{ℕ, Bool, true, false, not, ◌||◌, is_some, None, Some}
 use Rattle.std.specs.declared.option.Option.{Option}
-use Rattle.session.specs.declared.messages.said.Said as spoken
-use Rattle.session.specs.declared.messages.said.Said.TheVariants.{Hello, Abort, Goodbye, Publish, Subscribe, Unsubscribe}
+use Rattle.wamp_messages.specs.declared.said.Said as spoken
+use Rattle.wamp_messages.specs.declared.said.Said.TheVariants.{Hello, Abort, Goodbye, Publish, Subscribe, Unsubscribe}
 use Rattle.realm.specs.declared.entry.Entry.{Entry}
 use Rattle.realm.specs.declared.entry.Entry.TheVariants.{Join, Said, Ping, Spoilt, Gone, Cut, Closed}
 use Rattle.realm.specs.Sessions.{is_last_word}

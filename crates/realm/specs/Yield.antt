@@ -8,15 +8,15 @@ use Rattle.wamp_ids.specs.Pattern.{PatternText, matches}
 pub use Rattle.subscription_index.specs.Receiver.{names_topic}
 use Rattle.realm.specs.declared.entry.Entry.{Entry}
 use Rattle.realm.specs.declared.entry.Entry.TheVariants.{Join, Said, Ping, Spoilt, Gone, Cut, Closed}
-use Rattle.session.specs.declared.messages.said.Said.TheVariants.{Hello, Publish, Subscribe, Unsubscribe}
-use Rattle.session.specs.declared.messages.said.Said.TheVariants as say
+use Rattle.wamp_messages.specs.declared.said.Said.TheVariants.{Hello, Publish, Subscribe, Unsubscribe}
+use Rattle.wamp_messages.specs.declared.said.Said.TheVariants as say
 use Rattle.eligibility.specs.declared.who.Who.{Who}
-use Rattle.session.specs.declared.messages.item.Publication.{Publication}
-use Rattle.session.specs.declared.messages.item.Item.{Item}
-use Rattle.session.specs.declared.messages.item.Item.TheVariants.{Welcome, Abort, Goodbye, Error, Published, Subscribed, Unsubscribed, Event, Pong}
-use Rattle.session.specs.declared.messages.item.Request.TheVariants as kind
-use Rattle.session.specs.declared.messages.item.Reason.{Reason}
-use Rattle.session.specs.declared.messages.item.Reason.TheVariants.{ProtocolViolation, GoodbyeAndOut, NoSuchSubscription, SystemShutdown}
+use Rattle.wamp_messages.specs.declared.item.Publication.{Publication}
+use Rattle.wamp_messages.specs.declared.item.Item.{Item}
+use Rattle.wamp_messages.specs.declared.item.Item.TheVariants.{Welcome, Abort, Goodbye, Error, Published, Subscribed, Unsubscribed, Event, Pong}
+use Rattle.wamp_messages.specs.declared.item.Request.TheVariants as kind
+use Rattle.wamp_messages.specs.declared.item.Reason.{Reason}
+use Rattle.wamp_messages.specs.declared.item.Reason.TheVariants.{ProtocolViolation, GoodbyeAndOut, NoSuchSubscription, SystemShutdown}
 use Rattle.realm.specs.History.{History, begun, ◌▷◌}
 use Rattle.realm.specs.Sessions.{who, conn_of, admission}
 use Rattle.realm.specs.Subscriptions.{held, number, subscribed, holds_number}

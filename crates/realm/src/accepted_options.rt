@@ -2,7 +2,7 @@
 ghost use Rattle.std.specs.Prelude.{◌≡◌};
 ghost use Rattle.realm.specs.Publications.{accepted_options_of};
 
-use session::{Lists, PublishOptions};
+use wamp_messages::{Lists, PublishOptions};
 
 /// What well-formed options of a PUBLISH ask for, but an answer.
 #[derive(Drop)]

@@ -14,9 +14,9 @@ use crate::meta_events::departure_events;
 use crate::publications::{PublishRequest, publish};
 use crate::state::State;
 use crate::subscriptions::{SubscribeRequest, subscribe, unsubscribe};
-use session::{Item, Reason, Said};
 use std::alloc::Global;
 use wamp_ids::Conn;
+use wamp_messages::{Item, Reason, Said};
 
 /// Ends the session of the connection.
 fn end(state: &mut State, conn: Conn)

@@ -4,8 +4,8 @@ ghost use Rattle.realm.specs.Sessions.{conn_of};
 ghost use Rattle.realm.specs.Words.{draws_word, is_silent, says_with_word};
 
 use message_tree::{Octets, Text};
-use session::{Said, SaidKind};
 use wamp_ids::Conn;
+use wamp_messages::{Said, SaidKind};
 
 /// What happens to a realm: one entry of its history.
 #[derive(Drop)]

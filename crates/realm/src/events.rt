@@ -4,7 +4,7 @@ ghost use Rattle.std.specs.Vec.{vec_capacity};
 ghost use Rattle.std.specs.List.{insert};
 ghost use Rattle.subscription_index.specs.Receiver.{receivers};
 ghost use Rattle.eligibility.specs.Lists.{has_no_lists};
-ghost use Rattle.session.specs.declared.messages.item.Item.{Item};
+ghost use Rattle.wamp_messages.specs.declared.item.Item.{Item};
 ghost use Rattle.realm.specs.Yield.{names_topic};
 ghost use Rattle.realm.specs.Publications.{admits};
 ghost use Rattle.realm.specs.Yield.{admits_who};
@@ -14,10 +14,10 @@ ghost use Rattle.realm.specs.body.Outputs.{all_for, event_for, events_to, put_be
 use crate::fault::Fault;
 use crate::sessions::Sessions;
 use message_tree::Shared;
-use session::{Item, Publication, Who};
 use std::alloc::Global;
 use subscription_index::{Index, Receiver, Receivers};
 use wamp_ids::{Conn, Policy, Topic};
+use wamp_messages::{Item, Publication, Who};
 
 /// What an entry gives: for each item the connection that it is for.
 pub type Given = Vec<(Conn, Item)>;

@@ -11,9 +11,9 @@ use crate::grants::Grants;
 use crate::meta_events::arrival_events;
 use crate::state::State;
 use message_tree::{Shared, Text};
-use session::{Item, Reason, Who};
 use std::alloc::Global;
 use wamp_ids::{Conn, Id};
+use wamp_messages::{Item, Reason, Who};
 
 /// The authid and the role of a session that asked for none.
 const ANONYMOUS: &str = "anonymous";

@@ -2,9 +2,27 @@
 //!
 //! The model stands in `specs/` and looks back over the history; [`Realm`] is a body that meets it.
 //!
-//! It stands on `session`, `eligibility`, `subscription_index` and `retained`. Contracts say that what [`Realm::apply`] gives is, session
-//! by session and in order, what the history says; [`laws`] says what follows of every history. Of the posts that entered, and in
-//! which order, `specs/PostedOrder` speaks: the crates above show it of their own schedules.
+//! ```
+//! // as in cases_actor/src/expecting.rt
+//! match Realm::new(alloc, RealmConfig { name, grants }) {
+//!     Ok(realm) => Ok(realm),
+//!     Err(_) => Err(AllocError)?,
+//! }
+//! // Only an entry that may come is applied.
+//! if !self.realm.may_come(&entry) {
+//!     return Ok(Vec::new(alloc));
+//! }
+//! match self.realm.apply(alloc, entry) {
+//!     Ok(given) => Ok(given),
+//!     Err(_) => Err(AllocError)?,
+//! }
+//! // An entry, and what it gives: pairs of a connection and an item.
+//! let welcome = self.apply(alloc, Entry::Join { conn, word, authid })?;
+//! ```
+//!
+//! Contracts say that what [`Realm::apply`] gives is, session by session and in order, what the history says; [`laws`]
+//! says what follows of every history. Of the posts that entered, and in which order, `specs/PostedOrder.antt` speaks:
+//! the crates above show it of their own schedules.
 #![tactic(auto)]
 
 mod accepted_options;
@@ -14,11 +32,11 @@ mod events;
 mod fault;
 mod grants;
 mod joins;
+mod last_asked;
 pub mod laws;
 mod meta_events;
 mod publications;
 mod realm;
-mod seats;
 mod sessions;
 mod spare;
 mod state;
@@ -27,7 +45,7 @@ mod subscriptions;
 pub use entry::{Entry, says_with_word};
 pub use fault::Fault;
 pub use realm::{Realm, RealmConfig};
-pub use session::{
+pub use wamp_messages::{
     Args, CarriedArgs, Item, Lists, Publication, PublishOptions, Reason, Request, Said,
     SubscribeOptions, Who,
 };

@@ -10,9 +10,9 @@ use crate::events::{Given, events_to, receivers};
 use crate::fault::Fault;
 use crate::state::State;
 use message_tree::{Content, Dict, Shared, Text, Tree};
-use session::{Args, CarriedArgs, Lists, Publication, Who};
 use std::alloc::{AllocError, Global};
 use wamp_ids::{Id, Topic};
+use wamp_messages::{Args, CarriedArgs, Lists, Publication, Who};
 
 /// The topic of this text, which is one.
 fn topic_of(alloc: Global, text: &str) -> Result<Topic, Fault>

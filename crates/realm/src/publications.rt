@@ -1,7 +1,7 @@
 //! PUBLISH: whether it is accepted, what it gives, and what stays retained.
 ghost use Rattle.std.specs.Prelude.{[], ◌≡◌, ℕ, true, not, ◌&&◌, is_some, None, Some, IfOk, OnOk, OnErr, IfSome};
 ghost use Rattle.wamp_ids.specs.Uri.{is_topic, is_reserved};
-ghost use Rattle.session.specs.Arguments.{is_all_carried};
+ghost use Rattle.wamp_messages.specs.Arguments.{is_all_carried};
 ghost use Rattle.retained.specs.Store.{has_room, set_topic};
 ghost use Rattle.eligibility.specs.declared.who.Who.{Who};
 ghost use Rattle.realm.specs.body.LiveSessions.{session_of, AreHeld};
@@ -15,9 +15,9 @@ use crate::fault::Fault;
 use crate::state::State;
 use message_tree::{Shared, Text};
 use retained::Store;
-use session::{Args, CarriedArgs, Item, Publication, PublishOptions, Reason, Request, Who};
 use std::alloc::Global;
 use wamp_ids::{Conn, Id, Topic};
+use wamp_messages::{Args, CarriedArgs, Item, Publication, PublishOptions, Reason, Request, Who};
 
 /// A PUBLISH. Answering spends it: its lists, topic and arguments are moved.
 #[derive(Drop)]

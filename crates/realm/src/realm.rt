@@ -11,17 +11,17 @@ use crate::dispatch::answer;
 use crate::entry::Entry;
 use crate::fault::Fault;
 use crate::grants::Grants;
-use crate::seats::Seats;
+use crate::last_asked::LastAsked;
 use crate::sessions::Sessions;
 use crate::spare::Spare;
 use crate::state::State;
 use retained::Store;
-use session::Item;
 use std::alloc::{AllocError, Global};
 use std::marker::Model;
 use std::snapshot::Snapshot;
 use subscription_index::Index;
 use wamp_ids::{Conn, Topic};
+use wamp_messages::Item;
 
 /// What a realm is made from.
 #[derive(Drop)]
@@ -73,7 +73,7 @@ impl Realm {
         let state = State {
             grants: Grants::of(alloc, grants)?,
             sessions: Sessions::new(alloc),
-            seats: Seats::new(alloc)?,
+            seats: LastAsked::new(alloc)?,
             index: Index::new(alloc),
             store: Store::new(alloc),
             spare: Spare::new(alloc),

@@ -4,14 +4,10 @@ ghost use Rattle.std.specs.List.{list_any};
 ghost use Rattle.std.specs.Option.{option_copied};
 ghost use Rattle.realm.specs.body.LiveSessions.{session_of, others, added, AreByConn, StandsAt, BelongsAt};
 
-use crate::seats::seat_index;
-use session::Who;
 use std::alloc::{AllocError, Global};
 use std::marker::Model;
-use wamp_ids::{Conn, Id};
-
-/// How many seats there are.
-const PLACES: usize = 256;
+use wamp_ids::{Conn, Id, SEATS, seat_index};
+use wamp_messages::Who;
 
 /// The live sessions. Contracts see a list of them, ascending by connection.
 #[derive(Drop)]
@@ -19,7 +15,7 @@ pub struct Sessions {
     live: Vec<Who>,
     /// For each seat where its session stands in the list: a guess, which is compared before it is
     /// used, so that nothing rests on it.
-    guesses: [usize; PLACES],
+    guesses: [usize; SEATS as usize],
 }
 
 impl Model for Sessions {
@@ -41,7 +37,7 @@ impl Sessions {
     {
         Sessions {
             live: Vec::new(alloc),
-            guesses: [0; PLACES],
+            guesses: [0; SEATS as usize],
         }
     }
 
@@ -106,7 +102,7 @@ impl Sessions {
 }
 
 /// Notes for each seat where its session stands.
-fn note_places(guesses: &mut [usize; PLACES], live: &[Who]) {
+fn note_places(guesses: &mut [usize; SEATS as usize], live: &[Who]) {
     for (place, who) in live.iter().enumerate() {
         guesses[seat_index(who.conn)] = place;
     }

@@ -14,9 +14,9 @@ use crate::fault::Fault;
 use crate::state::State;
 use message_tree::{Shared, Text};
 use retained::Store;
-use session::{Item, Publication, Reason, Request, SubscribeOptions, Who};
 use std::alloc::Global;
 use wamp_ids::{Conn, Id, Pattern, Policy};
+use wamp_messages::{Item, Publication, Reason, Request, SubscribeOptions, Who};
 
 /// A SUBSCRIBE.
 #[derive(Drop)]

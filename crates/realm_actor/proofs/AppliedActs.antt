@@ -8,7 +8,7 @@ use Rattle.std.specs.List.{insert}
 use Rattle.realm.specs.History.{History, ◌▷◌}
 use Rattle.realm.specs.Sessions.{conn_of, live, may_come, may_join}
 use Rattle.realm.specs.Words.{says_with_word}
-use Rattle.session.specs.declared.messages.said.Said.{Said as TheSaid}
+use Rattle.wamp_messages.specs.declared.said.Said.{Said as TheSaid}
 use Rattle.realm.proofs.Lemmas.{live-joined}
 use Rattle.realm_actor.proofs.EntryLemmas.{not_joined}
 use Rattle.realm_inbox.specs.declared.joining.Joining.{Joining}

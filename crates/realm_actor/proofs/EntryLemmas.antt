@@ -4,7 +4,7 @@ use Rattle.std.specs.Prelude.{Option, Some, None, ⊤, slice_get, MatchOption, o
 use Rattle.std.proofs.lemmas.Bool.{eqb-true, eq-eqb, or_parts, not-true, ne_eqb, or_cases, or_left, or_right}
 use Rattle.std.proofs.Math.Bool.{and-false}
 use Rattle.outbox_queue.specs.Rule.{Grows}
-use Rattle.session.specs.declared.messages.item.Item.{Item}
+use Rattle.wamp_messages.specs.declared.item.Item.{Item}
 use Rattle.realm.specs.declared.entry.Entry.{Entry}
 use Rattle.realm.specs.declared.entry.Entry.TheVariants.{Join}
 use Rattle.realm.specs.History.{History, ◌▷◌, Begins, longer}
@@ -12,7 +12,7 @@ use Rattle.realm.specs.Sessions.{who, live, joined, conn_of, may_join, may_come}
 use Rattle.realm.specs.Yield.{yield}
 use Rattle.realm.specs.Given.{items_for, GivesExactly}
 use Rattle.realm.proofs.Lemmas.{no_events, no_more, live-joined, live-elsewhere, clash, not-some}
-use Rattle.realm_actor.specs.declared.row.Held.{Held}
+use Rattle.realm_actor.specs.declared.row.HeldOutbox.{HeldOutbox}
 use Rattle.realm_actor.specs.declared.row.Row.{Row}
 use Rattle.outbox_queue.specs.Tied.{history_of}
 use Rattle.realm_actor.specs.OutboxHistory.{Box, Follows}
@@ -77,7 +77,7 @@ module _ {S : Type 0} where
       → IsOpen (live h r.conn || eqb (conn_of e) r.conn) (box_in r) → RowDue (h ▷ e) xs r
   due_row h e xs r is due is_open = at r.held refl due is_open
     where
-      at : (held : Option (Held S)) → r.held ≡ held → MatchOption held ⊤ (λ x. Follows h [] x.outbox)
+      at : (held : Option (HeldOutbox S)) → r.held ≡ held → MatchOption held ⊤ (λ x. Follows h [] x.outbox)
           → IsOpen (live h r.conn || eqb (conn_of e) r.conn) (option_map (λ x. x.outbox) held) → MatchOption held ⊤ (λ x. Follows (h ▷ e) xs x.outbox)
       at None here due is_open = tt
       at (Some x) here due is_open = Follows-entry h e xs x.outbox r.conn (r.of_conn x here) is due is_open
@@ -137,14 +137,14 @@ module _ {S : Type 0} where
   to_box : (h : History) (r : Row S) → RowDue h [] r → MatchOption (box_in r) ⊤ (λ o. Follows h [] o)
   to_box h r due = at r.held due
     where
-      at : (held : Option (Held S)) → MatchOption held ⊤ (λ x. Follows h [] x.outbox) → MatchOption (option_map (λ x. x.outbox) held) ⊤ (λ o. Follows h [] o)
+      at : (held : Option (HeldOutbox S)) → MatchOption held ⊤ (λ x. Follows h [] x.outbox) → MatchOption (option_map (λ x. x.outbox) held) ⊤ (λ o. Follows h [] o)
       at None due = tt
       at (Some x) due = due
 
   pub of_box : (h : History) (r : Row S) → MatchOption (box_in r) ⊤ (λ o. Follows h [] o) → RowDue h [] r
   of_box h r due = at r.held due
     where
-      at : (held : Option (Held S)) → MatchOption (option_map (λ x. x.outbox) held) ⊤ (λ o. Follows h [] o) → MatchOption held ⊤ (λ x. Follows h [] x.outbox)
+      at : (held : Option (HeldOutbox S)) → MatchOption (option_map (λ x. x.outbox) held) ⊤ (λ o. Follows h [] o) → MatchOption held ⊤ (λ x. Follows h [] x.outbox)
       at None due = tt
       at (Some x) due = due
 

@@ -5,7 +5,7 @@ use Rattle.std.specs.List.{insert}
 use Rattle.std.specs.declared.result.Result.{Result}
 use Rattle.outbox_queue.specs.Ends.{Taking}
 use Rattle.outbox_queue.specs.Tied.{Kept}
-use Rattle.session.specs.declared.messages.item.Item.{Item}
+use Rattle.wamp_messages.specs.declared.item.Item.{Item}
 use Rattle.realm.specs.History.{History}
 use Rattle.atomic_table.specs.Seated.{TableId}
 use Rattle.std.specs.Prelude.{IfSome, option_to_list}

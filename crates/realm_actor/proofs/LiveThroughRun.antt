@@ -81,27 +81,27 @@ module _ {S : Type 0} where
   act_live NoMemory l old new h c dead is = clash (live new.history c) is (loses_dead c h.does.acts dead)
 
   -- held, or it was live and not held at the start
-  abbrev Held : Acting S → Acting S → ℕ → Type 0
-  Held a b c = ((live a.history c ≡ true) × (outbox_of a.rows c ≡ None)) ⊎ (is_some (outbox_of b.rows c) ≡ true)
+  abbrev HeldOutbox : Acting S → Acting S → ℕ → Type 0
+  HeldOutbox a b c = ((live a.history c ≡ true) × (outbox_of a.rows c ≡ None)) ⊎ (is_some (outbox_of b.rows c) ≡ true)
 
-  held_on : (a b d : Acting S) (c : ℕ) → ((o : Box) → outbox_of b.rows c ≡ Some o → (p : Box) × (outbox_of d.rows c ≡ Some p)) → Held a b c → Held a d c
+  held_on : (a b d : Acting S) (c : ℕ) → ((o : Box) → outbox_of b.rows c ≡ Some o → (p : Box) × (outbox_of d.rows c ≡ Some p)) → HeldOutbox a b c → HeldOutbox a d c
   held_on a b d c on h = ⊎_elim (λ t. inl t) (λ (is : is_some (outbox_of b.rows c) ≡ true). inr (at (outbox_of b.rows c) refl is)) h
     where
       at : (o : Option Box) → outbox_of b.rows c ≡ o → is_some o ≡ true → is_some (outbox_of d.rows c) ≡ true
       at None e is = absurd (cc)
       at (Some o) e is = ap is_some (on o e).1
 
-  swept_held : (a b d : Acting S) (c : ℕ) → Sweeps b d → live b.history c ≡ true → Held a b c → Held a d c
+  swept_held : (a b d : Acting S) (c : ℕ) → Sweeps b d → live b.history c ≡ true → HeldOutbox a b c → HeldOutbox a d c
   swept_held a b d c s is h = held_on a b d c (λ o e. (o, s.lives c is ∙ e)) h
 
-  at_start : (a : Acting S) (c : ℕ) → live a.history c ≡ true → Held a a c
+  at_start : (a : Acting S) (c : ℕ) → live a.history c ≡ true → HeldOutbox a a c
   at_start a c is = at (outbox_of a.rows c) refl
     where
-      at : (o : Option Box) → outbox_of a.rows c ≡ o → Held a a c
+      at : (o : Option Box) → outbox_of a.rows c ≡ o → HeldOutbox a a c
       at None e = inl (is, e)
       at (Some o) e = inr (ap is_some e)
 
-  runs_hold : {a b : Acting S} {came : List (Post S)} → Runs a came b → (c : ℕ) → live b.history c ≡ true → Held a b c
+  runs_hold : {a b : Acting S} {came : List (Post S)} → Runs a came b → (c : ℕ) → live b.history c ≡ true → HeldOutbox a b c
   runs_hold {a = a} running.Runs.none c is = at_start a c is
   runs_hold {a = a} (running.Runs.one_more {came} {b} {c = m} {d} {result} l runs swept handles) c is = by_bool (live m.history c) _
       (λ now.

@@ -6,7 +6,7 @@ use Rattle.chronicle.specs.Recorded.{Recorded}
 use Rattle.outbox_queue.specs.Rule.{Grows}
 use Rattle.outbox_queue.specs.Tied.{Kept, history_of}
 use Rattle.outbox_queue.specs.declared.owed.Note.{Note}
-use Rattle.session.specs.declared.messages.item.Item.{Item}
+use Rattle.wamp_messages.specs.declared.item.Item.{Item}
 use Rattle.realm.specs.History.{History, Begins}
 use Rattle.realm.specs.Yield.{owed}
 use Rattle.realm_actor.specs.OutboxHistory.{Box, Follows}

@@ -12,7 +12,7 @@ use Rattle.realm.specs.Yield.{owed}
 use Rattle.realm.proofs.NothingAfterAnEnding.{owed-over}
 use Rattle.realm_inbox.specs.Over.{OwesNoMore}
 use Rattle.eligibility.specs.declared.who.Who.{Who}
-use Rattle.realm_actor.specs.declared.row.Held.{Held}
+use Rattle.realm_actor.specs.declared.row.HeldOutbox.{HeldOutbox}
 use Rattle.realm_actor.specs.declared.row.Row.{Row}
 use Rattle.realm_actor.specs.Rows.{RowDue, RowHome}
 use Rattle.realm_actor.specs.OutboxHistory.{Box, Follows, IsHome}
@@ -41,11 +41,11 @@ pub of_home : (chronicle : TableId) (h : History) (o : Box) → IsHome chronicle
 of_home chronicle h o home picked is = home picked is
 
 module _ {S : Type 0} where
-  pub follows_held : (h : History) (r : Row S) (x : Held S) → r.held ≡ Some x → RowDue h [] r → Follows h [] x.outbox
-  follows_held h r x is due = subst (λ (held : Option (Held S)). MatchOption held ⊤ (λ e. Follows h [] e.outbox)) is due
+  pub follows_held : (h : History) (r : Row S) (x : HeldOutbox S) → r.held ≡ Some x → RowDue h [] r → Follows h [] x.outbox
+  follows_held h r x is due = subst (λ (held : Option (HeldOutbox S)). MatchOption held ⊤ (λ e. Follows h [] e.outbox)) is due
 
-  pub home_held : (own : TableId) (r : Row S) (x : Held S) → r.held ≡ Some x → RowHome own r → IsHome own x.outbox
-  home_held own r x is home = home x.outbox (ap (option_map (λ (e : Held S). e.outbox)) is)
+  pub home_held : (own : TableId) (r : Row S) (x : HeldOutbox S) → r.held ≡ Some x → RowHome own r → IsHome own x.outbox
+  home_held own r x is home = home x.outbox (ap (option_map (λ (e : HeldOutbox S). e.outbox)) is)
 
   -- the rows before a place were parted with, the others are as they were
   pub record PartedTo (h : History) (firsts rows : List (Row S)) (i : ℕ) : Type 0 where

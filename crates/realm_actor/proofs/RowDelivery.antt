@@ -2,7 +2,7 @@
 use Rattle.std.proofs.Common.{◌≡◌, ◌≢◌, ℕ, ◌<◌, true, eqb, List, [], ◌∷◌, length, set, get_or, refl, sym, ap, ◌∙◌, subst, inl, inr, ⊎_elim, append-nil, arith}
 use Rattle.std.specs.Prelude.{Option, Some, None, slice_get}
 use Rattle.std.proofs.lemmas.Bool.{eq-eqb, ne_eqb, cond-false}
-use Rattle.session.specs.declared.messages.item.Item.{Item}
+use Rattle.wamp_messages.specs.declared.item.Item.{Item}
 use Rattle.realm.specs.History.{History}
 use Rattle.realm.specs.Given.{items_for}
 use Rattle.realm_actor.specs.declared.row.Row.{Row}

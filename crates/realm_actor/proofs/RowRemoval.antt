@@ -9,13 +9,13 @@ use mathlib.Core.List.{IsPrefix}
 use Rattle.outbox_queue.specs.Ends.{Taking}
 use Rattle.outbox_queue.specs.Tied.{Kept, history_of}
 use Rattle.outbox_queue.specs.Rule.{Grows}
-use Rattle.session.specs.declared.messages.item.Item.{Item}
+use Rattle.wamp_messages.specs.declared.item.Item.{Item}
 use Rattle.realm.specs.History.{History, begun, Begins}
 use Rattle.realm.specs.Grants.{Grants}
 use Rattle.realm.specs.Sessions.{live, who}
 use Rattle.realm.specs.Yield.{owed}
 use Rattle.realm_actor.specs.declared.row.Row.{Row}
-use Rattle.realm_actor.specs.declared.row.Held.{Held}
+use Rattle.realm_actor.specs.declared.row.HeldOutbox.{HeldOutbox}
 use Rattle.realm_actor.specs.ActorView.{Acting}
 use Rattle.realm_inbox.specs.HistoryBeginnings.{begins_longer}
 use Rattle.realm_actor.specs.Settle.{Settles, Sweeps, EmptiesOne}
@@ -226,7 +226,7 @@ module _ {S : Type 0} where
       follows_box : (h : History) (r : Row S) (o : Box) → box_in r ≡ Some o → RowDue h [] r → Follows h [] o × (o.conn ≡ r.conn)
       follows_box h r o is due = at r.held refl is due
         where
-          at : (held : Option (Held S)) → r.held ≡ held → option_map (λ x. x.outbox) held ≡ Some o → MatchOption held ⊤ (λ x. Follows h [] x.outbox) → Follows h [] o × (o.conn ≡ r.conn)
+          at : (held : Option (HeldOutbox S)) → r.held ≡ held → option_map (λ x. x.outbox) held ≡ Some o → MatchOption held ⊤ (λ x. Follows h [] x.outbox) → Follows h [] o × (o.conn ≡ r.conn)
           at None here is due = absurd (cc)
           at (Some x) here is due =
               let same : x.outbox ≡ o = cc in

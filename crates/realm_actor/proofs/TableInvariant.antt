@@ -19,7 +19,7 @@ use Rattle.realm_actor.specs.Handle.{EachUnmarked}
 use Rattle.realm_actor.specs.Settle.{EmptiesOne}
 use Rattle.outbox_queue.specs.Ends.{Taking}
 use Rattle.outbox_queue.specs.Tied.{Kept}
-use Rattle.session.specs.declared.messages.item.Item.{Item}
+use Rattle.wamp_messages.specs.declared.item.Item.{Item}
 use Rattle.realm_actor.specs.Invariant.{Knows}
 use Rattle.realm_actor.proofs.RowPlaces.{same_place, below_or, one_place, beside, each_set, insert_all, pairs_set}
 use Rattle.realm_actor.proofs.MarkedRows.{unmarked_after}

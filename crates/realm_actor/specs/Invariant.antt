@@ -3,7 +3,7 @@ use Rattle.std.specs.Prelude.{◌≡◌, true, false, ◌≤◌, List, map, leng
 use Rattle.ghost_state.specs.GhostList.{items_of}
 use Rattle.realm.specs.History.{History}
 use Rattle.realm_actor.specs.declared.row.Row.{Row}
-use Rattle.realm_actor.specs.declared.state.State.{State}
+use Rattle.realm_actor.specs.declared.state.ActorState.{ActorState}
 use Rattle.realm_actor.specs.declared.table.Table.{Table}
 use Rattle.realm_actor.specs.Rows.{Each}
 use Rattle.realm.specs.Sessions.{live}
@@ -20,11 +20,11 @@ pub record Stands {S : Type 0} (h : History) (rows : List (Row S)) : Type 0 wher
   pub unmarked : NoMarks rows
 
 -- there is room to name the connection of each row
-abbrev pub IsRoomy : {S W : Type 0} → State S W → Type 0
+abbrev pub IsRoomy : {S W : Type 0} → ActorState S W → Type 0
 IsRoomy s = length s.table.rows.items ≤ vec_capacity s.last_cut
 
 -- the history is what the acts that were handled made of it, and stops between them
-abbrev pub WasMade : {S W : Type 0} → State S W → Type 0
+abbrev pub WasMade : {S W : Type 0} → ActorState S W → Type 0
 WasMade s = IsMade s.table.realm (map said (items_of s.handled))
 
 -- the table's flags are right: where it knows of no mark there is none, and where it knows of no ended session each row's is live

@@ -5,7 +5,7 @@ use Rattle.outbox_queue.specs.Ends.{Sending}
 use Rattle.outbox_queue.specs.Rule.{Grows}
 use Rattle.outbox_queue.specs.Tied.{Kept, history_of}
 use Rattle.atomic_table.specs.Seated.{TableId}
-use Rattle.session.specs.declared.messages.item.Item.{Item}
+use Rattle.wamp_messages.specs.declared.item.Item.{Item}
 use Rattle.realm.specs.History.{History, Begins}
 use Rattle.realm.specs.Yield.{owed}
 

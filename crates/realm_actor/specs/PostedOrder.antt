@@ -13,8 +13,8 @@ use Rattle.realm.specs.PostedOrder.{said_by, AreSome, joins_first_alone}
 use Rattle.realm_inbox.specs.declared.act.Act.{Act}
 use Rattle.realm_inbox.specs.declared.letter.Post.{Post}
 use Rattle.realm_inbox.specs.declared.letter.Post.TheVariants as post
-use Rattle.realm_inbox.specs.declared.rule.View.{View}
-use Rattle.realm_inbox.specs.declared.rule.View.TheVariants.{Reader, Seat}
+use Rattle.realm_inbox.specs.declared.rule.InboxView.{InboxView}
+use Rattle.realm_inbox.specs.declared.rule.InboxView.TheVariants.{Reader, Seat}
 use Rattle.realm_inbox.specs.Seats.{conn_of_letter, act_of_letter, at_seat}
 use Rattle.realm_inbox.specs.InTurn.{Keeps}
 use Rattle.realm_actor.specs.ActorView.{Acting}
@@ -61,7 +61,7 @@ HandledKeepsOrder S = (grants : Grants) (handled : List (Post S)) (h : History) 
 -- where, seat by seat, what was received was handled: at every moment of the inbox the entries of c are some of what was posted for c at its seat, in that order, each once
 abbrev pub HistoryKeepsOrder : Type 0 → Type 0
 HistoryKeepsOrder S = (grants : Grants) (handled : List (Post S)) (h : History) → MakesAll (begun grants) handled h
-    → (items : List (Post S)) (views : List (View S)) (b : Option TableId) (reader seat n c : ℕ) (got : List (Post S)) (posted : List (ℕ × Act S)) → Keeps items views
+    → (items : List (Post S)) (views : List (InboxView S)) (b : Option TableId) (reader seat n c : ℕ) (got : List (Post S)) (posted : List (ℕ × Act S)) → Keeps items views
     → get_elem? views reader ≡ some (Reader b n got) → get_elem? views seat ≡ some (Seat b (seat_of c) posted) → ((k : ℕ) → at_seat k handled ≡ at_seat k got)
     → KeepsOrder c (acts_for c posted) h
 

@@ -1,6 +1,6 @@
 -- The rows of the actor's table, one for each session that is live or held.
 use Rattle.std.specs.Prelude.{◌≡◌, ◌⊎◌, ℕ, ◌<◌, ◌≤◌, length, true, ⊤, List, Option, Some, None, MatchOption, option_map, slice_get}
-use Rattle.session.specs.declared.messages.item.Item.{Item}
+use Rattle.wamp_messages.specs.declared.item.Item.{Item}
 use Rattle.realm.specs.History.{History}
 use Rattle.realm.specs.Given.{items_for}
 use Rattle.realm_actor.specs.declared.row.Row.{Row}

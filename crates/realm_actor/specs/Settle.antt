@@ -4,7 +4,7 @@ use mathlib.Core.List.{IsPrefix}
 use Rattle.outbox_queue.specs.Ends.{Taking}
 use Rattle.outbox_queue.specs.Tied.{Kept, history_of}
 use Rattle.outbox_queue.specs.Rule.{Grows}
-use Rattle.session.specs.declared.messages.item.Item.{Item}
+use Rattle.wamp_messages.specs.declared.item.Item.{Item}
 use Rattle.realm.specs.History.{History, Begins}
 use Rattle.realm.specs.Sessions.{live}
 use Rattle.realm.specs.Yield.{owed}

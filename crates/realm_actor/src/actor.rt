@@ -11,16 +11,17 @@ ghost use Rattle.realm_actor.specs.Settle.{IsOther, Settles, Sweeps};
 ghost use Rattle.realm_actor.specs.HistoryGrowth.{IsMade};
 ghost use Rattle.realm_actor.specs.Invariant.{Stands};
 
+use crate::id_source::IdSource;
 use crate::outcome::Outcome;
-use crate::state::State;
+use crate::state::ActorState;
 use outbox_queue::{Drain, Rest};
 use realm::{Fault, Realm, RealmConfig};
-use realm_inbox::{IdSource, Post, RealmChronicle, RealmHistory, Shut};
-use session::Item;
+use realm_inbox::{Post, RealmChronicle, RealmHistory, Shut};
 use std::alloc::{AllocError, Global};
 use std::marker::Model;
 use std::sync::Wait;
 use wamp_ids::Conn;
+use wamp_messages::Item;
 
 /// The actor of a realm: it alone changes the realm, and adds what each entry of its history gives to the sessions' outboxes.
 ///
@@ -28,7 +29,7 @@ use wamp_ids::Conn;
 /// and the acts that were handled, each with its connection.
 #[derive(Drop)]
 pub struct Actor<S: Shut, W: IdSource> {
-    state: State<S, W>,
+    state: ActorState<S, W>,
 }
 
 impl<S: Shut, W: IdSource> Model for Actor<S, W> {
@@ -108,7 +109,7 @@ impl<S: Shut, W: IdSource> Actor<S, W> {
         } }
     {
         Actor {
-            state: State::of_realm(alloc, chronicle, realm, words),
+            state: ActorState::of_realm(alloc, chronicle, realm, words),
         }
     }
 

@@ -10,11 +10,12 @@ ghost use Rattle.realm_actor.specs.declared.row.Row.{Row as ARow};
 ghost use Rattle.realm.specs.declared.entry.Entry.{Entry as AnEntry};
 ghost use Rattle.realm.specs.declared.entry.Entry.TheVariants.{Cut};
 
+use crate::id_source::IdSource;
 use crate::row::Row;
 use crate::row_search::find;
 use crate::table::Table;
 use realm::{Entry, Fault};
-use realm_inbox::{IdSource, Shut};
+use realm_inbox::Shut;
 use std::alloc::Global;
 use std::sync::Wait;
 use wamp_ids::Conn;

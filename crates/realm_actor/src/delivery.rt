@@ -1,6 +1,6 @@
 //! What an entry gave goes to the outboxes.
 ghost use Rattle.std.specs.Prelude.{◌≡◌, ◌||◌, ℕ, List, ◌∷◌, [], Some, false};
-ghost use Rattle.session.specs.declared.messages.item.Item.{Item as AnItem};
+ghost use Rattle.wamp_messages.specs.declared.item.Item.{Item as AnItem};
 ghost use Rattle.realm_actor.specs.Rows.{Ascending, EachDue, EachGoes, EachHome, NoneRose};
 
 use crate::row::Row;
@@ -8,9 +8,9 @@ use crate::row_search::find_by_seat;
 use crate::seat_guesses::SeatGuesses;
 use realm::Realm;
 use realm_inbox::{RealmChronicle, Shut};
-use session::Item;
 use std::sync::Wait;
 use wamp_ids::Conn;
+use wamp_messages::Item;
 
 // Where the pass over the rows stands, and whether it found an outbox full.
 #[derive(Clone, Copy, Drop)]

@@ -18,10 +18,10 @@ use crate::seat_guesses::SeatGuesses;
 use crate::table::Table;
 use realm::{Entry, Fault, Realm};
 use realm_inbox::{RealmChronicle, RealmHistory, RealmMoment, Shut};
-use session::Item;
 use std::alloc::Global;
 use std::sync::Wait;
 use wamp_ids::Conn;
+use wamp_messages::Item;
 
 /// Records the realm's history, which the one that was recorded before has to begin.
 pub fn tell(chronicle: &mut RealmChronicle, realm: &Realm)

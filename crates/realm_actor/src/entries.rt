@@ -11,11 +11,12 @@ ghost use Rattle.realm_actor.specs.ActorView.{working};
 ghost use Rattle.realm_actor.specs.Cuts.{NoneFull};
 ghost use Rattle.realm_actor.specs.Handle.{Acts, EntersAs, is_dropped};
 
+use crate::id_source::IdSource;
 use crate::outcome::Outcome;
 use crate::row::Row;
-use crate::state::State;
+use crate::state::ActorState;
 use realm::{Entry, says_with_word};
-use realm_inbox::{Act, IdSource, Joining, Shut};
+use realm_inbox::{Act, Joining, Shut};
 use std::alloc::{AllocError, Global};
 use std::sync::Wait;
 use wamp_ids::Conn;
@@ -51,7 +52,7 @@ fn entry_of<S: Shut, W: IdSource>(words: &mut W, conn: Conn, act: Act<S>) -> Ent
     }
 }
 
-impl<S: Shut, W: IdSource> State<S, W> {
+impl<S: Shut, W: IdSource> ActorState<S, W> {
     // What a connection does but join enters, if its session is live.
     pub(crate) fn enter<R: Wait>(
         &mut self,

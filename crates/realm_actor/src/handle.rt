@@ -9,17 +9,18 @@ ghost use Rattle.realm_actor.specs.Run.{Handles};
 ghost use Rattle.realm_actor.specs.Invariant.{IsRoomy, Knows, Stands};
 ghost use Rattle.realm_inbox.specs.Seats.{conn_of_letter, act_of_letter, BringsHome, IsHomed};
 
+use crate::id_source::IdSource;
 use crate::last_cut::name_all;
 use crate::outcome::Outcome;
-use crate::state::State;
+use crate::state::ActorState;
 use crate::table::Table;
-use realm_inbox::{Act, IdSource, Letter, Post, Shut};
+use realm_inbox::{Act, Letter, Post, Shut};
 use std::alloc::Global;
 use std::snapshot::Snapshot;
 use std::sync::Wait;
 use wamp_ids::Conn;
 
-impl<S: Shut, W: IdSource> State<S, W> {
+impl<S: Shut, W: IdSource> ActorState<S, W> {
     // An act of a connection enters the history, or it is dropped, or for want of memory the session is cut.
     fn act<R: Wait>(&mut self, rt: &R, alloc: Global, letter: Letter<S>) -> Outcome
         requires sound { Sound self.old.table.realm self.old.table.rows.items }
@@ -67,7 +68,7 @@ impl<S: Shut, W: IdSource> State<S, W> {
     {
         self.last_cut.clear();
         let outcome = self.act(rt, alloc, letter);
-        let State {
+        let ActorState {
             table,
             last_cut,
             ..

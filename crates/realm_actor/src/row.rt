@@ -1,17 +1,17 @@
 //! A session's row in the actor's table: its outbox and its transport, as long as they are held.
 ghost use Rattle.std.specs.Prelude.{◌≡◌, ◌<◌, false, true, ◌∷◌, List, Some, length, slice_get};
 ghost use Rattle.std.specs.Option.{ForSome};
-ghost use Rattle.session.specs.declared.messages.item.Item.{Item as AnItem};
+ghost use Rattle.wamp_messages.specs.declared.item.Item.{Item as AnItem};
 ghost use Rattle.realm.specs.Yield.{owed};
 ghost use Rattle.realm_actor.specs.OutboxHistory.{Follows, Goes, IsHome};
 
 use outbox_queue::{Full, Outbox, Stamped};
 use realm::Realm;
 use realm_inbox::{RealmChronicle, RealmHistory, RealmMoment, Shut};
-use session::Item;
 use std::cell::Cell;
 use std::sync::Wait;
 use wamp_ids::Conn;
+use wamp_messages::Item;
 
 // Stamps the item, which is the next that the realm's history owes the outbox's session, by that history, which its chronicle
 // has recorded, and records once more.
@@ -38,7 +38,7 @@ fn stamp(
 
 /// The outbox of a session, its transport, and whether a step found the outbox full.
 #[derive(Drop)]
-pub struct Held<S: Shut> {
+pub struct HeldOutbox<S: Shut> {
     pub outbox: Outbox<Item, RealmHistory>,
     pub transport: S,
     pub is_full: bool,
@@ -48,7 +48,7 @@ pub struct Held<S: Shut> {
     ghost never: { is_full ≡ false → outbox.full_finds ≡ 0 },
 }
 
-impl<S: Shut> Held<S> {
+impl<S: Shut> HeldOutbox<S> {
     /// Adds the item, which is the next that the realm's history owes, unless the outbox was found full before or is now. True
     /// where it is now.
     pub fn offer<R: Wait>(
@@ -108,7 +108,7 @@ impl<S: Shut> Held<S> {
 #[derive(Drop)]
 pub struct Row<S: Shut> {
     pub conn: Conn,
-    pub held: Option<Held<S>>,
+    pub held: Option<HeldOutbox<S>>,
     /// Whether it was found full in the handling of the post.
     pub is_cut: bool,
     /// Whether it was cut for want of memory in the handling of the post.
@@ -158,7 +158,7 @@ impl<S: Shut> Row<S> {
         ensures is_cut { result.is_cut ≡ false }
         ensures is_lost { result.is_lost ≡ false }
     {
-        let held = Held {
+        let held = HeldOutbox {
             outbox,
             transport,
             is_full: false,

@@ -9,7 +9,8 @@ ghost use Rattle.realm_actor.specs.PostedOrder.{KeepsOrderSince, acts_for};
 ghost use Rattle.realm_actor.specs.Run.{EndsInStop, KeepsHeld, Ran, SameAtSeats, is_stop};
 
 use crate::actor::Actor;
-use realm_inbox::{IdSource, Inbox, Post, Shut};
+use crate::id_source::IdSource;
+use realm_inbox::{Inbox, Post, Shut};
 use std::alloc::Global;
 use std::collections::VecDeque;
 use std::sync::Wait;

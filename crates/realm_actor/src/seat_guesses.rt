@@ -1,5 +1,5 @@
 //! Where the rows of the seats' connections are looked for first.
-use wamp_ids::{Conn, SEATS, seat};
+use wamp_ids::{Conn, SEATS, seat_index};
 
 /// By seat, where the row of its connection stood when it was last looked for. These are guesses: rows move as sessions come and
 /// go, and whoever asks looks whether the row is there.
@@ -18,7 +18,7 @@ impl SeatGuesses {
 
     /// Where the connection's row may stand.
     pub fn of(&self, conn: Conn) -> usize {
-        match self.places.get((seat(conn) - 1) as usize) {
+        match self.places.get(seat_index(conn)) {
             Some(place) => usize::from(*place),
             None => 0,
         }
@@ -27,7 +27,7 @@ impl SeatGuesses {
     /// It stands there.
     pub fn note(&mut self, conn: Conn, place: usize) {
         if let (Some(guess), Ok(place)) = (
-            self.places.get_mut((seat(conn) - 1) as usize),
+            self.places.get_mut(seat_index(conn)),
             u16::try_from(place),
         ) {
             *guess = place;

@@ -9,17 +9,18 @@ ghost use Rattle.realm_actor.specs.LastCut.{outbox_of};
 ghost use Rattle.realm_actor.specs.Settle.{EachParted, Emptied, EmptiesOne, IsOther, Parted};
 ghost use Rattle.realm_actor.specs.Invariant.{IsRoomy, Knows, Stands};
 
-use crate::row::{Held, Row};
+use crate::id_source::IdSource;
+use crate::row::{HeldOutbox, Row};
 use crate::row_search::{find, find_number};
-use crate::state::State;
+use crate::state::ActorState;
 use crate::table::Table;
 use outbox_queue::{Drain, Rest, settle};
 use realm::Realm;
-use realm_inbox::{IdSource, RealmChronicle, RealmHistory, RealmMoment, Shut};
-use session::Item;
+use realm_inbox::{RealmChronicle, RealmHistory, RealmMoment, Shut};
 use std::alloc::{AllocError, Global};
 use std::sync::Wait;
 use wamp_ids::Conn;
+use wamp_messages::Item;
 
 impl<S: Shut> Row<S> {
     // Puts the row's outbox and its drain together again. Where there is no memory for what is left, both come back.
@@ -36,7 +37,7 @@ impl<S: Shut> Row<S> {
         let Some(held) = self.held.take() else {
             unreachable!();
         };
-        let Held {
+        let HeldOutbox {
             outbox,
             transport,
             is_full,
@@ -45,7 +46,7 @@ impl<S: Shut> Row<S> {
         match settle(rt, alloc, outbox, drain) {
             Ok(rest) => return Ok(rest),
             Err((fault, outbox, drain)) => {
-                self.held = Some(Held {
+                self.held = Some(HeldOutbox {
                     outbox,
                     transport,
                     is_full,
@@ -95,7 +96,7 @@ pub fn holds<S: Shut>(rows: &[Row<S>], conn: Conn) -> bool
     rows[place].is_held()
 }
 
-impl<S: Shut, W: IdSource> State<S, W> {
+impl<S: Shut, W: IdSource> ActorState<S, W> {
     /// Whether the connection's outbox is held.
     pub fn holds(&self, conn: Conn) -> bool
         requires { Ascending self.now.table.rows.items }
@@ -174,7 +175,7 @@ fn hand_over<S: Shut>(realm: &Realm, chronicle: &mut RealmChronicle, row: &mut R
     let Some(held) = row.held.take() else {
         return;
     };
-    let Held {
+    let HeldOutbox {
         outbox,
         transport: _,
         is_full: _,

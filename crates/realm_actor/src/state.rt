@@ -12,11 +12,12 @@ ghost use Rattle.realm_actor.specs.Invariant.{Knows};
 
 use crate::delivery::wake_all;
 use crate::entering::tell;
+use crate::id_source::IdSource;
 use crate::outcome::Outcome;
 use crate::seat_guesses::SeatGuesses;
 use crate::table::Table;
 use realm::{Entry, Realm};
-use realm_inbox::{GhostList, IdSource, Letter, RealmChronicle, Shut};
+use realm_inbox::{GhostList, Letter, RealmChronicle, Shut};
 use std::alloc::Global;
 use std::sync::Wait;
 use wamp_ids::Conn;
@@ -24,21 +25,21 @@ use wamp_ids::Conn;
 /// A realm with its rows, its source of words, the connections that the last post found full, or cut, and the letters that were
 /// handled.
 #[derive(Drop)]
-pub struct State<S: Shut, W: IdSource> {
+pub struct ActorState<S: Shut, W: IdSource> {
     pub table: Table<S>,
     pub words: W,
     pub last_cut: Vec<Conn>,
     pub handled: GhostList<Letter<S>>,
 }
 
-impl<S: Shut, W: IdSource> State<S, W> {
+impl<S: Shut, W: IdSource> ActorState<S, W> {
     /// An actor of this realm, which it tells the chronicle.
     pub fn of_realm(
         alloc: Global,
         mut chronicle: RealmChronicle,
         realm: Realm,
         words: W,
-    ) -> State<S, W>
+    ) -> ActorState<S, W>
         requires new { chronicle.history ≡ None }
         ensures chronicle { result.table.chronicle.chronicle ≡ chronicle.chronicle }
         ensures history { result.table.realm ≡ realm }
@@ -49,7 +50,7 @@ impl<S: Shut, W: IdSource> State<S, W> {
         ensures knows { Knows result.table }
     {
         tell(&mut chronicle, &realm);
-        State {
+        ActorState {
             table: Table {
                 realm,
                 chronicle,
@@ -120,7 +121,7 @@ impl<S: Shut, W: IdSource> State<S, W> {
         ensures sound { Sound self.new.table.realm self.new.table.rows.items }
         ensures knows { Knows self.old.table → Knows self.new.table }
     {
-        let State { table, words, .. } = self;
+        let ActorState { table, words, .. } = self;
         match table.accept(rt, alloc, words, entry, conn) {
             Ok(()) => Outcome::Applied,
             Err(_) => {

@@ -6,11 +6,12 @@ ghost use Rattle.realm_actor.specs.Cuts.{NoneFull};
 ghost use Rattle.realm_actor.specs.Stop.{Closes, ClosesOne, Stops, is_nil};
 ghost use Rattle.realm_actor.specs.Invariant.{IsRoomy, Knows, Stands};
 
+use crate::id_source::IdSource;
 use crate::outcome::Outcome;
-use crate::state::State;
+use crate::state::ActorState;
 use crate::table::Table;
 use realm::Entry;
-use realm_inbox::{IdSource, Shut};
+use realm_inbox::Shut;
 use std::alloc::Global;
 use std::sync::Wait;
 
@@ -77,7 +78,7 @@ fn both(first: bool, second: bool) -> bool
     first && second
 }
 
-impl<S: Shut, W: IdSource> State<S, W> {
+impl<S: Shut, W: IdSource> ActorState<S, W> {
     /// Closes each live session, and names whom that found full, or cut for want of memory.
     pub(crate) fn stop<R: Wait>(&mut self, rt: &R, alloc: Global) -> Outcome
         requires stands { Stands self.old.table.realm self.old.table.rows.items }
@@ -93,7 +94,7 @@ impl<S: Shut, W: IdSource> State<S, W> {
         ensures room { IsRoomy self.new }
     {
         self.last_cut.clear();
-        let State {
+        let ActorState {
             table,
             words,
             last_cut,

@@ -14,8 +14,8 @@ use Rattle.realm_inbox.specs.declared.letter.Halt.{Halt}
 use Rattle.realm_inbox.specs.declared.letter.Letter.{Letter}
 use Rattle.realm_inbox.specs.declared.letter.Post.{Post}
 use Rattle.realm_inbox.specs.declared.letter.Post.TheVariants.{Act, Stop}
-use Rattle.realm_inbox.specs.declared.rule.View.{View}
-use Rattle.realm_inbox.specs.declared.rule.View.TheVariants.{Reader, Seat, Door, Both, Nobody}
+use Rattle.realm_inbox.specs.declared.rule.InboxView.{InboxView}
+use Rattle.realm_inbox.specs.declared.rule.InboxView.TheVariants.{Reader, Seat, Door, Both, Nobody}
 use Rattle.realm_inbox.specs.Seats.{before, said, adds_at, at_seat, adds_stops, stops_of, IsNext, InOrder, BringsHome, IsHomed, EachHomed}
 use Rattle.realm_inbox.specs.InTurn.{fresh, new_door, after_post, after_stop, nobody, Agrees, Receipt, dealt, Fits, Keeps}
 
@@ -79,7 +79,7 @@ module _ {S : Type 0} where
   homed_snoc home (x ∷ ps) p all one = (all.0, homed_snoc home ps p all.1 one)
 
   -- a view still fits where neither its seat nor, if it is the door's, the stops have grown
-  fits_all : (home : Option TableId) (got all all' : List (Post S)) (owner : ℕ → ℕ) (reader next j : ℕ) (u : View S) → ((k : ℕ) → j ≡ owner k → at_seat k all' ≡ at_seat k all) → (j ≡ owner 0 → stops_of all' ≡ stops_of all)
+  fits_all : (home : Option TableId) (got all all' : List (Post S)) (owner : ℕ → ℕ) (reader next j : ℕ) (u : InboxView S) → ((k : ℕ) → j ≡ owner k → at_seat k all' ≡ at_seat k all) → (j ≡ owner 0 → stops_of all' ≡ stops_of all)
       → Fits (dealt home got all owner reader next) j u → Fits (dealt home got all' owner reader next) j u
   fits_all home got all all' owner reader next j (Reader b n r) same stops f = f
   fits_all home got all all' owner reader next j (Seat b k posted) same stops f = (f.0, f.1, f.2 ∙ sym (same k f.0), f.3)
@@ -104,7 +104,7 @@ module _ {S : Type 0} where
   pub posts_seat : (b : Option TableId) (n pass k : ℕ) (posted : List (ℕ × the.Act S)) (l : Letter S) → seat_of l.conn ≡ k → before l ≡ posted → BringsHome b l.act → Pushes Keeps n pass (Seat b k posted) (Act l) (λ w. w ≡ after_post (Seat b k posted) (Act l))
   posts_seat b n pass k posted l here told own items views room h at =
       let mine = h.each_view pass (Seat b k posted) at in
-      let w : View S = Seat b k (posted ++ adds_at k (Act l)) in
+      let w : InboxView S = Seat b k (posted ++ adds_at k (Act l)) in
       let all : List (Post S) = h.got ++ items in
       let all' : List (Post S) = h.got ++ (items ++ Act l ∷ []) in
       let grown : all' ≡ all ++ Act l ∷ [] = sym (append_assoc h.got items (Act l ∷ [])) in
@@ -132,7 +132,7 @@ module _ {S : Type 0} where
   pub stops_door : (b : Option TableId) (n pass m : ℕ) (halt : Halt) → Pushes (Keeps {S = S}) n pass (Door b m) (Stop halt) (λ w. w ≡ after_stop (Door b m))
   stops_door b n pass m halt items views room h at =
       let mine = h.each_view pass (Door b m) at in
-      let w : View S = Door b (m + 1) in
+      let w : InboxView S = Door b (m + 1) in
       let all : List (Post S) = h.got ++ items in
       let all' : List (Post S) = h.got ++ (items ++ Stop halt ∷ []) in
       let grown : all' ≡ all ++ Stop halt ∷ [] = sym (append_assoc h.got items (Stop halt ∷ [])) in
@@ -157,7 +157,7 @@ module _ {S : Type 0} where
       )
 
   -- the other views, where the reader got one more
-  fits_got : (home : Option TableId) (got got' all all' : List (Post S)) (owner : ℕ → ℕ) (reader next j : ℕ) (u : View S) → j ≢ reader → all' ≡ all → Fits (dealt home got all owner reader next) j u → Fits (dealt home got' all' owner reader next) j u
+  fits_got : (home : Option TableId) (got got' all all' : List (Post S)) (owner : ℕ → ℕ) (reader next j : ℕ) (u : InboxView S) → j ≢ reader → all' ≡ all → Fits (dealt home got all owner reader next) j u → Fits (dealt home got' all' owner reader next) j u
   fits_got home got got' all all' owner reader next j (Reader b n r) other is f = absurd (other f.0)
   fits_got home got got' all all' owner reader next j (Seat b k posted) other is f = (f.0, f.1, f.2 ∙ ap (λ t. at_seat k t) (sym is), f.3)
   fits_got home got got' all all' owner reader next j (Door b n) other is f = (f.0, f.1, f.2 ∙ ap (λ t. stops_of t) (sym is), f.3)
@@ -167,7 +167,7 @@ module _ {S : Type 0} where
   pub receives_reader : (b : Option TableId) (pass n : ℕ) (r : List (Post S)) → Pops Keeps pass (Reader b n r) (λ x w. Receipt (Reader b n r) x w)
   receives_reader b pass n r x items views h at =
       let mine = h.each_view pass (Reader b n r) at in
-      let w : View S = Reader b n (r ++ x ∷ []) in
+      let w : InboxView S = Reader b n (r ++ x ∷ []) in
       let got' : List (Post S) = h.got ++ x ∷ [] in
       let is : got' ++ items ≡ h.got ++ (x ∷ items) = append_assoc h.got (x ∷ []) items in
       let F = Fits (dealt h.home h.got (h.got ++ (x ∷ items)) h.owner h.reader h.next) in let G = Fits (dealt h.home got' (got' ++ items) h.owner h.reader h.next) in (
@@ -189,7 +189,7 @@ module _ {S : Type 0} where
       )
 
   -- the other views, where the next number was cut, and the chronicle perhaps picked
-  fits_cut : (home now : Option TableId) (got all : List (Post S)) (owner : ℕ → ℕ) (reader next new j : ℕ) (u : View S) → ((k : ℕ) → k < next → now ≡ home) → j ≢ reader → Fits (dealt home got all owner reader next) j u → Fits (dealt now got all (λ k. cond (eqb k next) new (owner k)) reader (next + 1)) j u
+  fits_cut : (home now : Option TableId) (got all : List (Post S)) (owner : ℕ → ℕ) (reader next new j : ℕ) (u : InboxView S) → ((k : ℕ) → k < next → now ≡ home) → j ≢ reader → Fits (dealt home got all owner reader next) j u → Fits (dealt now got all (λ k. cond (eqb k next) new (owner k)) reader (next + 1)) j u
   fits_cut home now got all owner reader next new j (Reader b n r) moved other f = absurd (other f.0)
   fits_cut home now got all owner reader next new j (Seat b k posted) moved other f =
       (f.0 ∙ ap (λ b. cond b new (owner k)) (sym (ne_eqb k next (λ e. absurd (omega (arith, e, f.1))))), omega (arith, f.1), f.2, f.3 ∙ sym (moved k f.1))
@@ -206,14 +206,14 @@ module _ {S : Type 0} where
   none_brings home (Stop halt ∷ ps) none = (tt, none_brings home ps none)
 
   -- a view is cut for the next number, which fits where nothing was posted under it; before the first number is, the chronicle is picked
-  cuts_next : (b now : Option TableId) (pass n : ℕ) (r : List (Post S)) (v : View S) → (n ≡ 0) ⊎ (now ≡ b)
+  cuts_next : (b now : Option TableId) (pass n : ℕ) (r : List (Post S)) (v : InboxView S) → (n ≡ 0) ⊎ (now ≡ b)
       → ((got all : List (Post S)) (owner : ℕ → ℕ) (reader j : ℕ) → owner n ≡ j → at_seat n all ≡ [] → (n ≡ 0 → stops_of all ≡ 0) → Fits (dealt now got all owner reader (n + 1)) j v)
       → Forks Keeps pass (Reader b n r) (Reader now (n + 1) r) v
   cuts_next b now pass n r v moves fits items views h at =
       let mine = h.each_view pass (Reader b n r) at in
       let all : List (Post S) = h.got ++ items in
-      let left : View S = Reader now (n + 1) r in
-      let vs : List (View S) = set views pass left in
+      let left : InboxView S = Reader now (n + 1) r in
+      let vs : List (InboxView S) = set views pass left in
       let owner' : ℕ → ℕ = λ k. cond (eqb k h.next) (length vs) (h.owner k) in
       let here : eqb n h.next ≡ true = eq-eqb n h.next mine.1 in
       let moved : (k : ℕ) → k < h.next → now ≡ h.home = λ k below. ⊎_elim (λ (zero : n ≡ 0). absurd (omega (arith, zero, mine.1, below))) (λ (same : now ≡ b). same ∙ mine.3) moves in
@@ -244,7 +244,7 @@ module _ {S : Type 0} where
   cuts_new_door b home pass r = cuts_next b home pass 0 r (new_door home) (inl refl) (λ got all owner reader j own none no. (sym own, omega arith, sym (no refl), refl))
 
   -- the other views, where the seat k has another pass
-  fits_moved : (home : Option TableId) (got all : List (Post S)) (owner : ℕ → ℕ) (reader next k new j : ℕ) (u : View S) → j ≢ owner k → Fits (dealt home got all owner reader next) j u
+  fits_moved : (home : Option TableId) (got all : List (Post S)) (owner : ℕ → ℕ) (reader next k new j : ℕ) (u : InboxView S) → j ≢ owner k → Fits (dealt home got all owner reader next) j u
       → Fits (dealt home got all (λ i. cond (eqb i k) new (owner i)) reader next) j u
   fits_moved home got all owner reader next k new j (Reader b n r) other f = f
   fits_moved home got all owner reader next k new j (Seat b i posted) other f =
@@ -260,13 +260,13 @@ module _ {S : Type 0} where
   IsOf home all owner next pass c k posted = (pass ≡ owner k) × (k < next) × (posted ≡ at_seat k all) × (c ≡ home)
 
   -- a view that has a seat's gives that to a new pass
-  gives_seat : (c : Option TableId) (pass k : ℕ) (posted : List (ℕ × the.Act S)) (v left : View S)
+  gives_seat : (c : Option TableId) (pass k : ℕ) (posted : List (ℕ × the.Act S)) (v left : InboxView S)
       → ((home : Option TableId) (got all : List (Post S)) (owner : ℕ → ℕ) (reader next : ℕ) → Fits (dealt home got all owner reader next) pass v → IsOf home all owner next pass c k posted)
       → ((home : Option TableId) (got all : List (Post S)) (owner owner' : ℕ → ℕ) (reader next : ℕ) → Fits (dealt home got all owner reader next) pass v → Fits (dealt home got all owner' reader next) pass left)
       → Forks Keeps pass v left (Seat c k posted)
   gives_seat c pass k posted v left own rest items views h at =
       let all : List (Post S) = h.got ++ items in
-      let vs : List (View S) = set views pass left in
+      let vs : List (InboxView S) = set views pass left in
       let owner' : ℕ → ℕ = λ i. cond (eqb i k) (length vs) (h.owner i) in
       let fits = h.each_view pass v at in
       let mine = own h.home h.got all h.owner h.reader h.next fits in
@@ -288,18 +288,18 @@ module _ {S : Type 0} where
       }
 
   -- a view takes in a seat's
-  takes_seat : (c : Option TableId) (pass other k : ℕ) (posted : List (ℕ × the.Act S)) (v both : View S)
+  takes_seat : (c : Option TableId) (pass other k : ℕ) (posted : List (ℕ × the.Act S)) (v both : InboxView S)
       → ((home : Option TableId) (got all : List (Post S)) (owner owner' : ℕ → ℕ) (reader next : ℕ) → Fits (dealt home got all owner reader next) pass v → IsOf home all owner' next pass c k posted → Fits (dealt home got all owner' reader next) pass both)
       → Merges Keeps pass v other (Seat c k posted) both nobody
   takes_seat c pass other k posted v both fit items views h at two at' =
       let all : List (Post S) = h.got ++ items in
-      let vs : List (View S) = set views pass both in
+      let vs : List (InboxView S) = set views pass both in
       let owner' : ℕ → ℕ = λ i. cond (eqb i k) pass (h.owner i) in
       let was : get_elem? views other ≡ some (Seat c k posted) = ⊎_elim (λ x. absurd (two x.0)) (λ x. x.1) (at_set views pass other both (Seat c k posted) at') in
       let seat = h.each_view other (Seat c k posted) was in
       let F = Fits (dealt h.home h.got all h.owner h.reader h.next) in
       let G = Fits (dealt h.home h.got all owner' h.reader h.next) in
-      let H : ℕ → View S → Type 0 = λ j u. j ≢ other → G j u in
+      let H : ℕ → InboxView S → Type 0 = λ j u. j ≢ other → G j u in
       let here : G pass both = fit h.home h.got all h.owner owner' h.reader h.next (h.each_view pass v at) (owner_here h.owner k pass, seat.1, seat.2, seat.3) in
       let now = changed F H views pass both h.each_view (λ _. here)
       (λ j u apart f far. fits_moved h.home h.got all h.owner h.reader h.next k pass j u (λ e. far (e ∙ sym seat.0)) f) in

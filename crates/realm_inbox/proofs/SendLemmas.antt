@@ -41,11 +41,11 @@ use Rattle.outbox_queue.specs.contracts.recorded.MomentHistory.TheImpl as moment
 use Rattle.outbox_queue.specs.contracts.recorded.Recorded as Recorded
 use Rattle.outbox_queue.specs.contracts.recorded.RecordedOwed.TheImpl as owed
 use Rattle.outbox_queue.specs.declared.owed.Owed as what
-use Rattle.session.proofs.SendLemmas.{item_send, said_send}
-use Rattle.session.specs.contracts.messages.item.Item as Item
+use Rattle.wamp_messages.proofs.SendLemmas.{item_send, said_send}
+use Rattle.wamp_messages.specs.contracts.item.Item as Item
 use Rattle.realm_inbox.specs.contracts.act.Act as Act
 use Rattle.realm_inbox.specs.contracts.backlog.Backlog as Backlog
-use Rattle.realm_inbox.specs.contracts.backlog.Held as Held
+use Rattle.realm_inbox.specs.contracts.backlog.GivenBack as Held
 use Rattle.realm_inbox.specs.contracts.backlog.Weight as Weight
 use Rattle.realm_inbox.specs.contracts.ends.Door as Door
 use Rattle.realm_inbox.specs.contracts.ends.Inbox as Inbox
@@ -58,8 +58,8 @@ use Rattle.realm_inbox.specs.contracts.letter.Letter as Letter
 use Rattle.realm_inbox.specs.contracts.letter.Post as Post
 use Rattle.realm_inbox.specs.contracts.room_bell.RoomBell as RoomBell
 use Rattle.realm_inbox.specs.contracts.rule.InTurn as InTurn
-use Rattle.realm_inbox.specs.contracts.rule.InTurnProtocolPostView.TheImpl as in_turn
-use Rattle.realm_inbox.specs.contracts.rule.View as View
+use Rattle.realm_inbox.specs.contracts.rule.InTurnProtocolPostInboxView.TheImpl as in_turn
+use Rattle.realm_inbox.specs.contracts.rule.InboxView as InboxView
 use Rattle.realm_inbox.specs.contracts.bells.Bells as Bells
 use Rattle.realm_inbox.specs.declared.transport.Shut.{Ghosts}
 
@@ -141,18 +141,18 @@ module _ (S : RattleType) (shut : Ghosts S.Denot) where
   key = Badge.the_row (Key.the_row post)
 
   abbrev channel : RattleType
-  channel = Rows.the_row key (Doing.the_row post (View.the_row S)) (Rounds.the_row InTurn.the_row) (Option.the_row post) (Key.the_row post) (Lockers.the_row Whole.the_row) Global.the_row
-      (rounds.ghosts post (View.the_row S) InTurn.the_row (in_turn.ghosts S shut in_turn.no_dict in_turn.no_dict) rounds.no_dict) (lockers.ghosts post post Whole.the_row (whole.ghosts post) lockers.no_dict) global.ghosts
+  channel = Rows.the_row key (Doing.the_row post (InboxView.the_row S)) (Rounds.the_row InTurn.the_row) (Option.the_row post) (Key.the_row post) (Lockers.the_row Whole.the_row) Global.the_row
+      (rounds.ghosts post (InboxView.the_row S) InTurn.the_row (in_turn.ghosts S shut in_turn.no_dict in_turn.no_dict) rounds.no_dict) (lockers.ghosts post post Whole.the_row (whole.ghosts post) lockers.no_dict) global.ghosts
 
   key_send : IsSend key
   key_send = badge.the_send _
 
   channel_send : IsSend S → IsSend channel
-  channel_send s = rows.the_send _ _ _ _ _ _ _ (rounds.ghosts post (View.the_row S) InTurn.the_row (in_turn.ghosts S shut in_turn.no_dict in_turn.no_dict) rounds.no_dict) (lockers.ghosts post post Whole.the_row (whole.ghosts post) lockers.no_dict) global.ghosts
+  channel_send s = rows.the_send _ _ _ _ _ _ _ (rounds.ghosts post (InboxView.the_row S) InTurn.the_row (in_turn.ghosts S shut in_turn.no_dict in_turn.no_dict) rounds.no_dict) (lockers.ghosts post post Whole.the_row (whole.ghosts post) lockers.no_dict) global.ghosts
       key_send (option_send post (post_send S s)) heap.send heap.frees
 
   channel_sync : IsSend S → IsSync channel
-  channel_sync s = rows.the_sync _ _ _ _ _ _ _ (rounds.ghosts post (View.the_row S) InTurn.the_row (in_turn.ghosts S shut in_turn.no_dict in_turn.no_dict) rounds.no_dict) (lockers.ghosts post post Whole.the_row (whole.ghosts post) lockers.no_dict) global.ghosts
+  channel_sync s = rows.the_sync _ _ _ _ _ _ _ (rounds.ghosts post (InboxView.the_row S) InTurn.the_row (in_turn.ghosts S shut in_turn.no_dict in_turn.no_dict) rounds.no_dict) (lockers.ghosts post post Whole.the_row (whole.ghosts post) lockers.no_dict) global.ghosts
       key_send (option_send post (post_send S s)) heap.send heap.sync heap.frees
 
   receiving_send : IsSend S → IsSend (Receiving.the_row channel Global.the_row global.ghosts)

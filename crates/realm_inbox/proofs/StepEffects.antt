@@ -11,8 +11,8 @@ use Rattle.realm_inbox.specs.declared.letter.Halt.{Halt}
 use Rattle.realm_inbox.specs.declared.letter.Letter.{Letter}
 use Rattle.realm_inbox.specs.declared.letter.Post.{Post}
 use Rattle.realm_inbox.specs.declared.letter.Post.TheVariants.{Act, Stop}
-use Rattle.realm_inbox.specs.declared.rule.View.{View}
-use Rattle.realm_inbox.specs.declared.rule.View.TheVariants.{Reader, Seat, Door, Both, Nobody}
+use Rattle.realm_inbox.specs.declared.rule.InboxView.{InboxView}
+use Rattle.realm_inbox.specs.declared.rule.InboxView.TheVariants.{Reader, Seat, Door, Both, Nobody}
 use Rattle.realm_inbox.specs.Seats.{before, said, at_seat, stops_of, IsNext, InOrder, BringsHome, IsHomed}
 use Rattle.realm_inbox.specs.InTurn.{new_door, next_seat, after_cut, after_door, after_post, after_stop, nobody, with_seat, beside, without_seat, seat_in, Agrees, Receipt, Keeps}
 use Rattle.realm_inbox.specs.Ends.{home_in, posted_in, received_in, stops_in, number_in, is_seat, is_reader, is_door, reads_any, posts_any}
@@ -23,47 +23,47 @@ is_not : {B : Type 0} → false ≡ true → B
 is_not e = absurd (true≢false (sym e))
 
 module _ {S : Type 0} where
-  reader_is : (n : ℕ) (v : View S) → is_reader n v ≡ true → v ≡ Reader (home_in v) n (received_in v)
+  reader_is : (n : ℕ) (v : InboxView S) → is_reader n v ≡ true → v ≡ Reader (home_in v) n (received_in v)
   reader_is n (Reader b m r) e = ap (λ k. Reader b k r) (eqb-true m n e)
   reader_is n (Seat b k posted) e = is_not e
   reader_is n (Door b m) e = is_not e
   reader_is n (Both b m r c k posted) e = is_not e
   reader_is n Nobody e = is_not e
 
-  seat_is : (k : ℕ) (v : View S) → is_seat k v ≡ true → v ≡ Seat (home_in v) k (posted_in v)
+  seat_is : (k : ℕ) (v : InboxView S) → is_seat k v ≡ true → v ≡ Seat (home_in v) k (posted_in v)
   seat_is k (Reader b n r) e = is_not e
   seat_is k (Seat b j posted) e = ap (λ i. Seat b i posted) (eqb-true j k e)
   seat_is k (Door b n) e = is_not e
   seat_is k (Both b n r c j posted) e = is_not e
   seat_is k Nobody e = is_not e
 
-  door_is : (v : View S) → is_door v ≡ true → v ≡ Door (home_in v) (stops_in v)
+  door_is : (v : InboxView S) → is_door v ≡ true → v ≡ Door (home_in v) (stops_in v)
   door_is (Reader b n r) e = is_not e
   door_is (Seat b k posted) e = is_not e
   door_is (Door b n) e = refl
   door_is (Both b n r c k posted) e = is_not e
   door_is Nobody e = is_not e
 
-  pub receives_by : (pass n : ℕ) (v : View S) → is_reader n v ≡ true → Pops Keeps pass v (Receipt v) × Learns Keeps pass v (λ items. Unit {0})
-  receives_by pass n v e = (subst (λ (u : View S). Pops Keeps pass u (λ x w. Receipt u x w)) (sym (reader_is n v e)) (receives_reader (home_in v) pass n (received_in v)), λ items views h at. tt)
+  pub receives_by : (pass n : ℕ) (v : InboxView S) → is_reader n v ≡ true → Pops Keeps pass v (Receipt v) × Learns Keeps pass v (λ items. Unit {0})
+  receives_by pass n v e = (subst (λ (u : InboxView S). Pops Keeps pass u (λ x w. Receipt u x w)) (sym (reader_is n v e)) (receives_reader (home_in v) pass n (received_in v)), λ items views h at. tt)
 
-  pub posts_by : (n pass k : ℕ) (v : View S) (l : Letter S) → is_seat k v ≡ true → seat_of l.conn ≡ k → before l ≡ posted_in v → BringsHome (home_in v) l.act
+  pub posts_by : (n pass k : ℕ) (v : InboxView S) (l : Letter S) → is_seat k v ≡ true → seat_of l.conn ≡ k → before l ≡ posted_in v → BringsHome (home_in v) l.act
       → Pushes Keeps n pass v (Act l) (λ w. w ≡ after_post v (Act l)) × Learns Keeps pass v (λ items. Unit {0})
   posts_by n pass k v l e own told home =
-      (subst (λ (u : View S). Pushes Keeps n pass u (Act l) (λ w. w ≡ after_post u (Act l))) (sym (seat_is k v e)) (posts_seat (home_in v) n pass k (posted_in v) l own told home), λ items views h at. tt)
+      (subst (λ (u : InboxView S). Pushes Keeps n pass u (Act l) (λ w. w ≡ after_post u (Act l))) (sym (seat_is k v e)) (posts_seat (home_in v) n pass k (posted_in v) l own told home), λ items views h at. tt)
 
-  pub stops_by : (n pass : ℕ) (v : View S) (halt : Halt) → is_door v ≡ true → Pushes Keeps n pass v (Stop halt) (λ w. w ≡ after_stop v) × Learns Keeps pass v (λ items. Unit {0})
+  pub stops_by : (n pass : ℕ) (v : InboxView S) (halt : Halt) → is_door v ≡ true → Pushes Keeps n pass v (Stop halt) (λ w. w ≡ after_stop v) × Learns Keeps pass v (λ items. Unit {0})
   stops_by n pass v halt e =
-      (subst (λ (u : View S). Pushes Keeps n pass u (Stop halt) (λ w. w ≡ after_stop u)) (sym (door_is v e)) (stops_door (home_in v) n pass (stops_in v) halt), λ items views h at. tt)
+      (subst (λ (u : InboxView S). Pushes Keeps n pass u (Stop halt) (λ w. w ≡ after_stop u)) (sym (door_is v e)) (stops_door (home_in v) n pass (stops_in v) halt), λ items views h at. tt)
 
-  pub cuts_by : (pass n : ℕ) (v : View S) → is_reader n v ≡ true → Forks Keeps pass v (after_cut v) (next_seat v)
-  cuts_by pass n v e = subst (λ (u : View S). Forks Keeps pass u (after_cut u) (next_seat u)) (sym (reader_is n v e)) (cuts_seat (home_in v) pass n (received_in v))
+  pub cuts_by : (pass n : ℕ) (v : InboxView S) → is_reader n v ≡ true → Forks Keeps pass v (after_cut v) (next_seat v)
+  cuts_by pass n v e = subst (λ (u : InboxView S). Forks Keeps pass u (after_cut u) (next_seat u)) (sym (reader_is n v e)) (cuts_seat (home_in v) pass n (received_in v))
 
-  pub cuts_door_by : (home : Option TableId) (pass : ℕ) (v : View S) → is_reader 0 v ≡ true → Forks Keeps pass v (after_door home v) (new_door home)
-  cuts_door_by home pass v e = subst (λ (u : View S). Forks Keeps pass u (after_door home u) (new_door home)) (sym (reader_is 0 v e)) (cuts_new_door (home_in v) home pass (received_in v))
+  pub cuts_door_by : (home : Option TableId) (pass : ℕ) (v : InboxView S) → is_reader 0 v ≡ true → Forks Keeps pass v (after_door home v) (new_door home)
+  cuts_door_by home pass v e = subst (λ (u : InboxView S). Forks Keeps pass u (after_door home u) (new_door home)) (sym (reader_is 0 v e)) (cuts_new_door (home_in v) home pass (received_in v))
 
   -- of the cut of the door
-  pub door_told : (home : Option TableId) (v w d : View S) → is_reader 0 v ≡ true → w ≡ after_door home v → d ≡ new_door home
+  pub door_told : (home : Option TableId) (v w d : InboxView S) → is_reader 0 v ≡ true → w ≡ after_door home v → d ≡ new_door home
       → (is_reader 1 w ≡ true) × (received_in w ≡ received_in v) × (home_in w ≡ home) × (is_door d ≡ true) × (stops_in d ≡ 0) × (home_in d ≡ home)
   door_told home (Reader b m r) w d e is cut =
       (ap (λ u. is_reader 1 u) is ∙ eq-eqb (m + 1) 1 (ap (λ i. i + 1) (eqb-true m 0 e)), ap (λ u. received_in u) is, ap (λ u. home_in u) is, ap (λ u. is_door u) cut, ap (λ u. stops_in u) cut, ap (λ u. home_in u) cut)
@@ -73,7 +73,7 @@ module _ {S : Type 0} where
   door_told home Nobody w d e is cut = is_not e
 
   -- of a post at a seat
-  pub post_told : (k : ℕ) (v w : View S) (l : Letter S) → is_seat k v ≡ true → seat_of l.conn ≡ k → w ≡ after_post v (Act l) → (is_seat k w ≡ true) × (posted_in w ≡ posted_in v ++ said l ∷ []) × (home_in w ≡ home_in v)
+  pub post_told : (k : ℕ) (v w : InboxView S) (l : Letter S) → is_seat k v ≡ true → seat_of l.conn ≡ k → w ≡ after_post v (Act l) → (is_seat k w ≡ true) × (posted_in w ≡ posted_in v ++ said l ∷ []) × (home_in w ≡ home_in v)
   post_told k (Reader b n r) w l e own t = is_not e
   post_told k (Seat b j posted) w l e own t = (ap (λ u. is_seat k u) t ∙ e, ap (λ u. posted_in u) t ∙ ap (λ s. posted ++ s) (adds_here j l (own ∙ sym (eqb-true j k e))), ap (λ u. home_in u) t)
   post_told k (Door b n) w l e own t = is_not e
@@ -81,7 +81,7 @@ module _ {S : Type 0} where
   post_told k Nobody w l e own t = is_not e
 
   -- of a stop
-  pub stop_told : (v w : View S) → is_door v ≡ true → w ≡ after_stop v → (is_door w ≡ true) × (stops_in w ≡ stops_in v + 1) × (home_in w ≡ home_in v)
+  pub stop_told : (v w : InboxView S) → is_door v ≡ true → w ≡ after_stop v → (is_door w ≡ true) × (stops_in w ≡ stops_in v + 1) × (home_in w ≡ home_in v)
   stop_told (Reader b n r) w e t = is_not e
   stop_told (Seat b k posted) w e t = is_not e
   stop_told (Door b n) w e t = (ap (λ u. is_door u) t, ap (λ u. stops_in u) t, ap (λ u. home_in u) t)
@@ -89,7 +89,7 @@ module _ {S : Type 0} where
   stop_told Nobody w e t = is_not e
 
   -- of the cut of a seat
-  pub cut_told : (n : ℕ) (v w s : View S) → is_reader n v ≡ true → w ≡ after_cut v → s ≡ next_seat v → (is_reader (n + 1) w ≡ true) × (received_in w ≡ received_in v) × (is_seat n s ≡ true) × (posted_in s ≡ []) × (home_in w ≡ home_in v) × (home_in s ≡ home_in v)
+  pub cut_told : (n : ℕ) (v w s : InboxView S) → is_reader n v ≡ true → w ≡ after_cut v → s ≡ next_seat v → (is_reader (n + 1) w ≡ true) × (received_in w ≡ received_in v) × (is_seat n s ≡ true) × (posted_in s ≡ []) × (home_in w ≡ home_in v) × (home_in s ≡ home_in v)
   cut_told n (Reader b m r) w s e is cut = (ap (λ u. is_reader (n + 1) u) is ∙ eq-eqb (m + 1) (n + 1) (ap (λ i. i + 1) (eqb-true m n e)), ap (λ u. received_in u) is, ap (λ u. is_seat n u) cut ∙ e, ap (λ u. posted_in u) cut, ap (λ u. home_in u) is, ap (λ u. home_in u) cut)
   cut_told n (Seat b k posted) w s e is cut = is_not e
   cut_told n (Door b m) w s e is cut = is_not e
@@ -97,7 +97,7 @@ module _ {S : Type 0} where
   cut_told n Nobody w s e is cut = is_not e
 
   -- of a receive
-  pub receipt_told : (n : ℕ) (v w : View S) (x : Post S) → is_reader n v ≡ true → Receipt v x w → (is_reader n w ≡ true) × (received_in w ≡ received_in v ++ x ∷ []) × IsNext (received_in v) x × IsHomed (home_in v) x × (home_in w ≡ home_in v)
+  pub receipt_told : (n : ℕ) (v w : InboxView S) (x : Post S) → is_reader n v ≡ true → Receipt v x w → (is_reader n w ≡ true) × (received_in w ≡ received_in v ++ x ∷ []) × IsNext (received_in v) x × IsHomed (home_in v) x × (home_in w ≡ home_in v)
   receipt_told n (Reader b m r) w x e t = (ap (λ u. is_reader n u) t.0 ∙ e, ap (λ u. received_in u) t.0, t.1, t.2, ap (λ u. home_in u) t.0)
   receipt_told n (Seat b k posted) w x e t = is_not e
   receipt_told n (Door b m) w x e t = is_not e
@@ -105,20 +105,20 @@ module _ {S : Type 0} where
   receipt_told n Nobody w x e t = is_not e
 
   -- of a look, whether a post was found or not
-  pub looked : {E : Type 0} (n : ℕ) (v w : View S) (r : Result (Post S) E) → is_reader n v ≡ true → MatchResult r (λ x. Receipt v x w) (λ e. (w ≡ v) × Held {T = Post S} 0 (λ items. Unit {0}))
+  pub looked : {E : Type 0} (n : ℕ) (v w : InboxView S) (r : Result (Post S) E) → is_reader n v ≡ true → MatchResult r (λ x. Receipt v x w) (λ e. (w ≡ v) × Held {T = Post S} 0 (λ items. Unit {0}))
       → MatchResult r (λ x. received_in w ≡ received_in v ++ x ∷ []) (λ e. received_in w ≡ received_in v)
   looked n v w (Ok x) reads t = (receipt_told n v w x reads t).1
-  looked n v w (Err e) reads t = ap (λ (u : View S). received_in u) t.0
+  looked n v w (Err e) reads t = ap (λ (u : InboxView S). received_in u) t.0
 
-  pub looked_homed : {E : Type 0} (n : ℕ) (v w : View S) (r : Result (Post S) E) → is_reader n v ≡ true → MatchResult r (λ x. Receipt v x w) (λ e. (w ≡ v) × Held {T = Post S} 0 (λ items. Unit {0}))
+  pub looked_homed : {E : Type 0} (n : ℕ) (v w : InboxView S) (r : Result (Post S) E) → is_reader n v ≡ true → MatchResult r (λ x. Receipt v x w) (λ e. (w ≡ v) × Held {T = Post S} 0 (λ items. Unit {0}))
       → IfOk r (λ x. IsHomed (home_in v) x)
   looked_homed n v w (Ok x) reads t = (receipt_told n v w x reads t).3
   looked_homed n v w (Err e) reads t = tt
 
-  pub looked_home : {E : Type 0} (n : ℕ) (v w : View S) (r : Result (Post S) E) → is_reader n v ≡ true → MatchResult r (λ x. Receipt v x w) (λ e. (w ≡ v) × Held {T = Post S} 0 (λ items. Unit {0}))
+  pub looked_home : {E : Type 0} (n : ℕ) (v w : InboxView S) (r : Result (Post S) E) → is_reader n v ≡ true → MatchResult r (λ x. Receipt v x w) (λ e. (w ≡ v) × Held {T = Post S} 0 (λ items. Unit {0}))
       → home_in w ≡ home_in v
   looked_home n v w (Ok x) reads t = (receipt_told n v w x reads t).4
-  looked_home n v w (Err e) reads t = ap (λ (u : View S). home_in u) t.0
+  looked_home n v w (Err e) reads t = ap (λ (u : InboxView S). home_in u) t.0
 
   given : {E : Type 0} (was now : List (Post S)) (r : Result (Post S) E) → MatchResult r (λ x. now ≡ was ++ x ∷ []) (λ e. now ≡ was) → MatchOption (result_ok r) (now ≡ was) (λ p. now ≡ was ++ p ∷ [])
   given was now (Ok x) t = t
@@ -130,75 +130,75 @@ module _ {S : Type 0} where
 
 module _ {S : Type 0} where
   -- of the two views in one hand
-  any_reader : (v : View S) → reads_any v ≡ true → (n : ℕ) × (v ≡ Reader (home_in v) n (received_in v))
+  any_reader : (v : InboxView S) → reads_any v ≡ true → (n : ℕ) × (v ≡ Reader (home_in v) n (received_in v))
   any_reader (Reader b n r) e = (n, refl)
   any_reader (Seat b k posted) e = is_not e
   any_reader (Door b n) e = is_not e
   any_reader (Both b n r c k posted) e = is_not e
   any_reader Nobody e = is_not e
 
-  any_seat : (v : View S) → posts_any v ≡ true → v ≡ Seat (home_in v) (number_in v) (posted_in v)
+  any_seat : (v : InboxView S) → posts_any v ≡ true → v ≡ Seat (home_in v) (number_in v) (posted_in v)
   any_seat (Reader b n r) e = is_not e
   any_seat (Seat b k posted) e = refl
   any_seat (Door b n) e = is_not e
   any_seat (Both b n r c k posted) e = is_not e
   any_seat Nobody e = is_not e
 
-  pub reads_some : (n : ℕ) (v : View S) → is_reader n v ≡ true → reads_any v ≡ true
+  pub reads_some : (n : ℕ) (v : InboxView S) → is_reader n v ≡ true → reads_any v ≡ true
   reads_some n v e = ap (λ u. reads_any u) (reader_is n v e)
 
-  pub posts_some : (k : ℕ) (v : View S) → is_seat k v ≡ true → posts_any v ≡ true
+  pub posts_some : (k : ℕ) (v : InboxView S) → is_seat k v ≡ true → posts_any v ≡ true
   posts_some k v e = ap (λ u. posts_any u) (seat_is k v e)
 
-  pub number_is : (k : ℕ) (v : View S) → is_seat k v ≡ true → number_in v ≡ k
+  pub number_is : (k : ℕ) (v : InboxView S) → is_seat k v ≡ true → number_in v ≡ k
   number_is k v e = ap (λ u. number_in u) (seat_is k v e)
 
   -- a seat's view is lent to the reader's: what the passes know, step by step
 
-  seat_lent : (w m : View S) → posts_any w ≡ true → m ≡ seat_in w → m ≡ Seat (home_in w) (number_in w) (posted_in w)
+  seat_lent : (w m : InboxView S) → posts_any w ≡ true → m ≡ seat_in w → m ≡ Seat (home_in w) (number_in w) (posted_in w)
   seat_lent w m posts is = is ∙ ap (λ u. seat_in u) (any_seat w posts)
 
-  both_are : (v w m b : View S) (n : ℕ) → v ≡ Reader (home_in v) n (received_in v) → posts_any w ≡ true → m ≡ seat_in w → b ≡ beside v m → b ≡ Both (home_in v) n (received_in v) (home_in w) (number_in w) (posted_in w)
+  both_are : (v w m b : InboxView S) (n : ℕ) → v ≡ Reader (home_in v) n (received_in v) → posts_any w ≡ true → m ≡ seat_in w → b ≡ beside v m → b ≡ Both (home_in v) n (received_in v) (home_in w) (number_in w) (posted_in w)
   both_are v w m b n reads posts lent is = is ∙ (λ i. beside (reads i) (seat_lent w m posts lent i))
 
-  pub lends_by : (pass : ℕ) (w : View S) → posts_any w ≡ true → Forks Keeps pass w (without_seat w) (seat_in w)
-  lends_by pass w posts = subst (λ (u : View S). Forks Keeps pass u (without_seat u) (seat_in u)) (sym (any_seat w posts)) (lends_seat (home_in w) pass (number_in w) (posted_in w))
+  pub lends_by : (pass : ℕ) (w : InboxView S) → posts_any w ≡ true → Forks Keeps pass w (without_seat w) (seat_in w)
+  lends_by pass w posts = subst (λ (u : InboxView S). Forks Keeps pass u (without_seat u) (seat_in u)) (sym (any_seat w posts)) (lends_seat (home_in w) pass (number_in w) (posted_in w))
 
-  pub merges_by : (pass : ℕ) (v : View S) (other : ℕ) (w m : View S) → reads_any v ≡ true → posts_any w ≡ true → m ≡ seat_in w → Merges Keeps pass v other m (beside v m) nobody
+  pub merges_by : (pass : ℕ) (v : InboxView S) (other : ℕ) (w m : InboxView S) → reads_any v ≡ true → posts_any w ≡ true → m ≡ seat_in w → Merges Keeps pass v other m (beside v m) nobody
   merges_by pass v other w m reads posts lent =
       let r = any_reader v reads in
-      subst (λ (u : View S). Merges Keeps pass u other m (beside u m) nobody) (sym r.1)
-      (subst (λ (u : View S). Merges Keeps pass (Reader (home_in v) r.0 (received_in v)) other u (with_seat (home_in v) r.0 (received_in v) u) nobody) (sym (seat_lent w m posts lent))
+      subst (λ (u : InboxView S). Merges Keeps pass u other m (beside u m) nobody) (sym r.1)
+      (subst (λ (u : InboxView S). Merges Keeps pass (Reader (home_in v) r.0 (received_in v)) other u (with_seat (home_in v) r.0 (received_in v) u) nobody) (sym (seat_lent w m posts lent))
       (merges_seat (home_in v) pass r.0 (received_in v) other (home_in w) (number_in w) (posted_in w)))
 
-  pub learns_by : (pass : ℕ) (v w m b : View S) → reads_any v ≡ true → posts_any w ≡ true → m ≡ seat_in w → b ≡ beside v m → Learns Keeps pass b (λ items. Agrees b)
+  pub learns_by : (pass : ℕ) (v w m b : InboxView S) → reads_any v ≡ true → posts_any w ≡ true → m ≡ seat_in w → b ≡ beside v m → Learns Keeps pass b (λ items. Agrees b)
   learns_by pass v w m b reads posts lent is =
       let r = any_reader v reads in
-      subst (λ (u : View S). Learns Keeps pass u (λ items. Agrees u)) (sym (both_are v w m b r.0 r.1 posts lent is)) (learns_both (home_in v) pass r.0 (received_in v) (home_in w) (number_in w) (posted_in w))
+      subst (λ (u : InboxView S). Learns Keeps pass u (λ items. Agrees u)) (sym (both_are v w m b r.0 r.1 posts lent is)) (learns_both (home_in v) pass r.0 (received_in v) (home_in w) (number_in w) (posted_in w))
 
-  pub forks_by : (pass : ℕ) (v w m b : View S) → reads_any v ≡ true → posts_any w ≡ true → m ≡ seat_in w → b ≡ beside v m → Forks Keeps pass b (without_seat b) (seat_in b)
+  pub forks_by : (pass : ℕ) (v w m b : InboxView S) → reads_any v ≡ true → posts_any w ≡ true → m ≡ seat_in w → b ≡ beside v m → Forks Keeps pass b (without_seat b) (seat_in b)
   forks_by pass v w m b reads posts lent is =
       let r = any_reader v reads in
-      subst (λ (u : View S). Forks Keeps pass u (without_seat u) (seat_in u)) (sym (both_are v w m b r.0 r.1 posts lent is)) (forks_seat (home_in v) pass r.0 (received_in v) (home_in w) (number_in w) (posted_in w))
+      subst (λ (u : InboxView S). Forks Keeps pass u (without_seat u) (seat_in u)) (sym (both_are v w m b r.0 r.1 posts lent is)) (forks_seat (home_in v) pass r.0 (received_in v) (home_in w) (number_in w) (posted_in w))
 
-  pub returns_by : (pass other : ℕ) (v w m b empty back : View S) → reads_any v ≡ true → posts_any w ≡ true → m ≡ seat_in w → b ≡ beside v m → empty ≡ without_seat w → back ≡ seat_in b
+  pub returns_by : (pass other : ℕ) (v w m b empty back : InboxView S) → reads_any v ≡ true → posts_any w ≡ true → m ≡ seat_in w → b ≡ beside v m → empty ≡ without_seat w → back ≡ seat_in b
       → Merges Keeps pass empty other back (beside empty back) nobody
   returns_by pass other v w m b empty back reads posts lent is left gone =
       let r = any_reader v reads in
       let none : empty ≡ nobody = left ∙ ap (λ u. without_seat u) (any_seat w posts) in
       let seat : back ≡ Seat (home_in w) (number_in w) (posted_in w) = gone ∙ ap (λ u. seat_in u) (both_are v w m b r.0 r.1 posts lent is) in
-      subst (λ (u : View S). Merges Keeps pass u other back (beside u back) nobody) (sym none)
-      (subst (λ (u : View S). Merges Keeps pass nobody other u u nobody) (sym seat) (returns_seat pass other (home_in w) (number_in w) (posted_in w)))
+      subst (λ (u : InboxView S). Merges Keeps pass u other back (beside u back) nobody) (sym none)
+      (subst (λ (u : InboxView S). Merges Keeps pass nobody other u u nobody) (sym seat) (returns_seat pass other (home_in w) (number_in w) (posted_in w)))
 
   -- what was learned
-  pub compared : (v w m b : View S) → reads_any v ≡ true → posts_any w ≡ true → m ≡ seat_in w → b ≡ beside v m → Agrees b → IsPrefix (at_seat (number_in w) (received_in v)) (posted_in w)
+  pub compared : (v w m b : InboxView S) → reads_any v ≡ true → posts_any w ≡ true → m ≡ seat_in w → b ≡ beside v m → Agrees b → IsPrefix (at_seat (number_in w) (received_in v)) (posted_in w)
   compared v w m b reads posts lent is agrees = let r = any_reader v reads in subst (λ u. Agrees u) (both_are v w m b r.0 r.1 posts lent is) agrees
 
   -- both views are as before
-  pub reader_back : (v w m b new : View S) → reads_any v ≡ true → posts_any w ≡ true → m ≡ seat_in w → b ≡ beside v m → new ≡ without_seat b → new ≡ v
+  pub reader_back : (v w m b new : InboxView S) → reads_any v ≡ true → posts_any w ≡ true → m ≡ seat_in w → b ≡ beside v m → new ≡ without_seat b → new ≡ v
   reader_back v w m b new reads posts lent is left = let r = any_reader v reads in left ∙ ap (λ u. without_seat u) (both_are v w m b r.0 r.1 posts lent is) ∙ sym r.1
 
-  pub seat_back : (v w m b empty back new : View S) → reads_any v ≡ true → posts_any w ≡ true → m ≡ seat_in w → b ≡ beside v m → empty ≡ without_seat w → back ≡ seat_in b → new ≡ beside empty back → new ≡ w
+  pub seat_back : (v w m b empty back new : InboxView S) → reads_any v ≡ true → posts_any w ≡ true → m ≡ seat_in w → b ≡ beside v m → empty ≡ without_seat w → back ≡ seat_in b → new ≡ beside empty back → new ≡ w
   seat_back v w m b empty back new reads posts lent is left gone come =
       let r = any_reader v reads in
       let none : empty ≡ nobody = left ∙ ap (λ u. without_seat u) (any_seat w posts) in

@@ -5,8 +5,8 @@ use mathlib.Core.List.{IsPrefix}
 use lib.ListN.{get_elem?}
 use Rattle.atomic_table.specs.Seated.{TableId}
 use Rattle.realm_inbox.specs.declared.letter.Post.{Post}
-use Rattle.realm_inbox.specs.declared.rule.View.{View}
-use Rattle.realm_inbox.specs.declared.rule.View.TheVariants.{Reader, Seat, Door, Both, Nobody}
+use Rattle.realm_inbox.specs.declared.rule.InboxView.{InboxView}
+use Rattle.realm_inbox.specs.declared.rule.InboxView.TheVariants.{Reader, Seat, Door, Both, Nobody}
 use Rattle.realm_inbox.specs.Seats.{adds_at, at_seat, stops_of, IsNext, InOrder, IsHomed, EachHomed}
 
 -- how an inbox stands: the chronicle of its realm, if one is picked, what was received of it and what was posted there, which seat has which pass, which is the reader's, and the next number to be cut
@@ -20,14 +20,14 @@ pub record Deal (S : Type 0) : Type 0 where
 
 module _ {S : Type 0} where
   -- the view of the first pass, from which the door and the seats are cut
-  abbrev pub fresh : View S
+  abbrev pub fresh : InboxView S
   fresh = Reader None 0 []
 
-  abbrev pub new_door : Option TableId → View S
+  abbrev pub new_door : Option TableId → InboxView S
   new_door home = Door home 0
 
   -- the reader's view once the door is cut from it, for the chronicle that is picked
-  abbrev pub after_door : Option TableId → View S → View S
+  abbrev pub after_door : Option TableId → InboxView S → InboxView S
   after_door home (Reader b n got) = Reader home (n + 1) got
   after_door home (Seat b k posted) = Seat b k posted
   after_door home (Door b n) = Door b n
@@ -35,7 +35,7 @@ module _ {S : Type 0} where
   after_door home Nobody = Nobody
 
   -- the reader's view once the next number is cut from it
-  abbrev pub after_cut : View S → View S
+  abbrev pub after_cut : InboxView S → InboxView S
   after_cut (Reader b n got) = Reader b (n + 1) got
   after_cut (Seat b k posted) = Seat b k posted
   after_cut (Door b n) = Door b n
@@ -43,7 +43,7 @@ module _ {S : Type 0} where
   after_cut Nobody = Nobody
 
   -- the view of the seat that is cut next
-  abbrev pub next_seat : View S → View S
+  abbrev pub next_seat : InboxView S → InboxView S
   next_seat (Reader b n got) = Seat b n []
   next_seat (Seat b k posted) = Seat b k posted
   next_seat (Door b n) = Door b n
@@ -51,25 +51,25 @@ module _ {S : Type 0} where
   next_seat Nobody = Nobody
 
   -- a post grows the list of its seat
-  abbrev pub after_post : View S → Post S → View S
+  abbrev pub after_post : InboxView S → Post S → InboxView S
   after_post (Reader b n got) p = Reader b n got
   after_post (Seat b k posted) p = Seat b k (posted ++ adds_at k p)
   after_post (Door b n) p = Door b n
   after_post (Both b n got c k posted) p = Both b n got c k posted
   after_post Nobody p = Nobody
 
-  abbrev pub after_stop : View S → View S
+  abbrev pub after_stop : InboxView S → InboxView S
   after_stop (Reader b n got) = Reader b n got
   after_stop (Seat b k posted) = Seat b k posted
   after_stop (Door b n) = Door b (n + 1)
   after_stop (Both b n got c k posted) = Both b n got c k posted
   after_stop Nobody = Nobody
 
-  abbrev pub nobody : View S
+  abbrev pub nobody : InboxView S
   nobody = Nobody
 
   -- the reader's view and a seat's in one hand
-  abbrev pub with_seat : Option TableId → ℕ → List (Post S) → View S → View S
+  abbrev pub with_seat : Option TableId → ℕ → List (Post S) → InboxView S → InboxView S
   with_seat b n got (Reader c m r) = Nobody
   with_seat b n got (Seat c k posted) = Both b n got c k posted
   with_seat b n got (Door c m) = Nobody
@@ -77,7 +77,7 @@ module _ {S : Type 0} where
   with_seat b n got Nobody = Nobody
 
   -- a seat's view is taken in by the reader's, or by nobody's
-  abbrev pub beside : View S → View S → View S
+  abbrev pub beside : InboxView S → InboxView S → InboxView S
   beside (Reader b n got) w = with_seat b n got w
   beside (Seat b k posted) w = Nobody
   beside (Door b n) w = Nobody
@@ -85,7 +85,7 @@ module _ {S : Type 0} where
   beside Nobody w = w
 
   -- what is left once the seat's view goes
-  abbrev pub without_seat : View S → View S
+  abbrev pub without_seat : InboxView S → InboxView S
   without_seat (Reader b n got) = Nobody
   without_seat (Seat b k posted) = Nobody
   without_seat (Door b n) = Nobody
@@ -93,7 +93,7 @@ module _ {S : Type 0} where
   without_seat Nobody = Nobody
 
   -- the seat's view
-  abbrev pub seat_in : View S → View S
+  abbrev pub seat_in : InboxView S → InboxView S
   seat_in (Reader b n got) = Nobody
   seat_in (Seat b k posted) = Seat b k posted
   seat_in (Door b n) = Nobody
@@ -101,7 +101,7 @@ module _ {S : Type 0} where
   seat_in Nobody = Nobody
 
   -- what was received of the seat begins what was posted there
-  abbrev pub Agrees : View S → Type 0
+  abbrev pub Agrees : InboxView S → Type 0
   Agrees (Reader b n got) = Unit {0}
   Agrees (Seat b k posted) = Unit {0}
   Agrees (Door b n) = Unit {0}
@@ -109,7 +109,7 @@ module _ {S : Type 0} where
   Agrees Nobody = Unit {0}
 
   -- what a receive tells: the post was received, and is the next of its seat
-  abbrev pub Receipt : View S → Post S → View S → Type 0
+  abbrev pub Receipt : InboxView S → Post S → InboxView S → Type 0
   Receipt (Reader b n got) p w = (w ≡ Reader b n (got ++ p ∷ [])) × IsNext got p × IsHomed b p
   Receipt (Seat b k posted) p w = Unit {0}
   Receipt (Door b n) p w = Unit {0}
@@ -120,7 +120,7 @@ module _ {S : Type 0} where
   dealt home got all owner reader next = record { home = home; got = got; all = all; owner = owner; reader = reader; next = next }
 
   -- The numbers below `next` were cut. The seat k has the pass `owner k`, and what was posted there is at_seat k of `all`; the door has the pass `owner 0`; all know the chronicle
-  abbrev pub Fits : Deal S → ℕ → View S → Type 0
+  abbrev pub Fits : Deal S → ℕ → InboxView S → Type 0
   Fits d pass (Reader b n r) = (pass ≡ d.reader) × (n ≡ d.next) × (r ≡ d.got) × (b ≡ d.home)
   Fits d pass (Seat b k posted) = (pass ≡ d.owner k) × (k < d.next) × (posted ≡ at_seat k d.all) × (b ≡ d.home)
   Fits d pass (Door b n) = (pass ≡ d.owner 0) × (0 < d.next) × (n ≡ stops_of d.all) × (b ≡ d.home)
@@ -128,13 +128,13 @@ module _ {S : Type 0} where
       ((pass ≡ d.reader) × (n ≡ d.next) × (r ≡ d.got) × (b ≡ d.home)) × (pass ≡ d.owner k) × (k < d.next) × (posted ≡ at_seat k d.all) × (c ≡ d.home)
   Fits d pass Nobody = Unit {0}
 
-  pub record Keeps (items : List (Post S)) (views : List (View S)) : Type 0 where
+  pub record Keeps (items : List (Post S)) (views : List (InboxView S)) : Type 0 where
     pub home : Option TableId
     pub got : List (Post S)
     pub owner : ℕ → ℕ
     pub reader : ℕ
     pub next : ℕ
-    pub each_view : (pass : ℕ) (v : View S) → get_elem? views pass ≡ some v → Fits (dealt home got (got ++ items) owner reader next) pass v
+    pub each_view : (pass : ℕ) (v : InboxView S) → get_elem? views pass ≡ some v → Fits (dealt home got (got ++ items) owner reader next) pass v
     pub no_post : (k : ℕ) → next ≤ k → at_seat k (got ++ items) ≡ []
     pub no_stop : next ≡ 0 → stops_of (got ++ items) ≡ 0
     pub in_order : InOrder got items

@@ -2,7 +2,7 @@
 use crate::joining::Joining;
 use crate::transport::Shut;
 use message_tree::Octets;
-use session::Said;
+use wamp_messages::Said;
 
 /// What a connection does, as its reader sees it.
 #[derive(Drop)]

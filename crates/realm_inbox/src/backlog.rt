@@ -84,12 +84,12 @@ impl Backlog {
 ///
 /// It is of 16 octets: so a post is of 128 at most, which are moved by a few instructions, where more are by a call.
 pub struct Weight {
-    held: Held,
+    held: GivenBack,
 }
 
 // What is given back. Nothing of a post that isn't counted.
 #[derive(Drop)]
-enum Held {
+enum GivenBack {
     Nothing,
     Octets(u32, Arc<Backlog>),
 }
@@ -101,7 +101,7 @@ impl Weight {
     pub(crate) fn of<R: Wait>(rt: &R, backlog: &Arc<Backlog>, octets: usize) -> Weight {
         if octets < LEAST_COUNTED {
             return Weight {
-                held: Held::Nothing,
+                held: GivenBack::Nothing,
             };
         }
         Weight {
@@ -111,19 +111,19 @@ impl Weight {
 }
 
 // So many octets, once there is room for them. Nothing where the count of those who share the backlog can't grow.
-fn held_of<R: Wait>(rt: &R, backlog: &Arc<Backlog>, octets: usize) -> Held {
+fn held_of<R: Wait>(rt: &R, backlog: &Arc<Backlog>, octets: usize) -> GivenBack {
     let Ok(backlog) = Arc::try_clone(backlog) else {
-        return Held::Nothing;
+        return GivenBack::Nothing;
     };
     let octets = octets.min(u32::MAX as usize) as u32;
     backlog.take_on(rt, octets as usize);
-    Held::Octets(octets, backlog)
+    GivenBack::Octets(octets, backlog)
 }
 
 impl Drop for Weight {
     fn drop(self) {
         let Self { held } = self;
-        if let Held::Octets(octets, backlog) = held {
+        if let GivenBack::Octets(octets, backlog) = held {
             backlog.give_back(octets as usize);
         }
     }

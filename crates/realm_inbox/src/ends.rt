@@ -13,7 +13,7 @@ use crate::backlog::{Backlog, Weight};
 use crate::bells::{Bells, send};
 use crate::letter::{Halt, Letter, Post};
 use crate::room_bell::RoomBell;
-use crate::rule::{Beside, InTurn, Posts, Receives, Stops, View};
+use crate::rule::{Beside, InTurn, InboxView, Posts, Receives, Stops};
 use crate::transport::Shut;
 use crossbeam_channel::{Pass, RuledReceiver, RuledSender, TryRecvError};
 use crossbeam_utils::sync::Parker;
@@ -23,11 +23,11 @@ use std::snapshot::Snapshot;
 use std::sync::{Arc, Wait};
 use wamp_ids::{Conn, seat};
 
-pub(crate) type Sending<S> = RuledSender<Post<S>, View<S>, InTurn>;
+pub(crate) type Sending<S> = RuledSender<Post<S>, InboxView<S>, InTurn>;
 
-pub(crate) type Receiving<S> = RuledReceiver<Post<S>, View<S>, InTurn>;
+pub(crate) type Receiving<S> = RuledReceiver<Post<S>, InboxView<S>, InTurn>;
 
-pub(crate) type Ticket<S> = Pass<Post<S>, View<S>>;
+pub(crate) type Ticket<S> = Pass<Post<S>, InboxView<S>>;
 
 /// Makes posters, and posts stops. While it lives the inbox has a sender.
 ///

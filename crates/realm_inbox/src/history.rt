@@ -3,9 +3,9 @@ ghost use Rattle.std.specs.Prelude.{◌≡◌, Some};
 
 use outbox_queue::{Book, Owed, Recorded};
 use realm::Realm;
-use session::Item;
 use std::marker::Model;
 use std::snapshot::Snapshot;
+use wamp_messages::Item;
 
 /// The history of a realm at one moment. It takes no bytes, and is tied to no chronicle.
 #[derive(Drop)]

@@ -5,7 +5,7 @@ use crate::history::RealmHistory;
 use crate::transport::Shut;
 use message_tree::Text;
 use outbox_queue::Outbox;
-use session::Item;
+use wamp_messages::Item;
 
 /// What a connection brings that asks for a session. Nothing was added to its outbox yet, and that is open.
 #[derive(Drop)]

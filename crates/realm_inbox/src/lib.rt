@@ -1,19 +1,35 @@
 //! The inbox of a realm's actor: many connections post, one thread receives, and each post is the next of its seat.
 //!
-//! [`opening::inbox`] makes a [`Door`], the 256 [`Seat`]s and the [`Inbox`]. A [`Poster`] posts the acts of one connection at its
-//! seat; a seat serves one connection after another. What was posted at each seat, and what was received, are facts that contracts
-//! see and that take no bytes. Each post carries what had been posted at its seat before it; and when it is received, that is
-//! exactly what had been received of the seat. So of each seat the inbox gives what was posted there, whole and in order, and
-//! [`laws`] says so of every moment. Nobody else makes a [`Post`]. Who has an inbox and a poster of it in one hand learns by
-//! [`Inbox::compare`] that what was received of the seat begins what was posted there.
+//! [`opening::inbox`] makes a [`Door`], the 256 [`Seat`]s and the [`Inbox`]. A [`Poster`] posts the acts of one
+//! connection at its seat; a seat serves one connection after another. What was posted at each seat, and what was
+//! received, are facts that contracts see and that take no bytes. Each post carries what had been posted at its seat
+//! before it; and when it is received, that is exactly what had been received of the seat. So of each seat the inbox
+//! gives what was posted there, whole and in order, and [`laws`] says so of every moment. Nobody else makes a [`Post`].
+//! Who has an inbox and a poster of it in one hand learns by [`Inbox::compare`] that what was received of the seat
+//! begins what was posted there.
 //!
-//! An end that finds the inbox full or empty waits by means of this crate's own: posters at a bell, the receiving end in a parker. Who
-//! receives many posts at once by [`Inbox::try_receive`] tells the posters afterwards that there is room, by [`Inbox::wake`].
+//! ```
+//! // as in cases_inbox/src/room.rt
+//! let (door, seats, inbox) = inbox::<Wire>(alloc, cap)?;
+//! // as in cases_inbox/src/threads.rt: a connection takes its seat
+//! let at = room.take_seat(seat(conn))?;
+//! let poster = at.into_poster(conn).ok()?;
+//! // as in cases_inbox/src/case.rt: its first act, which was read from no octets
+//! let joining = joining_of(alloc, poster.conn(), authid, wire)?;
+//! let posted = poster.post(rt, Act::Join(joining), 0);
+//! // as in cases_inbox/src/threads.rt: the receiving thread, until nobody is left who could post
+//! match inbox.receive(rt) {
+//!     None => break,
+//!     Some(post) => received.sees(&post),
+//! }
+//! ```
 //!
-//! Nothing is promised of time: neither that a call returns while the inbox is full or empty, nor which seat comes first.
+//! An end that finds the inbox full or empty waits by means of this crate's own: posters at a bell, the receiving end
+//! in a parker. Who receives many posts at once by [`Inbox::try_receive`] tells the posters afterwards that there is
+//! room, by [`Inbox::wake`].
 //!
-//! It stands on `session` (what is posted), `message_tree` and `wamp_ids` (what that is made of), `outbox_queue`, `chronicle` and
-//! `realm` (what a Join brings: an outbox of what a realm's history owes), and `ghost_state`.
+//! Nothing is promised of time: neither that a call returns while the inbox is full or empty, nor which seat comes
+//! first.
 #![tactic(auto)]
 
 mod act;
@@ -38,5 +54,5 @@ pub use history::{RealmChronicle, RealmHistory, RealmMoment};
 pub use joining::Joining;
 pub use letter::{Halt, Letter, Post};
 pub use posting::Posting;
-pub use rule::{InTurn, View};
-pub use transport::{IdSource, Shut};
+pub use rule::{InTurn, InboxView};
+pub use transport::Shut;

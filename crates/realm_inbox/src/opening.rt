@@ -12,7 +12,7 @@ use crate::ends::{Door, Inbox, Seat, Sending, Ticket};
 use crate::history::RealmChronicle;
 use crate::letter::Post;
 use crate::room_bell::RoomBell;
-use crate::rule::{CutDoor, CutSeat, InTurn, Naming, View};
+use crate::rule::{CutDoor, CutSeat, InTurn, InboxNaming, InboxView};
 use crate::transport::Shut;
 use crossbeam_channel::bounded_with;
 use crossbeam_utils::sync::Parker;
@@ -23,7 +23,7 @@ use std::sync::Arc;
 use wamp_ids::SEATS;
 
 // What the door knows, cut before any seat. The caller picks the chronicle.
-fn cut_door<S: Shut, J: Naming>(sender: &Sending<S>, pass: &mut Ticket<S>) -> Ticket<S>
+fn cut_door<S: Shut, J: InboxNaming>(sender: &Sending<S>, pass: &mut Ticket<S>) -> Ticket<S>
     requires pass { IsSeatAt (sends_on sender.now) pass.old × (is_reader 0 (view pass.old) ≡ true) }
     ensures pass { IsSeatAt (sends_on sender.now) pass.new × (is_reader 1 (view pass.new) ≡ true)
         × (received_in (view pass.new) ≡ received_in (view pass.old))
@@ -154,7 +154,7 @@ fn make<S: Shut>(
     ensures door { IfOk result (λ r. (stops r.0 ≡ 0) × (inbox_of_door r.0 ≡ inbox_of r.2)) }
 {
     let _ = chronicle;
-    let (sender, receiver, mut pass) = bounded_with::<Post<S>, View<S>, InTurn, Global>(
+    let (sender, receiver, mut pass) = bounded_with::<Post<S>, InboxView<S>, InTurn, Global>(
         alloc, cap,
     )?;
     let door = cut_door::<S, Brand>(&sender, &mut pass);

@@ -9,7 +9,7 @@ use std::marker::{Brand, PhantomData};
 use wamp_ids::Conn;
 
 /// What an end of an inbox knows: the chronicle of its realm, if one is picked, and more. No value of it is made.
-pub enum View<S: Shut> {
+pub enum InboxView<S: Shut> {
     /// The receiving end: which number is cut next, and what was received, the oldest first. The number 0 is the door's.
     Reader(Option<Name>, u64, LinkedList<Post<S>>),
     /// A seat: its number, and what was posted there, the oldest first.
@@ -26,7 +26,7 @@ pub enum View<S: Shut> {
 /// Join brings an outbox of another chronicle than the inbox's.
 pub struct InTurn;
 
-impl<S: Shut> Protocol<Post<S>, View<S>> for InTurn {
+impl<S: Shut> Protocol<Post<S>, InboxView<S>> for InTurn {
     ghost use Rattle.realm_inbox.specs.InTurn.{Keeps, fresh};
 
     ghost holds = { Keeps };
@@ -37,7 +37,7 @@ impl<S: Shut> Protocol<Post<S>, View<S>> for InTurn {
 // Cuts the pass of the next seat from the reader's.
 pub(crate) struct CutSeat;
 
-impl<S: Shut> Split<View<S>> for CutSeat {
+impl<S: Shut> Split<InboxView<S>> for CutSeat {
     ghost use Rattle.realm_inbox.specs.InTurn.{after_cut, next_seat};
 
     ghost left = { after_cut };
@@ -46,14 +46,14 @@ impl<S: Shut> Split<View<S>> for CutSeat {
 }
 
 /// The chronicle of an inbox's realm, which who makes the inbox picks.
-pub(crate) trait Naming {
+pub(crate) trait InboxNaming {
     ghost use Rattle.std.specs.Prelude.{Option};
     ghost use Rattle.atomic_table.specs.Seated.{TableId};
 
     ghost home: { Option TableId };
 }
 
-impl Naming for Brand {
+impl InboxNaming for Brand {
     ghost use Rattle.std.specs.Prelude.{None};
 
     ghost home = { None };
@@ -64,7 +64,7 @@ pub(crate) struct CutDoor<J> {
     of: PhantomData<J>,
 }
 
-impl<S: Shut, J: Naming> Split<View<S>> for CutDoor<J> {
+impl<S: Shut, J: InboxNaming> Split<InboxView<S>> for CutDoor<J> {
     ghost use Rattle.realm_inbox.specs.InTurn.{after_door, new_door};
 
     ghost left = { after_door J.home };
@@ -75,7 +75,7 @@ impl<S: Shut, J: Naming> Split<View<S>> for CutDoor<J> {
 // A seat's pass is lent to the reader's, and comes back.
 pub(crate) struct Beside;
 
-impl<S: Shut> Join<View<S>> for Beside {
+impl<S: Shut> Join<InboxView<S>> for Beside {
     ghost use Rattle.realm_inbox.specs.InTurn.{beside, nobody};
 
     ghost both = { beside };
@@ -83,7 +83,7 @@ impl<S: Shut> Join<View<S>> for Beside {
     ghost spent = { nobody };
 }
 
-impl<S: Shut> Split<View<S>> for Beside {
+impl<S: Shut> Split<InboxView<S>> for Beside {
     ghost use Rattle.realm_inbox.specs.InTurn.{without_seat, seat_in};
 
     ghost left = { without_seat };
@@ -91,7 +91,7 @@ impl<S: Shut> Split<View<S>> for Beside {
     ghost right = { seat_in };
 }
 
-impl<S: Shut> Lesson<Post<S>, View<S>> for Beside {
+impl<S: Shut> Lesson<Post<S>, InboxView<S>> for Beside {
     ghost use Rattle.realm_inbox.specs.InTurn.{Agrees};
 
     ghost fact = { λ v items. Agrees v };
@@ -100,14 +100,14 @@ impl<S: Shut> Lesson<Post<S>, View<S>> for Beside {
 // A post at a seat.
 pub(crate) struct Posts;
 
-impl<S: Shut> Outcome<Post<S>, View<S>> for Posts {
+impl<S: Shut> Outcome<Post<S>, InboxView<S>> for Posts {
     ghost use Rattle.std.specs.Prelude.{◌≡◌};
     ghost use Rattle.realm_inbox.specs.InTurn.{after_post};
 
     ghost then = { λ v x w. w ≡ after_post v x };
 }
 
-impl<S: Shut> Lesson<Post<S>, View<S>> for Posts {
+impl<S: Shut> Lesson<Post<S>, InboxView<S>> for Posts {
     ghost use Rattle.std.specs.Prelude.{⊤};
 
     ghost fact = { λ v items. ⊤ };
@@ -116,14 +116,14 @@ impl<S: Shut> Lesson<Post<S>, View<S>> for Posts {
 // A stop, which the door posts.
 pub(crate) struct Stops;
 
-impl<S: Shut> Outcome<Post<S>, View<S>> for Stops {
+impl<S: Shut> Outcome<Post<S>, InboxView<S>> for Stops {
     ghost use Rattle.std.specs.Prelude.{◌≡◌};
     ghost use Rattle.realm_inbox.specs.InTurn.{after_stop};
 
     ghost then = { λ v x w. w ≡ after_stop v };
 }
 
-impl<S: Shut> Lesson<Post<S>, View<S>> for Stops {
+impl<S: Shut> Lesson<Post<S>, InboxView<S>> for Stops {
     ghost use Rattle.std.specs.Prelude.{⊤};
 
     ghost fact = { λ v items. ⊤ };
@@ -132,13 +132,13 @@ impl<S: Shut> Lesson<Post<S>, View<S>> for Stops {
 // A receive.
 pub(crate) struct Receives;
 
-impl<S: Shut> Outcome<Post<S>, View<S>> for Receives {
+impl<S: Shut> Outcome<Post<S>, InboxView<S>> for Receives {
     ghost use Rattle.realm_inbox.specs.InTurn.{Receipt};
 
     ghost then = { Receipt };
 }
 
-impl<S: Shut> Lesson<Post<S>, View<S>> for Receives {
+impl<S: Shut> Lesson<Post<S>, InboxView<S>> for Receives {
     ghost use Rattle.std.specs.Prelude.{⊤};
 
     ghost fact = { λ v items. ⊤ };

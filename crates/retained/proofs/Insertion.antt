@@ -13,7 +13,7 @@ use Rattle.std.proofs.lemmas.Cmp.{nat_list_cmp_total}
 use Rattle.std.specs.Str.{bytes_eq}
 use Rattle.std.proofs.Math.Bool.{or-false}
 use Rattle.wamp_ids.proofs.Lemmas.{bytes_eq-true, bytes_eq-refl}
-use Rattle.session.specs.declared.messages.item.Publication.{Publication}
+use Rattle.wamp_messages.specs.declared.item.Publication.{Publication}
 use Rattle.retained.specs.Store.{without_topic, is_before, put_by_topic, has_topic, has_room, set_topic, IsBeforeAll, AreByTopic}
 use Rattle.retained.specs.body.Places.{FirstAreBefore, IsAt, GoesAt}
 use Rattle.retained.proofs.StoreLemmas.{before-differs, before-differs-back, before-not_back, IsBeforeAll-more, put-front}

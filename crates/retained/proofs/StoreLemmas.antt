@@ -12,7 +12,7 @@ use Rattle.std.specs.declared.cmp.Ordering.TheVariants.{Less, Equal, Greater}
 use Rattle.std.specs.Cmp.Lexicographic.{slice_cmp}
 use Rattle.std.specs.Str.{bytes_eq}
 use Rattle.wamp_ids.proofs.Lemmas.{bytes_eq-true}
-use Rattle.session.specs.declared.messages.item.Publication.{Publication}
+use Rattle.wamp_messages.specs.declared.item.Publication.{Publication}
 use Rattle.retained.specs.Store.{of_topic, without_topic, last_of_each, is_before, put_by_topic, by_topic, retained_of, has_topic, may_be_retained, has_room, set_topic, IsBeforeAll, AreByTopic}
 
 -- ---- the order of topics

@@ -4,7 +4,7 @@ use Rattle.std.specs.List.{list_any, filter}
 use Rattle.std.specs.Ordering.{nat_cmp, is_lt}
 use Rattle.std.specs.Cmp.Lexicographic.{slice_cmp}
 use Rattle.std.specs.Str.{bytes_eq}
-use Rattle.session.specs.declared.messages.item.Publication.{Publication}
+use Rattle.wamp_messages.specs.declared.item.Publication.{Publication}
 
 -- those of this topic, and those of the others
 abbrev pub of_topic : List ℕ → List Publication → List Publication

@@ -2,7 +2,7 @@
 //! there for its contract.
 ghost use Rattle.std.specs.Prelude.{◌≡◌, ℕ, List, take};
 ghost use Rattle.retained.specs.Store.{AreByTopic, of_topic, retained_of};
-ghost use Rattle.session.specs.declared.messages.item.Publication.{Publication};
+ghost use Rattle.wamp_messages.specs.declared.item.Publication.{Publication};
 
 /// Of each topic at most one publication is retained: the last one that was to be. They are in
 /// strictly ascending order of their topics.

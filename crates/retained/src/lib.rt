@@ -1,8 +1,8 @@
-//! Event retention: of each of at most 1,000 topics the last publication that was to be retained (WAMP, "Event Retention").
+//! Event retention: of each of at most 1,000 topics the last publication that was to be retained (WAMP, "Event
+//! Retention").
 //!
-//! It stands on `session` (what a publication is), `message_tree` and `wamp_ids`. Contracts compare the store with a list of
-//! publications: of each topic it has the last that was to be retained, and gives those that a pattern matches in the order of their
-//! topics.
+//! Contracts compare the store with a list of publications: of each topic it has the last that was to be retained, and
+//! gives those that a pattern matches in the order of their topics.
 #![tactic(auto)]
 
 mod fault;

@@ -9,11 +9,11 @@ ghost use Rattle.retained.specs.Store.{AreByTopic, has_room, has_topic, is_full,
 
 use crate::fault::Fault;
 use message_tree::Shared;
-use session::Publication;
 use std::alloc::{AllocError, Global};
 use std::cmp::Ordering;
 use std::marker::Model;
 use wamp_ids::Pattern;
+use wamp_messages::Publication;
 
 /// How many topics may have a retained publication.
 const MOST_RETAINED: usize = 1000;
@@ -30,8 +30,8 @@ impl Model for Store {
     ghost use Rattle.std.specs.Coded.{coded_list};
     ghost use Rattle.std.specs.Prelude.{List};
     ghost use Rattle.retained.specs.Store.{IsStore};
-    ghost use Rattle.session.specs.contracts.messages.item.Publication.{the_row};
-    ghost use Rattle.session.specs.declared.messages.item.Publication.{Publication};
+    ghost use Rattle.wamp_messages.specs.contracts.item.Publication.{the_row};
+    ghost use Rattle.wamp_messages.specs.declared.item.Publication.{Publication};
 
     ghost Value = { List Publication };
 

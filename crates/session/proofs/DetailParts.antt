@@ -11,7 +11,7 @@ use Rattle.session.specs.body.EventDetails.{publisher_entries, retained_entries,
 use Rattle.session.specs.body.SerializedParts.{has_spelling, dict_opening, dict_closing, entries_from, entries_have_spelling}
 use Rattle.session.specs.Serializer.{serialized}
 use Rattle.session.specs.ToClient.{number, put_if, event_details}
-use Rattle.session.specs.declared.messages.item.Publication.{Publication}
+use Rattle.wamp_messages.specs.declared.item.Publication.{Publication}
 
 entries_json : (later : Bool) (es : Entries) → entries_text later es ≡ entries_from Json later es
 entries_json later no_entries = refl

@@ -5,13 +5,13 @@ use Rattle.message_tree.specs.Data.{Data, list, dict, text, flag, item, Entries,
 use Rattle.msgpack_codec.specs.Short.{item_count}
 use Rattle.rawsocket.specs.declared.handshake.Serializer.{Serializer}
 use Rattle.rawsocket.specs.declared.handshake.Serializer.TheVariants.{Json, MsgPack}
-use Rattle.session.specs.Arguments.{last_items}
+use Rattle.wamp_messages.specs.Arguments.{last_items}
 use Rattle.session.specs.ToClient.{number, event, event_details, put_if}
 use Rattle.session.specs.Serializer.{serialized}
 use Rattle.arguments.specs.Endings.{IsEnding}
 use Rattle.session.specs.body.EventHead.{event_front}
 use Rattle.session.specs.body.SerializedParts.{has_spelling, list_opening, list_closing, separator, further}
-use Rattle.session.specs.declared.messages.item.Publication.{Publication}
+use Rattle.wamp_messages.specs.declared.item.Publication.{Publication}
 use Rattle.session.proofs.ListParts.{whole_list}
 
 abbrev details_where : Bool → Publication → Entries

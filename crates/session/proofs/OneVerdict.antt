@@ -20,8 +20,8 @@ use Rattle.session.specs.FromClient.{said_of}
 use Rattle.session.specs.Serializer.{Decodes, IsUndecodable}
 use Rattle.session.specs.declared.fault.Fault.{Fault}
 use Rattle.session.specs.declared.fault.Fault.TheVariants.{NoMemory, TooDeep, Malformed, NotRawSocket, SerializerUnsupported, ReservedBits, FrameTooLong, FrameType, Shape, ReadFault, WriteFault, TooLongForClient, Ended, NoSuchRealm, TooManyTurns}
-use Rattle.session.specs.declared.messages.said.Said.{Said}
-use Rattle.session.specs.declared.messages.said.Said.TheVariants as say
+use Rattle.wamp_messages.specs.declared.said.Said.{Said}
+use Rattle.wamp_messages.specs.declared.said.Said.TheVariants as say
 use Rattle.session.proofs.FrameWalkLemmas.{LeadsBy}
 
 -- octets are one message at most

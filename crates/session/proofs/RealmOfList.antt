@@ -12,9 +12,9 @@ use Rattle.rawsocket.specs.declared.frame.Kind.TheVariants.{Message, Ping, Pong}
 use Rattle.rawsocket.specs.declared.handshake.Serializer.{Serializer}
 use Rattle.session.specs.Opened.{Converses, IsAnswer, Leads, Session, Verdict, Undecided, Opens, Refuses, terms}
 use Rattle.session.specs.FirstMessage.{first_of}
-use Rattle.session.specs.declared.messages.said.Said.{Said}
+use Rattle.wamp_messages.specs.declared.said.Said.{Said}
 use Rattle.session.proofs.FrameWalkLemmas.{LeadsBy}
-use Rattle.session.specs.declared.messages.said.Said.TheVariants.{Hello, Abort, Goodbye, Publish, Subscribe, Unsubscribe}
+use Rattle.wamp_messages.specs.declared.said.Said.TheVariants.{Hello, Abort, Goodbye, Publish, Subscribe, Unsubscribe}
 
 place_within : (realms : List (List ℕ)) (realm : List ℕ) (authid : Option (List ℕ)) (asked : ℕ × Option (List ℕ)) (o : Option ℕ) → position (λ r. bytes_eq r realm) realms ≡ o
     → option_map (λ place. (place, authid)) o ≡ Some asked → asked.0 < length realms

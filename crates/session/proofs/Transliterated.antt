@@ -9,7 +9,7 @@ use Rattle.session.specs.Says.{Says, SaysNothing, HasNoShape}
 use Rattle.session.specs.Serializer.{Decodes}
 use Rattle.session.specs.declared.fault.Fault.{Fault}
 use Rattle.session.specs.declared.fault.Fault.TheVariants.{NoMemory, TooDeep, Malformed, NotRawSocket, SerializerUnsupported, ReservedBits, FrameTooLong, FrameType, Shape, ReadFault, WriteFault, TooLongForClient, Ended, NoSuchRealm, TooManyTurns}
-use Rattle.session.specs.declared.messages.said.Said.{Said}
+use Rattle.wamp_messages.specs.declared.said.Said.{Said}
 
 -- the octets are one message alone, which the text is
 decodes_too : (json octets : List ℕ) → SaysTheSame json octets → (d : Data) → Decodes MsgPack octets d → Decodes Json json d

@@ -6,10 +6,10 @@ use Rattle.std.specs.List.{position}
 use Rattle.std.specs.Str.{bytes_eq}
 use Rattle.session.specs.declared.fault.Fault.{Fault}
 use Rattle.session.specs.declared.fault.Fault.TheVariants.{TooDeep, Malformed, FrameTooLong, FrameType, Shape, NoSuchRealm}
-use Rattle.session.specs.declared.messages.item.Reason.{Reason}
-use Rattle.session.specs.declared.messages.item.Reason.TheVariants as reason
-use Rattle.session.specs.declared.messages.said.Said.{Said}
-use Rattle.session.specs.declared.messages.said.Said.TheVariants.{Hello}
+use Rattle.wamp_messages.specs.declared.item.Reason.{Reason}
+use Rattle.wamp_messages.specs.declared.item.Reason.TheVariants as reason
+use Rattle.wamp_messages.specs.declared.said.Said.{Said}
+use Rattle.wamp_messages.specs.declared.said.Said.TheVariants.{Hello}
 use Rattle.session.specs.ToClient.{uri_of}
 
 abbrev pub is_hello : Said → Bool

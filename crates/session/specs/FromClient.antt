@@ -5,16 +5,16 @@ use Rattle.std.specs.Option.{option_map}
 use Rattle.message_tree.specs.Data.{Data, null, whole, text, list, dict, Items, no_items, item, Entries, find_entry}
 use Rattle.eligibility.specs.Options.{number_of, text_of}
 use Rattle.eligibility.specs.Lists.{is_number}
-use Rattle.request_options.specs.Options.{publish_options_of, subscribe_options_of}
-use Rattle.request_options.specs.declared.publish_options.PublishOptions.{PublishOptions}
-use Rattle.request_options.specs.declared.subscribe_options.SubscribeOptions.{SubscribeOptions}
-use Rattle.session.specs.Arguments.{Arguments}
+use Rattle.wamp_messages.specs.Options.{publish_options_of, subscribe_options_of}
+use Rattle.wamp_messages.specs.declared.publish_options.PublishOptions.{PublishOptions}
+use Rattle.wamp_messages.specs.declared.subscribe_options.SubscribeOptions.{SubscribeOptions}
+use Rattle.wamp_messages.specs.Arguments.{Arguments}
 -- what Arguments and ArgumentsKw are read as
 pub use Rattle.arguments.specs.Reading.{args_of, kwargs_of, with_args, with_both}
 use Rattle.session.specs.declared.fault.Fault.{Fault}
 use Rattle.session.specs.declared.fault.Fault.TheVariants as fault
-use Rattle.session.specs.declared.messages.said.Said.{Said}
-use Rattle.session.specs.declared.messages.said.Said.TheVariants.{Hello, Abort, Goodbye, Publish, Subscribe, Unsubscribe}
+use Rattle.wamp_messages.specs.declared.said.Said.{Said}
+use Rattle.wamp_messages.specs.declared.said.Said.TheVariants.{Hello, Abort, Goodbye, Publish, Subscribe, Unsubscribe}
 
 abbrev pub dict_of : Data → Option Entries
 dict_of (dict es) = Some es

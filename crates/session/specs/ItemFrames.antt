@@ -8,8 +8,8 @@ use Rattle.rawsocket.specs.declared.handshake.Serializer.{Serializer}
 use Rattle.session.specs.body.SerializedParts.{has_spelling}
 use Rattle.session.specs.Serializer.{serialized}
 use Rattle.session.specs.ToClient.{message_of}
-use Rattle.session.specs.declared.messages.item.Item.{Item}
-use Rattle.session.specs.declared.messages.item.Item.TheVariants.{Pong}
+use Rattle.wamp_messages.specs.declared.item.Item.{Item}
+use Rattle.wamp_messages.specs.declared.item.Item.TheVariants.{Pong}
 
 abbrev pub pong_octets : Item → List ℕ
 pong_octets (Pong octets) = octets

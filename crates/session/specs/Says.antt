@@ -6,7 +6,7 @@ use Rattle.session.specs.FromClient.{said_of}
 use Rattle.session.specs.Serializer.{Decodes, IsUndecodable}
 use Rattle.session.specs.declared.fault.Fault.{Fault}
 use Rattle.session.specs.declared.fault.Fault.TheVariants.{Shape}
-use Rattle.session.specs.declared.messages.said.Said.{Said}
+use Rattle.wamp_messages.specs.declared.said.Said.{Said}
 
 -- a payload is a message of a client, which says this
 pub record Says (s : Serializer) (payload : List ℕ) (said : Said) : Type 0 where

@@ -3,14 +3,14 @@ use Rattle.std.specs.Prelude.{ℕ, pos, Bool, true, cond, List, codes, None, Som
 use Rattle.std.specs.declared.option.Option.{Option}
 use Rattle.message_tree.specs.Data.{Data, flag, whole, text, list, dict, no_items, item, Entries, no_entries, put}
 use Rattle.eligibility.specs.declared.who.Who.{Who}
-use Rattle.session.specs.Arguments.{last_items}
-use Rattle.session.specs.declared.messages.item.Publication.{Publication}
-use Rattle.session.specs.declared.messages.item.Reason.{Reason}
-use Rattle.session.specs.declared.messages.item.Reason.TheVariants.{ProtocolViolation, NoSuchRealm, NotAuthorized, SessionIdTaken, InvalidUri, InvalidArgument, NoSuchSubscription, TooManySubscriptions, RetainedFull, GoodbyeAndOut, SystemShutdown}
-use Rattle.session.specs.declared.messages.item.Request as request
-use Rattle.session.specs.declared.messages.item.Request.TheVariants as kind
-use Rattle.session.specs.declared.messages.item.Item as items
-use Rattle.session.specs.declared.messages.item.Item.TheVariants.{Welcome, Abort, Goodbye, Error, Published, Subscribed, Unsubscribed, Event, Pong}
+use Rattle.wamp_messages.specs.Arguments.{last_items}
+use Rattle.wamp_messages.specs.declared.item.Publication.{Publication}
+use Rattle.wamp_messages.specs.declared.item.Reason.{Reason}
+use Rattle.wamp_messages.specs.declared.item.Reason.TheVariants.{ProtocolViolation, NoSuchRealm, NotAuthorized, SessionIdTaken, InvalidUri, InvalidArgument, NoSuchSubscription, TooManySubscriptions, RetainedFull, GoodbyeAndOut, SystemShutdown}
+use Rattle.wamp_messages.specs.declared.item.Request as request
+use Rattle.wamp_messages.specs.declared.item.Request.TheVariants as kind
+use Rattle.wamp_messages.specs.declared.item.Item as items
+use Rattle.wamp_messages.specs.declared.item.Item.TheVariants.{Welcome, Abort, Goodbye, Error, Published, Subscribed, Unsubscribed, Event, Pong}
 
 abbrev pub number : ℕ → Data
 number n = whole (pos n)

@@ -1,8 +1,24 @@
-//! The messages of WAMP sessions, as types, as trees and as the octets of frames, and the opening of a session.
+//! The messages of WAMP sessions as trees and as the octets of frames, and the opening of a session. As types they are
+//! `wamp_messages`'.
 //!
-//! It stands on the codecs, `rawsocket`, `message_tree`, `wamp_ids` and `eligibility`. Contracts say what each message of a client
-//! means, which message each item that the broker owes is, which octets are its frame, and how an opening goes, octet by octet.
-//! Which item answers what, `realm` says.
+//! ```
+//! // as in cases_session/src/opening.rt: from the handshake to HELLO
+//! match open_session(alloc, source, sink, self.realms.as_slice()) {
+//!     Ok(session) => session_in_words(alloc, session, self.behind.as_slice()),
+//!     Err(fault) => fault_line(alloc, fault),
+//! }
+//! // as in cases_session/src/saying.rt: what a message's octets say
+//! let words = answer(alloc, read_payload(alloc, serializer, octets))?;
+//! // as in cases_session/src/writing.rt: the frame of an item, behind what `out` has
+//! match write_item(alloc, serializer, limit.min(MOST), item, &mut out) {
+//!     Ok(()) => compared(alloc, serializer, item, &out),
+//!     Err(_) if out.as_slice() != BEFORE => line_of(alloc, "the buffer is not as before"),
+//!     Err(fault) => Ok(format!(in alloc; "{fault}\n")?),
+//! }
+//! ```
+//!
+//! Contracts say what each message of a client means, which message each item that the broker owes is, which octets are
+//! its frame, and how an opening goes, octet by octet. Which item answers what, `realm` says.
 #![tactic(auto)]
 
 mod fault;
@@ -11,17 +27,16 @@ mod messages;
 mod opening;
 mod wire;
 
-pub use arguments::{Args, CarriedArgs, Decoded};
-pub use eligibility::{Lists, Who};
 pub use fault::Fault;
 pub use messages::from_client::{read_payload, read_said};
-pub use messages::item::{Item, Publication, Reason, Request};
-pub use messages::said::{Said, SaidKind};
 pub use messages::to_client::item_message;
 pub use opening::first_message::{abort_reason, abort_uri, first};
 pub use opening::hello::First;
 pub use opening::open_session;
 pub use opening::opened_session::Opened;
-pub use request_options::{PublishOptions, SubscribeOptions};
+pub use wamp_messages::{
+    Args, CarriedArgs, Decoded, Item, Lists, Publication, PublishOptions, Reason, Request, Said,
+    SaidKind, SubscribeOptions, Who,
+};
 pub use wire::item_frames::{write_item, write_payload};
 pub use wire::serializer::decode;

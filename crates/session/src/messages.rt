@@ -3,8 +3,6 @@
 pub(crate) mod details;
 pub(crate) mod elements;
 pub(crate) mod from_client;
-pub(crate) mod item;
 pub(crate) mod octet_elements;
-pub(crate) mod said;
 pub(crate) mod to_client;
 pub(crate) mod tree_elements;

@@ -1,8 +1,8 @@
 //! Who holds which patterns, under which subscription numbers, and which of them match a topic.
 //!
-//! It stands on `wamp_ids`. Contracts compare it with a list of holdings: what is added, found and removed is what a look
-//! through the whole list would give, in the same order. No number is given twice. A connection holds at most 256 patterns, and at
-//! most 2^53 are opened; a refusal changes nothing.
+//! Contracts compare it with a list of holdings: what is added, found and removed is what a look through the whole list
+//! would give, in the same order. No number is given twice. A connection holds at most 256 patterns, and at most 2^53
+//! are opened; a refusal changes nothing.
 #![tactic(auto)]
 
 mod conns;

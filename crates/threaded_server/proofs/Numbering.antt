@@ -6,7 +6,7 @@ use Rattle.std.proofs.lemmas.List.{get_or-set_same, get_or-set_other}
 use Rattle.threaded_server.proofs.Places.{get_push_cases, get_set_cases, same_or_other}
 use Rattle.std.proofs.lemmas.Grind.{flat_map-append}
 use Rattle.std.specs.declared.snapshot.Snapshot.{Snapshot}
-use Rattle.connection.specs.Seats.{Table, Takes, free_at, given_back, number_at}
+use Rattle.threaded_server.specs.Seats.{Table, Takes, free_at, given_back, number_at}
 use Rattle.threaded_server.specs.Conns.{AreApart, IsGiven, IsNew, IsNumbered, Numbered, conn_of, conns_of}
 use Rattle.threaded_server.specs.Posters.{AreOf}
 use Rattle.threaded_server.specs.declared.entry.Connection.{Connection}

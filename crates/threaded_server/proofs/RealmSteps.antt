@@ -29,7 +29,7 @@ use Rattle.threaded_server.specs.declared.over.Over.{Over}
 use Rattle.threaded_server.specs.declared.over.Over.TheVariants as over
 use Rattle.broker_threads.specs.declared.reader_thread.Ended.{Ended}
 use Rattle.broker_threads.specs.declared.reader_thread.Reader.{Reader}
-use Rattle.broker_threads.specs.declared.writer_thread.Seen.{Seen}
+use Rattle.broker_threads.specs.declared.writer_thread.SeenHistory.{SeenHistory}
 use Rattle.broker_threads.specs.declared.writer_thread.Written.{Written}
 use Rattle.wamp_ids.specs.Numbers.{seat_of}
 
@@ -52,7 +52,7 @@ module _ {S : Type 0} where
   pub more_longer : (old new more : List (Shown S)) → new ≡ old ++ more → Longer old new
   more_longer old new more e i r at = (r, ap (λ l. slice_get l i) e ∙ get_more old more i r at, still r)
 
-  pub keeps_longer : (old new : List (Shown S)) (seen : Seen) → Keeps old seen new → Longer old new
+  pub keeps_longer : (old new : List (Shown S)) (seen : SeenHistory) → Keeps old seen new → Longer old new
   keeps_longer old new seen k i r at = by_place (get_before_set old seen.realm i k.realm (with_seen k.realm seen.history) r k.at at)
     where
       by_place : ((k.realm ≡ r) × (slice_get (set old seen.realm (with_seen k.realm seen.history)) i ≡ Some (with_seen k.realm seen.history))) ⊎ (slice_get (set old seen.realm (with_seen k.realm seen.history)) i ≡ Some r)
@@ -67,7 +67,7 @@ module _ {S : Type 0} where
       )
       by_place (inr h) = (r, ap (λ l. slice_get l i) k.kept ∙ h, still r)
 
-  pub takes_longer : (old new : List (Shown S)) (seen : Option Seen) → TakesIn old seen new → Longer old new
+  pub takes_longer : (old new : List (Shown S)) (seen : Option SeenHistory) → TakesIn old seen new → Longer old new
   takes_longer old new None e = same_longer old new e
   takes_longer old new (Some seen) k = keeps_longer old new seen k
 
@@ -119,7 +119,7 @@ module _ {I O S : Type 0} where
 
 -- what was seen last, if anything was, is of its realm's chronicle
 home_in : {S : Type 0} (realms : List (Shown S)) (i : ℕ) (o : Option (Kept History)) (r : Shown S) → slice_get realms i ≡ Some r → IsOf (λ (h : Kept History) chronicle. h.chronicle ≡ chronicle) o (inbox_in r).2
-    → IfSome (option_map (λ h. record { realm = i; history = h }) o) (λ (seen : Seen). IsAtHome realms seen)
+    → IfSome (option_map (λ h. record { realm = i; history = h }) o) (λ (seen : SeenHistory). IsAtHome realms seen)
 home_in realms i None r at of = tt
 home_in realms i (Some kept) r at of = record { realm = r; at = at; of = of }
 
@@ -185,7 +185,7 @@ module _ {I O S : Type 0} (see : Sight I O) (offer : Offer) where
 
   -- what its writer saw last is of its realm's chronicle
   pub seen_at_home : (realms : List (Shown S)) (before : Stream I O S) (source : Closed I) (back : List (Option (Poster S))) (course : Course O) → GoesBy see offer before source back course → AreAt (places_of realms) before.posters
-      → IfSome (seen_of course) (λ (seen : Seen). IsAtHome realms seen)
+      → IfSome (seen_of course) (λ (seen : SeenHistory). IsAtHome realms seen)
   seen_at_home realms before source back (Untouched sink) h at = tt
   seen_at_home realms before source back (NotOpened sink fault) h at = tt
   seen_at_home realms before source back (OpenedAlone sink) h at = tt

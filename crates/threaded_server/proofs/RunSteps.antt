@@ -20,7 +20,7 @@ use Rattle.realm_inbox.specs.Ends.{Place}
 use Rattle.realm_inbox.specs.Seats.{at_seat}
 use Rattle.realm_inbox.specs.declared.ends.Inbox.{Inbox}
 use Rattle.realm_inbox.specs.declared.ends.Poster.{Poster}
-use Rattle.session.specs.declared.messages.item.Item.{Item}
+use Rattle.wamp_messages.specs.declared.item.Item.{Item}
 use Rattle.std.specs.declared.snapshot.Snapshot.{Snapshot}
 use Rattle.broker_threads.proofs.Lemmas.{none_left}
 use Rattle.threaded_server.proofs.Places.{get_of_map, get_push_cases, get_seam, map_get}

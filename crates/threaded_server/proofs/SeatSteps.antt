@@ -7,7 +7,7 @@ use Rattle.std.proofs.lemmas.Bool.{eq-eqb, ltb-false}
 use Rattle.std.proofs.lemmas.List.{get_or-replicate, get_or-set_other, get_or-set_same, length-map, length-replicate}
 use Rattle.std.proofs.lemmas.List.Sorted.{length_permutation}
 use Rattle.std.proofs.lemmas.Option.{get_or_from_slice_get, none-some, same_Some, slice_get-get_or, slice_get_within}
-use Rattle.connection.specs.Seats.{Table, Takes, free_at, given_back, holds_number, number_at}
+use Rattle.threaded_server.specs.Seats.{Table, Takes, free_at, given_back, holds_number, number_at}
 use Rattle.threaded_server.proofs.Numbering.{place_given, turn_given}
 use Rattle.threaded_server.proofs.Places.{below, get_set, get_set_cases, same_or_other}
 use Rattle.threaded_server.specs.Seating.{AreSeated, IsLastOf}

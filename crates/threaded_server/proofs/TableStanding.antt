@@ -30,7 +30,7 @@ use Rattle.threaded_server.specs.declared.over.Over.TheVariants.{Seated, Untouch
 use Rattle.broker_threads.specs.declared.plan.Plan.{Plan}
 use Rattle.broker_threads.specs.declared.reader_thread.Ended.{Ended}
 use Rattle.broker_threads.specs.declared.reader_thread.Reader.{Reader}
-use Rattle.broker_threads.specs.declared.writer_thread.Seen.{Seen}
+use Rattle.broker_threads.specs.declared.writer_thread.SeenHistory.{SeenHistory}
 use Rattle.wamp_ids.specs.Numbers.{seat_of}
 
 -- one of which all are
@@ -38,7 +38,7 @@ all_at : {A : Type 0} (P : A → Type 0) (xs : List A) (i : ℕ) (a : A) → sli
 all_at P xs i a e h = subst P (get_or_from_slice_get xs i a a e) (h i a (slice_get_within xs i a e))
 
 module _ {S : Type 0} where
-  takes_grants : (plan : Plan) (realms after : List (Shown S)) (seen : Option Seen) → TakesIn realms seen after → All (λ r. HasGrants plan r) realms → All (λ r. HasGrants plan r) after
+  takes_grants : (plan : Plan) (realms after : List (Shown S)) (seen : Option SeenHistory) → TakesIn realms seen after → All (λ r. HasGrants plan r) realms → All (λ r. HasGrants plan r) after
   takes_grants plan realms after None e h = subst (λ (l : List (Shown S)). All (λ r. HasGrants plan r) l) (sym e) h
   takes_grants plan realms after (Some seen) k h =
       subst (λ (l : List (Shown S)). All (λ r. HasGrants plan r) l) (sym k.kept) (All-set (λ r. HasGrants plan r) realms seen.realm _ (all_at (λ r. HasGrants plan r) realms seen.realm k.realm k.at h) h)
@@ -54,7 +54,7 @@ module _ {S : Type 0} where
       let number : seat_of conn - 1 + 1 ≡ seat_of conn = omega arith in
       subst (λ (n : ℕ). AreOfSeat n posters) number (h (seat_of conn - 1) posters (at ∙ ap Some is)).1
 
-  takes_long : (realms after : List (Shown S)) (seen : Option Seen) → TakesIn realms seen after → length after ≡ length realms
+  takes_long : (realms after : List (Shown S)) (seen : Option SeenHistory) → TakesIn realms seen after → length after ≡ length realms
   takes_long realms after None e = ap length e
   takes_long realms after (Some seen) k = ap length k.kept ∙ length-set realms seen.realm (with_seen k.realm seen.history)
 
@@ -195,7 +195,7 @@ module _ {I O S : Type 0} where
 
 module _ {I O S : Type 0} (see : Sight I O) where
   -- a reader has given back what it should: what its writer saw
-  pub reader_left : (realms : List (Shown S)) (reader : Reader I O S) (ended : Ended I O S) → Reads see reader ended → AreAt (places_of realms) reader.posters.items → IfSome (seen_of ended.course) (λ (s : Seen). IsAtHome realms s)
+  pub reader_left : (realms : List (Shown S)) (reader : Reader I O S) (ended : Ended I O S) → Reads see reader ended → AreAt (places_of realms) reader.posters.items → IfSome (seen_of ended.course) (λ (s : SeenHistory). IsAtHome realms s)
   reader_left realms reader ended reads at = seen_at_home see (offer_of (arc_value reader.plan)) realms _ ended.source ended.posters.items ended.course reads at
 
   -- and its posters

@@ -1,7 +1,7 @@
 -- The numbers of the connections that had a seat.
 use Rattle.std.specs.Prelude.{◌≡◌, ◌≢◌, ◌<◌, ◌+◌, ◌-◌, ◌/◌, ℕ, List, [], ◌∷◌, Option, Some, get_or, length, slice_get}
 use Rattle.std.specs.List.{flat_map}
-use Rattle.connection.specs.Seats.{Table}
+use Rattle.threaded_server.specs.Seats.{Table}
 use Rattle.threaded_server.specs.Posters.{AreOf}
 use Rattle.threaded_server.specs.declared.entry.Connection.{Connection}
 use Rattle.threaded_server.specs.declared.over.Over.{Over}

@@ -14,3 +14,4 @@ pub mod Starting
 pub mod Table
 pub mod Ties
 pub mod TrailCode
+pub mod Seats

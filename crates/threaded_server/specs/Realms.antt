@@ -15,7 +15,7 @@ use Rattle.broker_threads.specs.declared.actor_thread.ActorThread.{ActorThread}
 use Rattle.threaded_server.specs.declared.realm_handle.RealmHandle.{RealmHandle}
 use Rattle.threaded_server.specs.declared.realm_run.RealmRun.{RealmRun}
 use Rattle.threaded_server.specs.declared.realms.Realms.{Realms}
-use Rattle.broker_threads.specs.declared.writer_thread.Seen.{Seen}
+use Rattle.broker_threads.specs.declared.writer_thread.SeenHistory.{SeenHistory}
 
 -- of a realm: what its actor's thread was given, and what the writers of its sessions saw last of its history, where they are over
 pub record Shown (S : Type 0) : Type 0 where
@@ -41,19 +41,19 @@ module _ {S : Type 0} where
   with_seen r kept = record r { seen = r.seen ++ kept ∷ [] }
 
   -- what was seen is of its realm's chronicle, if one is picked for its inbox
-  pub record IsAtHome (realms : List (Shown S)) (seen : Seen) : Type 0 where
+  pub record IsAtHome (realms : List (Shown S)) (seen : SeenHistory) : Type 0 where
     pub realm : Shown S
     pub at : slice_get realms seen.realm ≡ Some realm
     pub of : IsOf (λ (h : Kept History) chronicle. h.chronicle ≡ chronicle) (Some seen.history) (inbox_in realm).2
 
   -- its realm keeps it
-  pub record Keeps (realms : List (Shown S)) (seen : Seen) (now : List (Shown S)) : Type 0 where
+  pub record Keeps (realms : List (Shown S)) (seen : SeenHistory) (now : List (Shown S)) : Type 0 where
     pub realm : Shown S
     pub at : slice_get realms seen.realm ≡ Some realm
     pub kept : now ≡ set realms seen.realm (with_seen realm seen.history)
 
   -- if there is any
-  abbrev pub TakesIn : List (Shown S) → Option Seen → List (Shown S) → Type 0
+  abbrev pub TakesIn : List (Shown S) → Option SeenHistory → List (Shown S) → Type 0
   TakesIn realms None now = now ≡ realms
   TakesIn realms (Some seen) now = Keeps realms seen now
 

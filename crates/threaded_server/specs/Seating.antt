@@ -1,6 +1,6 @@
 -- The seats of connections, and who is there.
 use Rattle.std.specs.Prelude.{◌≡◌, ◌≤◌, ◌+◌, ◌-◌, ◌/◌, ℕ, true, false, List, Option, None, Some, get_or, length, slice_get}
-use Rattle.connection.specs.Seats.{Table}
+use Rattle.threaded_server.specs.Seats.{Table}
 use Rattle.threaded_server.specs.declared.entry.Connection.{Connection}
 
 -- the number is the last that the seat of this place, from 0, gave, and it is out

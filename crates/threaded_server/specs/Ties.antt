@@ -10,7 +10,7 @@ use Rattle.realm_inbox.specs.EndViews.{inbox_of, inbox_of_poster}
 use Rattle.realm_inbox.specs.declared.ends.Poster.{Poster}
 use Rattle.broker_threads.specs.Acts.{Acts}
 use Rattle.threaded_server.specs.Realms.{Shown, inbox_in}
-use Rattle.session.specs.declared.messages.item.Item.{Item}
+use Rattle.wamp_messages.specs.declared.item.Item.{Item}
 use Rattle.broker_threads.specs.Writes.{over_kept, owed_kept}
 use Rattle.broker_threads.specs.declared.course.Course.{Course}
 use Rattle.broker_threads.specs.declared.course.Course.TheVariants as course

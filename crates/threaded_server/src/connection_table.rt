@@ -1,7 +1,7 @@
 //! The connections that are served, and their seats.
 ghost use Rattle.std.specs.Coded.{codes};
 ghost use Rattle.std.specs.Prelude.{◌≡◌, ◌<◌, ◌+◌, ℕ, [], ◌∷◌, ◌++◌, All, None, Some, IfOk, IfSome, OnOk, length, set};
-ghost use Rattle.connection.specs.Seats.{free_at, given_back};
+ghost use Rattle.threaded_server.specs.Seats.{free_at, given_back};
 ghost use Rattle.ghost_state.specs.GhostList.{items_of};
 ghost use Rattle.message_tree.specs.Code.{data_code, entries_code};
 ghost use Rattle.realm.specs.Grants.{pairs_of};
@@ -22,17 +22,17 @@ ghost use Rattle.threaded_server.specs.Ties.{HasGrants, IsRun, OverKept, OverTie
 
 use crate::acceptor::Parts;
 use crate::over::{Gone, Over};
-use crate::poster_table::{PosterTable, place_of};
+use crate::poster_table::PosterTable;
 use crate::realm_handle::RealmHandle;
 use crate::realm_run::RealmRun;
 use crate::realms::Realms;
 use crate::roster::Roster;
+use crate::seats::Seats;
 use crate::starting::{Newcomer, Started, start};
 use broker_threads::told::{tell_accepted, tell_closed, tell_refused};
 use broker_threads::{Closed, Ended, Fate, Plan, SeatTable};
-use connection::Seats;
 use ghost_state::GhostList;
-use notices::{Reason, Refusal};
+use log_lines::{CloseReason, ConnectionRefusal};
 use rawsocket::devices::{Sink, Source, Turns, send};
 use rawsocket::no_seat_reply;
 use realm_inbox::{Seat, Shut};
@@ -40,7 +40,7 @@ use std::alloc::{AllocError, Global};
 use std::snapshot::Snapshot;
 use std::sync::{Arc, Wait};
 use std::thread::Threads;
-use wamp_ids::Conn;
+use wamp_ids::{Conn, seat_index};
 
 /// A stream that came, taken apart.
 #[derive(Drop)]
@@ -236,11 +236,11 @@ impl<
     {
         let Arrival { parts, fate, peer } = arrival;
         let Ok(conn) = self.seats.take() else {
-            tell_refused(&rt, &self.plan.log, &peer, Refusal::NoSeat);
+            tell_refused(&rt, &self.plan.log, &peer, ConnectionRefusal::NoSeat);
             return Some(self.turn_away(parts));
         };
         tell_accepted(&rt, &self.plan.log, conn, &peer);
-        let place = place_of(conn);
+        let place = seat_index(conn);
         let posters = self.posters.take(conn);
         self.marks.sits(conn);
         let newcomer = Newcomer {
@@ -266,7 +266,7 @@ impl<
                 self.posters.put(place, posters);
                 let gone = self.roster.let_go(halves);
                 vacate(&self.marks, &mut self.seats, conn);
-                tell_closed(&rt, &self.plan.log, conn, Reason::NoMemory);
+                tell_closed(&rt, &self.plan.log, conn, CloseReason::NoMemory);
                 Some(gone)
             }
         }
@@ -321,7 +321,7 @@ fn take_in<
     posters: &mut PosterTable<S>,
     place: usize,
     ended: Ended<I, O, S>,
-) -> (Gone<I, O>, Reason)
+) -> (Gone<I, O>, CloseReason)
     requires { IfSome (seen_of ended.course) (λ seen. IsAtHome (realms_of realms.old) seen) }
     ensures realms { TakesIn (realms_of realms.old) (seen_of ended.course) (realms_of realms.new) }
     ensures posters { lists_of posters.new

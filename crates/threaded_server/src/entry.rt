@@ -1,7 +1,7 @@
 //! A connection that is served.
 ghost use Rattle.std.specs.Prelude.{◌≡◌};
 
-use broker_threads::handover::Shared;
+use broker_threads::handover::SharedTransport;
 use broker_threads::work::Doing;
 use broker_threads::{Ended, Reader};
 use rawsocket::devices::{Sink, Source};
@@ -18,7 +18,7 @@ pub struct Connection<
     S: Shut + Send + 'static,
 > {
     pub conn: Conn,
-    pub shared: Shared<S>,
+    pub shared: SharedTransport<S>,
     /// What the reader was given. It takes no bytes.
     pub began: Snapshot<Reader<I, O, S>>,
     pub reader: PromisedHandle<Ended<I, O, S>, Doing<Reader<I, O, S>>>,

@@ -1,19 +1,19 @@
 //! The running broker: the threads that serve a broker's realms over any acceptor of streams.
 //!
-//! [`serve_on`] starts an actor thread for each realm, and for each stream that its [`Acceptor`] gives a reader thread, which opens the
-//! session, starts the session's writer thread and waits for it. It stands on `realm_actor` (what the posts give each session),
-//! `connection` (what a reader posts, what a writer writes, the seats), `session` (the opening of a session) and the queues between them,
-//! `realm_inbox` and `outbox_queue`; what each of these calls does is proved there. [`TcpAcceptor`] accepts over TCP.
+//! [`serve_on`] starts an actor thread for each realm, and for each stream that its [`Acceptor`] gives a reader thread,
+//! which opens the session, starts the session's writer thread and waits for it. What each of these threads does is
+//! `broker_threads`'; the seats that connections sit at are here. [`TcpAcceptor`] accepts over TCP.
 //!
-//! Contracts say here by which of its acceptor's answers `serve_on` ends, and what became of each stream that the acceptor gave: it came
-//! back, and what was read of it, posted for it and written to it is what its reader's and its writer's contracts say; and only where no
-//! seat is free is a client told so. Each realm's actor ran to a stop, and what it received of a seat begins what was posted there. What a
-//! session's writer took begins what the history that this actor made owes its connection; where the writer stopped, and the outbox was
-//! never found full and came over with that history, it is all of it. [`laws`] says that no stream comes back in place of another. Each
-//! call is made only where its own contract allows it: a connection's posts are made at its own seat, with its own outbox, which is open
-//! and new; each actor runs on a new inbox. When the stops are posted, that an outbox comes over, and which thread starts, ends or is
-//! waited for, is shown by runs alone. Nothing is promised of time: a peer that takes nothing holds up its own writer, and the end of
-//! `serve_on`, but no other session.
+//! Contracts say here by which of its acceptor's answers `serve_on` ends, and what became of each stream that the
+//! acceptor gave: it came back, and what was read of it, posted for it and written to it is what its reader's and its
+//! writer's contracts say; and only where no seat is free is a client told so. Each realm's actor ran to a stop, and
+//! what it received of a seat begins what was posted there. What a session's writer took begins what the history that
+//! this actor made owes its connection; where the writer stopped, and the outbox was never found full and came over
+//! with that history, it is all of it. [`laws`] says that no stream comes back in place of another. Each call is made
+//! only where its own contract allows it: a connection's posts are made at its own seat, with its own outbox, which is
+//! open and new; each actor runs on a new inbox. When the stops are posted, that an outbox comes over, and which thread
+//! starts, ends or is waited for, is shown by runs alone. Nothing is promised of time: a peer that takes nothing holds
+//! up its own writer, and the end of `serve_on`, but no other session.
 #![tactic(auto)]
 
 mod acceptor;
@@ -29,6 +29,8 @@ mod realm_handle;
 mod realm_run;
 mod realms;
 mod roster;
+mod seat_fault;
+mod seats;
 mod serve;
 mod starting;
 mod tcp;
@@ -39,5 +41,7 @@ pub use answer::Answer;
 pub use broker_config::{Config, Fault, Ids, copy_grants};
 pub use broker_threads::{Closed, Log, LogEnd, SessionEnds};
 pub use connection::{ReadEnd, WriteEnd};
+pub use seat_fault::SeatFault;
+pub use seats::Seats;
 pub use serve::{serve_logged, serve_on};
 pub use tcp::{TcpAcceptor, TcpHandle};

@@ -11,7 +11,7 @@ ghost use Rattle.wamp_ids.specs.Numbers.{seat_of};
 use broker_threads::handover::{Posters, put_poster, take_poster};
 use realm_inbox::{Inbox, Poster, Seat, Shut};
 use std::alloc::{AllocError, Global};
-use wamp_ids::{Conn, SEATS, seat};
+use wamp_ids::{Conn, SEATS, seat_index};
 
 /// By seat the posters of the next connection there, one of each realm, in the order of the realms.
 #[derive(Drop)]
@@ -53,7 +53,7 @@ impl<S: Shut + 'static> PosterTable<S> {
         ensures { Puts realm at (lists_of self.old) (lists_of self.new) }
     {
         let poster = poster_of(at);
-        self.put_at(place_of(poster.conn()), realm, poster);
+        self.put_at(seat_index(poster.conn()), realm, poster);
     }
 
     fn put_at(&mut self, place: usize, realm: usize, poster: Poster<S>)
@@ -73,7 +73,7 @@ impl<S: Shut + 'static> PosterTable<S> {
             (λ slot. ForSome slot (λ posters. AreOfSeat (seat_of conn) posters)) }
         ensures { IsTaken conn (lists_of self.old) result.items (lists_of self.new) }
     {
-        let Some(mut posters) = self.take_at(place_of(conn)) else {
+        let Some(mut posters) = self.take_at(seat_index(conn)) else {
             unreachable!()
         };
         relabel(&mut posters, conn);
@@ -176,13 +176,6 @@ fn poster_of<S: Shut>(at: Seat<S>) -> Poster<S>
         Ok(poster) => poster,
         Err(_) => unreachable!(),
     }
-}
-
-/// The place of a connection, from 0.
-pub fn place_of(conn: Conn) -> usize
-    ensures { result ≡ seat_of conn - 1 }
-{
-    (seat(conn) - 1) as usize
 }
 
 // Makes the posters of a seat those of this connection.

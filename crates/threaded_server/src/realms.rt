@@ -7,7 +7,7 @@ ghost use Rattle.threaded_server.specs.Realms.{AllWerePosted, EachRuns, IsAtHome
 use crate::poster_table::PosterTable;
 use crate::realm_handle::RealmHandle;
 use crate::realm_run::RealmRun;
-use broker_threads::Seen;
+use broker_threads::SeenHistory;
 use ghost_state::GhostList;
 use realm_inbox::Shut;
 use std::alloc::{AllocError, Global};
@@ -62,7 +62,7 @@ impl<S: Shut + Send + 'static> Realms<S> {
     }
 
     /// Keeps what a writer saw last, if it took anything.
-    pub fn take_in<R: Wait>(&mut self, rt: &R, seen: Option<Seen>)
+    pub fn take_in<R: Wait>(&mut self, rt: &R, seen: Option<SeenHistory>)
         requires { IfSome seen (λ s. IsAtHome (realms_of self.old) s) }
         ensures { TakesIn (realms_of self.old) seen (realms_of self.new) }
     {
@@ -71,7 +71,7 @@ impl<S: Shut + Send + 'static> Realms<S> {
         }
     }
 
-    fn keep<R: Wait>(&mut self, rt: &R, seen: Seen)
+    fn keep<R: Wait>(&mut self, rt: &R, seen: SeenHistory)
         requires { IsAtHome (realms_of self.old) seen }
         ensures { Keeps (realms_of self.old) seen (realms_of self.new) }
     {

@@ -20,7 +20,7 @@ use broker_threads::told::{tell_failed, tell_refused, tell_stopping};
 use broker_threads::{ActorThread, IdWords, Log, Marked, Plan};
 use connection::InUse;
 use crossbeam_channel::bounded;
-use notices::Refusal;
+use log_lines::ConnectionRefusal;
 use rawsocket::devices::{Sink, Source};
 use realm::RealmConfig;
 use realm_inbox::opening::inbox_of_chronicle;
@@ -341,7 +341,12 @@ fn receive<R: Threads + Wait + Copy + Send + 'static, A: Acceptor>(
             let gone = admit(rt, connection_table, parts, peer);
             take_back(acceptor, gone);
         }
-        Err(_) => tell_refused(&rt, &connection_table.plan.log, &peer, Refusal::NoMemory),
+        Err(_) => tell_refused(
+            &rt,
+            &connection_table.plan.log,
+            &peer,
+            ConnectionRefusal::NoMemory,
+        ),
     }
 }
 
@@ -382,7 +387,12 @@ fn admit<
 {
     let Parts { source, sink, shut } = parts;
     let Ok((shut, fate)) = Marked::new(connection_table.alloc, shut) else {
-        tell_refused(&rt, &connection_table.plan.log, &peer, Refusal::NoMemory);
+        tell_refused(
+            &rt,
+            &connection_table.plan.log,
+            &peer,
+            ConnectionRefusal::NoMemory,
+        );
         return Some(connection_table.let_go((source, sink)));
     };
     let parts = Parts { source, sink, shut };

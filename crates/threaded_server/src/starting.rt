@@ -6,7 +6,7 @@ ghost use Rattle.broker_threads.specs.Streams.{Reads, sight};
 
 use crate::acceptor::Parts;
 use crate::entry::Connection;
-use broker_threads::handover::{Posters, Shared};
+use broker_threads::handover::{Posters, SharedTransport};
 use broker_threads::work::Doing;
 use broker_threads::{Ended, Fate, Plan, Reader};
 use rawsocket::devices::{Sink, Source};
@@ -45,11 +45,11 @@ pub enum Started<
 
 // What a reader has of a stream beside its halves, and what the accepting thread keeps.
 #[derive(Drop)]
-struct Tools<S> {
+struct ReaderTools<S> {
     plan: Arc<Plan>,
     transport: S,
-    ours: Shared<S>,
-    theirs: Shared<S>,
+    ours: SharedTransport<S>,
+    theirs: SharedTransport<S>,
 }
 
 /// Starts the reader of a connection.
@@ -91,12 +91,12 @@ pub fn start<
 }
 
 // What a reader has of a stream, beside its halves. None where memory was refused: the stream's handle is gone then.
-fn tools_of<S: Shut>(alloc: Global, plan: &Arc<Plan>, shut: S) -> Option<Tools<S>>
+fn tools_of<S: Shut>(alloc: Global, plan: &Arc<Plan>, shut: S) -> Option<ReaderTools<S>>
     ensures { IfSome result (λ tools. arc_value tools.plan ≡ arc_value plan.now) }
 {
     let transport = shut.twin()?;
-    let ours = Shared::new(alloc, shut).ok()?;
-    Some(Tools {
+    let ours = SharedTransport::new(alloc, shut).ok()?;
+    Some(ReaderTools {
         plan: Arc::try_clone(plan).ok()?,
         transport,
         theirs: ours.another().ok()?,
@@ -110,7 +110,12 @@ fn run<
     I: Source + Drop + Send + 'static,
     O: Sink + Drop + Send + 'static,
     S: Shut + Send + 'static,
->(rt: R, lent: Snapshot<(I, O)>, reader: Reader<I, O, S>, ours: Shared<S>) -> Started<I, O, S>
+>(
+    rt: R,
+    lent: Snapshot<(I, O)>,
+    reader: Reader<I, O, S>,
+    ours: SharedTransport<S>,
+) -> Started<I, O, S>
     requires { lent.value ≡ (reader.source, reader.sink) }
     ensures { Runs (sight I.given I.is_ended I.calls I.failures O.taken O.calls O.failures)
         reader result }

@@ -1,8 +1,8 @@
-//! WAMP's identifiers: session, publication, subscription and request ids, connection numbers,
-//! topics, and the patterns of subscriptions.
+//! WAMP's identifiers: session, publication, subscription and request ids, connection numbers, topics, and the patterns
+//! of subscriptions.
 //!
-//! It stands on no other crate. Contracts say which numbers and texts each type holds, that reading one gives exactly
-//! those, and which topics a pattern matches.
+//! Contracts say which numbers and texts each type holds, that reading one gives exactly those, and which topics a
+//! pattern matches.
 #![tactic(auto)]
 
 mod ascii;
@@ -16,7 +16,7 @@ mod topic;
 mod wide;
 
 pub use components::{dot_in, fits};
-pub use conn::{Conn, SEATS, seat};
+pub use conn::{Conn, SEATS, seat, seat_index};
 pub use fault::Fault;
 pub use id::Id;
 pub use pattern::{Pattern, Policy};

@@ -1,6 +1,6 @@
 //! The commands that are clients of a broker, over TCP.
 ghost use Rattle.std.specs.Prelude.{IfErr, ◌≡◌};
-ghost use Rattle.broker_commands.specs.declared.fault.Fault.TheVariants.{ConnectFault};
+ghost use Rattle.command_line.specs.declared.fault.Fault.TheVariants.{ConnectFault};
 
 use crate::failure::Failure;
 use client_commands::{Contact, PublishCommand, SubscribeCommand, publish, subscribe};

@@ -1,8 +1,8 @@
 //! Why the program ends with a fault.
 ghost use Rattle.std.specs.Prelude.{◌≡◌, ◌≢◌, []};
 ghost use Rattle.std.specs.IoError.{error_kind};
-ghost use Rattle.broker_commands.specs.declared.fault.Fault.TheVariants.{ConnectFault, ListenFault, NoMemory, Usage};
-ghost use Rattle.broker_commands.specs.Commands.{fault_of_client};
+ghost use Rattle.command_line.specs.declared.fault.Fault.TheVariants.{ConnectFault, ListenFault, NoMemory, Usage};
+ghost use Rattle.command_line.specs.Commands.{fault_of_client};
 
 use broker_server::{Fault, explain, help, shown_line};
 use client_commands::LinkFault;

@@ -1,14 +1,14 @@
-//! `wampd`: a publish-subscribe broker for WAMP. The command line asks for help, a replay, a running broker, or a client of one.
+//! `wampd`: a publish-subscribe broker for WAMP. The command line asks for help, a replay, a running broker, or a
+//! client of one.
 //!
-//! It stands on `broker_server`, whose commands and faults are those of `broker_commands`, on `client_commands` and on `rawsocket`. Contracts say
-//! that help is printed whole, what is told of a fault, and which exit status it has.
+//! The commands are those of `broker_server` and `client_commands`. Contracts say that help is printed
+//! whole, what is told of a fault, and which exit status it has.
 #![tactic(auto)]
 
 ghost use Rattle.std.specs.Prelude.{◌≡◌, ◌≢◌, ◌<◌, ◌≤◌, ◌+◌, ◌++◌, Err, IfErr, OnOk, length};
 ghost use Rattle.rawsocket.specs.Devices.{GrowsByBeginning};
 ghost use Rattle.rawsocket.specs.Steps.{WholeSteps, meter, told_by};
-ghost use Rattle.broker_commands.specs.Commands.{IsServable, IsWritten, fault_line, status_of};
-ghost use Rattle.broker_commands.specs.Outcome.{write_told};
+ghost use Rattle.command_line.specs.Commands.{IsServable, IsWritten, fault_line, status_of, write_told};
 
 mod clients;
 mod failure;
@@ -121,7 +121,7 @@ fn run_replay<S: Sink>(
     let mut input = ReadSource::new(host.stdin());
     match replay(alloc, &mut input, output, config) {
         Ok(()) => Ok(()),
-        Err(fault) => Err(Failure::of_replay(alloc, fault)),
+        Err(fault) => Err(Failure::of_replay(alloc, Fault::from(fault))),
     }
 }
 

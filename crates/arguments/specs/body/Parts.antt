@@ -5,11 +5,11 @@ use Rattle.message_tree.specs.Data.{Data, is_carried}
 use Rattle.msgpack_codec.specs.Grammar.{Spells}
 use Rattle.json_codec.specs.Encoder.{json_text}
 use Rattle.msgpack_codec.specs.Short.{short, has_short}
-use Rattle.transcoder.specs.Standing.{Stands}
+use Rattle.msgpack_to_json.specs.Standing.{Stands}
 use Rattle.rawsocket.specs.declared.handshake.Serializer.{Serializer}
 use Rattle.rawsocket.specs.declared.handshake.Serializer.TheVariants.{Json, MsgPack}
 use Rattle.arguments.specs.Endings.{separator, serialized}
-use Rattle.arguments.specs.body.Held.{AreSpelled, AreWritten, IsWritable, written_in}
+use Rattle.arguments.specs.body.KeptArguments.{AreSpelled, AreWritten, IsWritable, written_in}
 
 -- the octets spell a value, which nests so many levels at most
 abbrev pub AreValue : ℕ → List ℕ → Type 0

@@ -4,10 +4,10 @@ use Rattle.std.specs.List.{AllByRecursion}
 use Rattle.rawsocket.specs.Devices.{GrowsByBeginning}
 use Rattle.session.specs.declared.fault.Fault.{Fault}
 use Rattle.session.specs.declared.fault.Fault.TheVariants as fault
-use Rattle.session.specs.declared.messages.item.Item.{Item}
+use Rattle.wamp_messages.specs.declared.item.Item.{Item}
 use Rattle.session.specs.ItemFrames.{octets_of}
 use Rattle.connection.specs.Writer.{IsWritable, IsRefused, IsMissing, IsBegun, frames_of}
-use Rattle.connection.specs.declared.writer.Client.{Client}
+use Rattle.connection.specs.declared.writer.ClientTerms.{ClientTerms}
 use Rattle.connection.specs.declared.writer.WriteEnd.{WriteEnd}
 use Rattle.connection.specs.declared.writer.WriteEnd.TheVariants.{Stopped, Dropped, Device, TooLong, NoMemory, TooManyTurns}
 
@@ -20,7 +20,7 @@ abbrev pub output : List ℕ → List ℕ → Output
 output written held = record { written = written; held = held }
 
 -- all of the items can be written, and their frames, behind what was held back before them, are written but for what is held back now
-pub record Passes (client : Client) (held_before held : List ℕ) (items : List Item) (octets : List ℕ) : Type 0 where
+pub record Passes (client : ClientTerms) (held_before held : List ℕ) (items : List Item) (octets : List ℕ) : Type 0 where
   pub writable : AllByRecursion (IsWritable client.serializer client.limit) items
   pub octets_are : octets ++ held ≡ held_before ++ frames_of client.serializer items
 
@@ -31,7 +31,7 @@ pub record HandsOver (before now : Output) : Type 0 where
   pub octets_are : octets ++ now.held ≡ before.held
 
 -- the frame of the item, behind what was held back, is written but for what is held back now, which isn't long
-pub record AddsFrame (client : Client) (item : Item) (before now : Output) : Type 0 where
+pub record AddsFrame (client : ClientTerms) (item : Item) (before now : Output) : Type 0 where
   pub octets : List ℕ
   pub wrote : now.written ≡ before.written ++ octets
   pub octets_are : octets ++ now.held ≡ before.held ++ octets_of client.serializer item
@@ -69,7 +69,7 @@ pub record StopsAt (Ends : Item → List ℕ → Type 0) (held_before : List ℕ
   pub ends : Ends item []
 
 -- what is written of what was held back, and of the item that was taken, by the end that comes then
-abbrev pub EndsFrom : Client → WriteEnd → List ℕ → List Item → List ℕ → Type 0
+abbrev pub EndsFrom : ClientTerms → WriteEnd → List ℕ → List Item → List ℕ → Type 0
 EndsFrom client Stopped held items octets = (items ≡ []) × (octets ≡ held)
 EndsFrom client Dropped held items octets = (items ≡ []) × (octets ≡ held)
 EndsFrom client TooLong held items octets = StopsAt (IsRefused client.serializer client.limit) held items octets
@@ -78,7 +78,7 @@ EndsFrom client Device held items octets = IsBegun client.serializer client.limi
 EndsFrom client TooManyTurns held items octets = IsBegun client.serializer client.limit held items octets
 
 -- these octets were written since, and an end came at the item
-pub record BreaksAt (client : Client) (end : WriteEnd) (item : Item) (before : Output) (now : List ℕ) : Type 0 where
+pub record BreaksAt (client : ClientTerms) (end : WriteEnd) (item : Item) (before : Output) (now : List ℕ) : Type 0 where
   pub octets : List ℕ
   pub wrote : now ≡ before.written ++ octets
   pub ends : EndsFrom client end before.held (item ∷ []) octets

@@ -9,7 +9,7 @@ use Rattle.msgpack_codec.specs.Grammar.{Spells}
 use Rattle.msgpack_codec.specs.Short.{short, text_head}
 use Rattle.msgpack_codec.specs.Values.{is_text}
 use Rattle.msgpack_codec.specs.body.Decoder.{Found, value_at, dict_at}
-use Rattle.msgpack_canonical.specs.declared.entries.Place.{Place}
+use Rattle.msgpack_canonical.specs.declared.entries.EntryPlace.{EntryPlace}
 use Rattle.msgpack_canonical.specs.body.Fitting.{fits, IsUnread}
 
 -- a key, and octets
@@ -43,18 +43,18 @@ unfoldable pub parted : List ℕ → Pair
 parted octets = parts_of (value_at 0 octets)
 
 -- what stands at a place
-abbrev pub cut : List ℕ → Place → List ℕ
+abbrev pub cut : List ℕ → EntryPlace → List ℕ
 cut written p = take (p.end - p.start) (drop p.start written)
 
-abbrev pub entry_in : List ℕ → Place → Pair
+abbrev pub entry_in : List ℕ → EntryPlace → Pair
 entry_in written p = parted (cut written p)
 
 -- the order of the keys
-abbrev pub place_cmp : List ℕ → Place → Place → Ordering
+abbrev pub place_cmp : List ℕ → EntryPlace → EntryPlace → Ordering
 place_cmp written p q = slice_cmp nat_cmp (entry_in written p).0 (entry_in written q).0
 
 -- an entry stands at the place
-pub record IsStanding (written : List ℕ) (p : Place) : Type 0 where
+pub record IsStanding (written : List ℕ) (p : EntryPlace) : Type 0 where
   pub ordered : p.start ≤ p.end
   pub within : p.end ≤ length written
   pub parts : cut written p ≡ entry_octets (entry_in written p).0 (entry_in written p).1
@@ -71,7 +71,7 @@ pairs tree.no_entries = []
 pairs (tree.entry k d es) = (k, kept d) ∷ pairs es
 
 -- such entries stand at places, the last one first
-pub record AreKept (written : List ℕ) (places : List Place) (entries : tree.Entries) : Type 0 where
+pub record AreKept (written : List ℕ) (places : List EntryPlace) (entries : tree.Entries) : Type 0 where
   pub same : pairs entries ≡ inserted (map (entry_in written) places)
   pub stand : All (IsStanding written) places
 
@@ -105,14 +105,14 @@ abbrev pub IsNoEntry : (List ℕ → Found tree.Data) → List ℕ → Type 0
 IsNoEntry value octets = (n : ℕ) (found : tree.Entries) (texts : Bool) → IsUnread (dict_at value (suc n) found texts octets)
 
 -- a dictionary was read, or what isn't carried, and its entries stand at places
-pub record AreRead (found : Found tree.Data) (are_texts : Bool) (written : List ℕ) (places : List Place) (rest : List ℕ) : Type 0 where
+pub record AreRead (found : Found tree.Data) (are_texts : Bool) (written : List ℕ) (places : List EntryPlace) (rest : List ℕ) : Type 0 where
   pub entries : tree.Entries
   pub read : found ≡ Ok ((if are_texts then tree.dict entries else tree.uncarried), rest)
   pub kept_at : AreKept written (reverse places) entries
 
 -- a place was taken behind the others
-pub record IsPlaced (start end : ℕ) (old new : List Place) : Type 0 where
-  pub place : Place
+pub record IsPlaced (start end : ℕ) (old new : List EntryPlace) : Type 0 where
+  pub place : EntryPlace
   pub starts : place.start ≡ start
   pub ends : place.end ≡ end
   pub ordered : start ≤ end
@@ -128,6 +128,6 @@ all_kept [] = true
 all_kept (x ∷ xs) = is_some_octets x.1 && all_kept xs
 
 -- what stands at places, one behind the other
-abbrev pub cuts : List ℕ → List Place → List ℕ
+abbrev pub cuts : List ℕ → List EntryPlace → List ℕ
 cuts written [] = []
 cuts written (p ∷ ps) = cut written p ++ cuts written ps

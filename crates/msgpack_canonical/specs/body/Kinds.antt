@@ -3,8 +3,8 @@ use Rattle.std.specs.Prelude.{◌≡◌}
 use Rattle.msgpack_codec.specs.body.Tokens.{IsLeafToken}
 use Rattle.msgpack_codec.specs.declared.tokens.Token.{Token}
 use Rattle.msgpack_codec.specs.declared.tokens.Token.TheVariants.{Null, Flag, Whole, Text, Bytes, List as ListOf, Dict as DictOf, Uncarried}
-use Rattle.msgpack_canonical.specs.declared.kinds.Kind.{Kind}
-use Rattle.msgpack_canonical.specs.declared.kinds.Kind.TheVariants as kinds
+use Rattle.msgpack_canonical.specs.declared.kinds.TokenKind.{TokenKind}
+use Rattle.msgpack_canonical.specs.declared.kinds.TokenKind.TheVariants as kinds
 
 -- no key begins with it
 abbrev pub IsNoText : Token → Type 0
@@ -17,7 +17,7 @@ IsNoText (ListOf n) = Unit {0}
 IsNoText (DictOf n) = Unit {0}
 IsNoText Uncarried = Unit {0}
 
-abbrev pub IsKind : Kind → Token → Type 0
+abbrev pub IsKind : TokenKind → Token → Type 0
 IsKind (kinds.List n) t = t ≡ ListOf n
 IsKind (kinds.Dict n) t = t ≡ DictOf n
 IsKind kinds.Leaf t = IsLeafToken t

@@ -7,7 +7,7 @@ use Rattle.crossbeam_queue.specs.Passes.{view, IsPassOf, ruled_capacity}
 use Rattle.outbox_queue.specs.declared.ends.Producer.TheInside.{Inside as Producer}
 use Rattle.outbox_queue.specs.declared.ends.Consumer.TheInside.{Inside as Consumer}
 use Rattle.outbox_queue.specs.declared.ends.Came.{Came}
-use Rattle.outbox_queue.specs.declared.rule.View.{View}
+use Rattle.outbox_queue.specs.declared.rule.OutboxView.{OutboxView}
 use Rattle.outbox_queue.specs.Rule.{adding}
 use Rattle.outbox_queue.specs.Ends.{Owes, IsOf, Last}
 use Rattle.outbox_queue.specs.body.Vouching.{VouchesFor}
@@ -35,13 +35,13 @@ last_of (Some came) added = Some (record { history = came.history; added = added
 module _ {T H : Type 0} (owed : H → ℕ → List T) (is_over : H → ℕ → Type 0) (belongs : H → TableId → Type 0) where
   -- the other end came over: its pass is one with this one's; what was taken begins what was added, and the history that came, if one did, vouches for that;
   -- where a step found the queue full, as many items were added as it holds, or more
-  pub record CameOver (capacity : ℕ) (v : View T H) (came : Came H) : Type 0 where
+  pub record CameOver (capacity : ℕ) (v : OutboxView T H) (came : Came H) : Type 0 where
     pub adds : v.adds ≡ true
     pub begins : IsPrefix v.taken v.added
     pub vouches : VouchesFor owed is_over belongs came.history v.conn v.chronicle v.added came.finds.count
     pub room : 0 < came.finds.count → capacity ≤ length v.added
 
-  abbrev pub MayHaveCome : ℕ → View T H → Option (Came H) → Type 0
+  abbrev pub MayHaveCome : ℕ → OutboxView T H → Option (Came H) → Type 0
   MayHaveCome capacity v None = Unit {0}
   MayHaveCome capacity v (Some came) = CameOver capacity v came
 

@@ -1,5 +1,6 @@
 //! Devices over memory. The source never fails; the sink fails where a growth is refused.
-ghost use Rattle.std.specs.Prelude.{◌≡◌, [], false, length, min, take};
+ghost use Rattle.std.specs.Prelude.{◌≡◌, [], Some, length, min, take};
+ghost use Rattle.rawsocket.specs.Devices.{unread, unwritten};
 
 use crate::devices::device::{Sink, Source, tells_end};
 use crate::fault::Fault;
@@ -7,7 +8,7 @@ use ghost_state::GhostCount;
 use std::alloc::Global;
 use std::marker::Model;
 
-/// A reader of octets. What it gave and what is left are all of them.
+/// A reader of octets. What it gave and what is left are all of them; its name is 0.
 #[derive(Drop)]
 pub struct MemorySource {
     octets: Vec<u8>,
@@ -17,12 +18,19 @@ pub struct MemorySource {
 }
 
 impl Model for MemorySource {
-    ghost use Rattle.std.specs.Prelude.{◌≤◌, length, take, drop};
+    ghost use Rattle.std.specs.Prelude.{◌≤◌, Some, length, take, drop};
     ghost use Rattle.rawsocket.specs.Devices.{Reading};
 
     ghost Value = { Reading };
 
-    ghost view = { λ s. record { given = take s.at s.octets.items; left = drop s.at s.octets.items; is_ended = s.is_ended; calls = s.calls } };
+    ghost view = { λ s. record {
+      name = 0;
+      given = take s.at s.octets.items;
+      left = Some (drop s.at s.octets.items);
+      is_ended = s.is_ended;
+      calls = s.calls;
+      failures = 0;
+    } };
 
     ghost invariant = { λ s. s.at ≤ length s.octets.items };
 }
@@ -30,7 +38,7 @@ impl Model for MemorySource {
 impl MemorySource {
     /// None of the octets is read so far.
     pub fn new(octets: Vec<u8>) -> MemorySource
-        ensures { result ≡ record { given = []; left = octets.items; is_ended = false; calls = 0 } }
+        ensures { result ≡ unread 0 (Some octets.items) }
     {
         MemorySource {
             octets,
@@ -52,17 +60,7 @@ fn copy_front(octets: &[u8], buffer: &mut [u8]) -> usize
 }
 
 impl Source for MemorySource {
-    ghost use Rattle.std.specs.Prelude.{Some};
-
-    ghost given = { λ s. s.given };
-
-    ghost left = { λ s. Some s.left };
-
-    ghost is_ended = { λ s. s.is_ended };
-
-    ghost calls = { λ s. s.calls };
-
-    ghost failures = { λ _. 0 };
+    ghost seen = { λ s. s };
 
     fn read_some(&mut self, buffer: &mut [u8]) -> Result<usize, Fault> {
         self.calls.tick();
@@ -74,7 +72,7 @@ impl Source for MemorySource {
     }
 }
 
-/// A writer into memory.
+/// A writer into memory. Its name is 0.
 #[derive(Drop)]
 pub struct MemorySink {
     octets: Vec<u8>,
@@ -83,17 +81,24 @@ pub struct MemorySink {
 }
 
 impl Model for MemorySink {
+    ghost use Rattle.std.specs.Prelude.{Some};
     ghost use Rattle.rawsocket.specs.Devices.{Writing};
 
     ghost Value = { Writing };
 
-    ghost view = { λ s. record { taken = s.octets.items; calls = s.calls; failures = s.failures } };
+    ghost view = { λ s. record {
+      name = 0;
+      taken = s.octets.items;
+      held = Some s.octets.items;
+      calls = s.calls;
+      failures = s.failures;
+    } };
 }
 
 impl MemorySink {
     /// Nothing is written so far.
     pub fn new(alloc: Global) -> MemorySink
-        ensures { result ≡ record { taken = []; calls = 0; failures = 0 } }
+        ensures { result ≡ unwritten 0 (Some []) }
     {
         MemorySink {
             octets: Vec::new(alloc),
@@ -111,15 +116,7 @@ impl MemorySink {
 }
 
 impl Sink for MemorySink {
-    ghost use Rattle.std.specs.Prelude.{Some};
-
-    ghost taken = { λ s. s.taken };
-
-    ghost held = { λ s. Some s.taken };
-
-    ghost calls = { λ s. s.calls };
-
-    ghost failures = { λ s. s.failures };
+    ghost seen = { λ s. s };
 
     fn write_some(&mut self, octets: &[u8]) -> Result<usize, Fault> {
         self.calls.tick();

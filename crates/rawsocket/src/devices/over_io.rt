@@ -1,35 +1,43 @@
 //! Devices over any reader and writer of the library: a TCP stream, the standard streams, memory.
-ghost use Rattle.std.specs.Prelude.{◌≡◌, [], false};
+ghost use Rattle.std.specs.Prelude.{◌≡◌};
+ghost use Rattle.rawsocket.specs.Devices.{unread, unwritten};
 
 use crate::devices::device::{Sink, Source, tells_end};
-use crate::devices::ghost_octets::GhostOctets;
+use crate::devices::ghost_octets::add_all;
 use crate::fault::Fault;
-use ghost_state::GhostCount;
+use ghost_state::{GhostCount, GhostList};
 use std::io::{Read, Write};
+use std::snapshot::Snapshot;
 
 /// Reads from a reader. What it gave is what the reader put into the buffers.
 #[derive(Drop)]
 pub struct ReadSource<R: Read + Drop> {
     reader: R,
+    name: Snapshot<GhostCount>,
     is_ended: bool,
-    given: GhostOctets,
+    given: GhostList<u8>,
     calls: GhostCount,
     failures: GhostCount,
 }
 
 impl<R: Read + Drop> ReadSource<R> {
-    /// Nothing is read so far.
+    /// Nothing is read so far. Its name is 0, which serves where nobody has to tell it from others.
     pub fn new(reader: R) -> ReadSource<R>
-        ensures given { ⟦<ReadSource<R> as Source>⟧.given result ≡ [] }
-        ensures left { ⟦<ReadSource<R> as Source>⟧.left result ≡ R.remaining reader }
-        ensures ended { ⟦<ReadSource<R> as Source>⟧.is_ended result ≡ false }
-        ensures calls { ⟦<ReadSource<R> as Source>⟧.calls result ≡ 0 }
-        ensures failures { ⟦<ReadSource<R> as Source>⟧.failures result ≡ 0 }
+        ensures { ⟦<ReadSource<R> as Source>⟧.seen result ≡ unread 0 (R.remaining reader) }
+    {
+        ReadSource::named(reader, Snapshot::of(&GhostCount::new()))
+    }
+
+    /// Nothing is read so far from the stream of this name. The name takes no bytes.
+    pub fn named(reader: R, name: Snapshot<GhostCount>) -> ReadSource<R>
+        ensures { ⟦<ReadSource<R> as Source>⟧.seen result
+            ≡ unread name.value (R.remaining reader) }
     {
         ReadSource {
             reader,
+            name,
             is_ended: false,
-            given: GhostOctets::new(),
+            given: GhostList::new(),
             calls: GhostCount::new(),
             failures: GhostCount::new(),
         }
@@ -37,21 +45,22 @@ impl<R: Read + Drop> ReadSource<R> {
 }
 
 impl<R: Read + Drop> Source for ReadSource<R> {
-    ghost given = { λ s. s.given };
+    ghost use Rattle.ghost_state.specs.GhostList.{items_of};
 
-    ghost left = { λ s. R.remaining s.reader };
-
-    ghost is_ended = { λ s. s.is_ended };
-
-    ghost calls = { λ s. s.calls };
-
-    ghost failures = { λ s. s.failures };
+    ghost seen = { λ s. record {
+      name = s.name.value;
+      given = items_of s.given;
+      left = R.remaining s.reader;
+      is_ended = s.is_ended;
+      calls = s.calls;
+      failures = s.failures;
+    } };
 
     fn read_some(&mut self, buffer: &mut [u8]) -> Result<usize, Fault> {
         self.calls.tick();
         match self.reader.read(buffer) {
             Ok(count) => {
-                self.given.add(&buffer[..count]);
+                add_all(&mut self.given, &buffer[..count]);
                 self.is_ended |= tells_end(count, buffer);
                 Ok(count)
             }
@@ -67,22 +76,29 @@ impl<R: Read + Drop> Source for ReadSource<R> {
 #[derive(Drop)]
 pub struct WriteSink<W: Write + Drop> {
     writer: W,
-    taken: GhostOctets,
+    name: Snapshot<GhostCount>,
+    taken: GhostList<u8>,
     calls: GhostCount,
     failures: GhostCount,
 }
 
 impl<W: Write + Drop> WriteSink<W> {
-    /// Nothing is written so far.
+    /// Nothing is written so far. Its name is 0, which serves where nobody has to tell it from others.
     pub fn new(writer: W) -> WriteSink<W>
-        ensures taken { ⟦<WriteSink<W> as Sink>⟧.taken result ≡ [] }
-        ensures held { ⟦<WriteSink<W> as Sink>⟧.held result ≡ W.contents writer }
-        ensures calls { ⟦<WriteSink<W> as Sink>⟧.calls result ≡ 0 }
-        ensures failures { ⟦<WriteSink<W> as Sink>⟧.failures result ≡ 0 }
+        ensures { ⟦<WriteSink<W> as Sink>⟧.seen result ≡ unwritten 0 (W.contents writer) }
+    {
+        WriteSink::named(writer, Snapshot::of(&GhostCount::new()))
+    }
+
+    /// Nothing is written so far to the stream of this name. The name takes no bytes.
+    pub fn named(writer: W, name: Snapshot<GhostCount>) -> WriteSink<W>
+        ensures { ⟦<WriteSink<W> as Sink>⟧.seen result
+            ≡ unwritten name.value (W.contents writer) }
     {
         WriteSink {
             writer,
-            taken: GhostOctets::new(),
+            name,
+            taken: GhostList::new(),
             calls: GhostCount::new(),
             failures: GhostCount::new(),
         }
@@ -90,26 +106,28 @@ impl<W: Write + Drop> WriteSink<W> {
 
     /// The writer, with what it holds.
     pub fn writer(&self) -> &W
-        ensures { W.contents result.now ≡ ⟦<WriteSink<W> as Sink>⟧.held self.now }
+        ensures { W.contents result.now ≡ (⟦<WriteSink<W> as Sink>⟧.seen self.now).held }
     {
         &self.writer
     }
 }
 
 impl<W: Write + Drop> Sink for WriteSink<W> {
-    ghost taken = { λ s. s.taken };
+    ghost use Rattle.ghost_state.specs.GhostList.{items_of};
 
-    ghost held = { λ s. W.contents s.writer };
-
-    ghost calls = { λ s. s.calls };
-
-    ghost failures = { λ s. s.failures };
+    ghost seen = { λ s. record {
+      name = s.name.value;
+      taken = items_of s.taken;
+      held = W.contents s.writer;
+      calls = s.calls;
+      failures = s.failures;
+    } };
 
     fn write_some(&mut self, octets: &[u8]) -> Result<usize, Fault> {
         self.calls.tick();
         match self.writer.write(octets) {
             Ok(count) if count > 0 || octets.is_empty() => {
-                self.taken.add(&octets[..count]);
+                add_all(&mut self.taken, &octets[..count]);
                 Ok(count)
             }
             _ => {

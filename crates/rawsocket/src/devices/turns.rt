@@ -1,8 +1,6 @@
 //! How often a call may read or write one stream, and what is read and written in turns.
-ghost use Rattle.std.specs.Prelude.{◌≡◌, ◌≢◌, ◌<◌, ◌≤◌, ◌+◌, ◌++◌, ◌||◌, length, take, IfOk, IfErr, OnOk, OnErr, true, false};
-ghost use Rattle.rawsocket.specs.Devices.{GrowsByBeginning, tells_end};
-ghost use Rattle.rawsocket.specs.Steps.{Steps, device_told, meter, piece_told, told_by};
-ghost use Rattle.std.specs.Io.KnownBytes.{ReadConsumes};
+ghost use Rattle.std.specs.Prelude.{◌≡◌, ◌<◌, ◌+◌, length, true, false};
+ghost use Rattle.rawsocket.specs.Turns.{ReadsInTurn, ReadsPiece, WritesInTurns};
 
 use crate::devices::device::{Sink, Source};
 use crate::devices::no_octets::NoOctets;
@@ -67,19 +65,8 @@ pub fn read_turn<S: Source>(
     buffer: &mut [u8],
     turns: &mut Turns,
 ) -> Result<usize, Fault>
-    ensures within { IfOk result (λ n. n ≤ length buffer.new) }
-    ensures given { IfOk result (λ n. S.given source.new ≡ S.given source.old ++ take n
-        buffer.new) }
-    ensures left { ReadConsumes (S.left source.old) (S.left source.new) result buffer.new }
-    ensures end { IfOk result (λ n. S.is_ended source.new
-        ≡ (S.is_ended source.old || tells_end n buffer.new)) }
-    ensures kept { OnErr result (S.given source.new ≡ S.given source.old) }
-    ensures goes_on { OnErr result (S.is_ended source.new ≡ S.is_ended source.old) }
-    ensures turn { OnOk result (turns.old ≡ turns.new + 1) }
-    ensures steps { Steps (meter (S.calls source.old) (S.failures source.old) turns.old)
-        (meter (S.calls source.new) (S.failures source.new) turns.new)
-        (told_by device_told result) }
-    ensures which { IfErr result (λ e. e ≢ Fault.ReadFault → e ≡ Fault.TooManyTurns) }
+    ensures { ReadsInTurn (S.seen source.old) (S.seen source.new) turns.old turns.new buffer.new
+        result }
 {
     if !turns.take() {
         return Err(Fault::TooManyTurns);
@@ -97,16 +84,8 @@ pub fn read_piece<S: Source>(
     turns: &mut Turns,
 ) -> Result<usize, NoOctets>
     requires { 0 < length buffer.old }
-    ensures within { IfOk result (λ n. n ≤ length buffer.new) }
-    ensures some { IfOk result (λ n. 0 < n) }
-    ensures given { IfOk result (λ n. S.given source.new ≡ S.given source.old ++ take n
-        buffer.new) }
-    ensures kept { OnErr result (S.given source.new ≡ S.given source.old) }
-    ensures ended { result ≡ Err NoOctets.Ended → S.is_ended source.new ≡ true }
-    ensures turn { OnOk result (turns.old ≡ turns.new + 1) }
-    ensures steps { Steps (meter (S.calls source.old) (S.failures source.old) turns.old)
-        (meter (S.calls source.new) (S.failures source.new) turns.new)
-        (told_by piece_told result) }
+    ensures { ReadsPiece (S.seen source.old) (S.seen source.new) turns.old turns.new buffer.new
+        result }
 {
     match read_turn(source, buffer, turns) {
         Ok(0) => Err(NoOctets::Ended),
@@ -122,11 +101,8 @@ pub fn read_piece<S: Source>(
 /// [`Fault::WriteFault`] where the device failed; [`Fault::TooManyTurns`] where no turn was left. A
 /// beginning of the octets is written then.
 pub fn write_all<S: Sink>(sink: &mut S, octets: &[u8], turns: &mut Turns) -> Result<(), Fault>
-    ensures written { OnOk result (S.taken sink.new ≡ S.taken sink.old ++ octets.now) }
-    ensures begun { GrowsByBeginning (S.taken sink.old) (S.taken sink.new) octets.now }
-    ensures steps { Steps (meter (S.calls sink.old) (S.failures sink.old) turns.old)
-        (meter (S.calls sink.new) (S.failures sink.new) turns.new) (told_by device_told result) }
-    ensures which { IfErr result (λ e. e ≢ Fault.WriteFault → e ≡ Fault.TooManyTurns) }
+    ensures { WritesInTurns (S.seen sink.old) (S.seen sink.new) turns.old turns.new octets.now
+        result }
 {
     let mut rest = octets;
     while !rest.is_empty() {
@@ -145,11 +121,8 @@ pub fn write_all<S: Sink>(sink: &mut S, octets: &[u8], turns: &mut Turns) -> Res
 /// As [`write_all`]; a flush that failed is a [`Fault::WriteFault`] too, and all octets are written
 /// then. Where a write failed, or no turn was left, nothing is flushed.
 pub fn send<S: Sink>(sink: &mut S, octets: &[u8], turns: &mut Turns) -> Result<(), Fault>
-    ensures written { OnOk result (S.taken sink.new ≡ S.taken sink.old ++ octets.now) }
-    ensures begun { GrowsByBeginning (S.taken sink.old) (S.taken sink.new) octets.now }
-    ensures steps { Steps (meter (S.calls sink.old) (S.failures sink.old) turns.old)
-        (meter (S.calls sink.new) (S.failures sink.new) turns.new) (told_by device_told result) }
-    ensures which { IfErr result (λ e. e ≢ Fault.WriteFault → e ≡ Fault.TooManyTurns) }
+    ensures { WritesInTurns (S.seen sink.old) (S.seen sink.new) turns.old turns.new octets.now
+        result }
 {
     match write_all(sink, octets, turns) {
         Ok(()) => sink.flush(),

@@ -1,6 +1,6 @@
 -- What the body owes for one entry.
 use Rattle.std.specs.Prelude.{ℕ, Bool, true, not, ◌≡◌, ◌+◌, ◌≤◌, List, [], ◌∷◌, length, is_some}
-use Rattle.session.specs.declared.messages.item.Item.{Item}
+use Rattle.wamp_messages.specs.declared.item.Item.{Item}
 use Rattle.realm.specs.declared.entry.Entry.{Entry}
 use Rattle.realm.specs.declared.entry.Entry.TheVariants.{Join}
 use Rattle.realm.specs.declared.state.State.{State}

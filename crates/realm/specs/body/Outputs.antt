@@ -6,9 +6,9 @@ use Rattle.subscription_index.specs.declared.receiver.Receiver.{Receiver}
 use Rattle.subscription_index.specs.Index.{Row}
 use Rattle.subscription_index.specs.Receiver.{receivers}
 use Rattle.eligibility.specs.declared.who.Who.{Who}
-use Rattle.session.specs.declared.messages.item.Publication.{Publication}
-use Rattle.session.specs.declared.messages.item.Item.{Item}
-use Rattle.session.specs.declared.messages.item.Item.TheVariants.{Event}
+use Rattle.wamp_messages.specs.declared.item.Publication.{Publication}
+use Rattle.wamp_messages.specs.declared.item.Item.{Item}
+use Rattle.wamp_messages.specs.declared.item.Item.TheVariants.{Event}
 use Rattle.realm.specs.Yield.{admits_who}
 use Rattle.realm.specs.body.LiveSessions.{session_of}
 

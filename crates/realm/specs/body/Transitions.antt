@@ -8,14 +8,14 @@ use Rattle.wamp_ids.specs.Pattern.{PatternText, matches}
 use Rattle.wamp_ids.specs.declared.pattern.Policy.{Policy}
 use Rattle.subscription_index.specs.Index.{Held, subscribed, holds_number, without, without_all}
 use Rattle.eligibility.specs.declared.who.Who.{Who}
-use Rattle.session.specs.declared.messages.item.Reason.{Reason}
-use Rattle.session.specs.declared.messages.item.Reason.TheVariants.{TooManySubscriptions}
+use Rattle.wamp_messages.specs.declared.item.Reason.{Reason}
+use Rattle.wamp_messages.specs.declared.item.Reason.TheVariants.{TooManySubscriptions}
 use Rattle.realm.specs.declared.state.State.{State}
 use Rattle.realm.specs.Sessions.{admission_by, name_for, role_for}
-use Rattle.session.specs.declared.messages.item.Publication.{Publication}
-use Rattle.session.specs.declared.messages.item.Item.{Item}
-use Rattle.session.specs.declared.messages.item.Item.TheVariants.{Welcome, Abort, Error, Published, Subscribed, Event}
-use Rattle.session.specs.declared.messages.item.Request.TheVariants as kind
+use Rattle.wamp_messages.specs.declared.item.Publication.{Publication}
+use Rattle.wamp_messages.specs.declared.item.Item.{Item}
+use Rattle.wamp_messages.specs.declared.item.Item.TheVariants.{Welcome, Abort, Error, Published, Subscribed, Event}
+use Rattle.wamp_messages.specs.declared.item.Request.TheVariants as kind
 use Rattle.retained.specs.Store.{set_topic}
 use Rattle.realm.specs.declared.publications.AcceptedPublication.{AcceptedPublication}
 use Rattle.realm.specs.Publications.{Made, made_by, admits}

@@ -1,6 +1,6 @@
 -- Where a topic is among publications in order, and where it goes.
 use Rattle.std.specs.Prelude.{◌≡◌, ℕ, true, ◌<◌, ◌≤◌, List, length, slice_index_or}
-use Rattle.session.specs.declared.messages.item.Publication.{Publication}
+use Rattle.wamp_messages.specs.declared.item.Publication.{Publication}
 use Rattle.retained.specs.Store.{is_before}
 
 -- the first i are before the topic

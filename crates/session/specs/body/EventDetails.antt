@@ -1,7 +1,7 @@
 -- The details of an EVENT, in three parts.
 use Rattle.std.specs.Prelude.{Bool, true, cond, codes, List, ℕ}
 use Rattle.message_tree.specs.Data.{flag, text, Entries, no_entries, entry}
-use Rattle.session.specs.declared.messages.item.Publication.{Publication}
+use Rattle.wamp_messages.specs.declared.item.Publication.{Publication}
 use Rattle.session.specs.ToClient.{number}
 
 abbrev pub publisher_entries : Publication → Entries

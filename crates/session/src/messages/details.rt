@@ -4,10 +4,10 @@ ghost use Rattle.message_tree.specs.Data.{flag, text, dict, put, entries_depth, 
 ghost use Rattle.message_tree.specs.View.{view, dict_view};
 ghost use Rattle.session.specs.ToClient.{number, put_if, features, roles, welcome_details, event_details};
 
-use crate::messages::item::Publication;
 use eligibility::Who;
 use message_tree::{Dict, Tree};
 use std::alloc::{AllocError, Global};
+use wamp_messages::Publication;
 
 /// A whole number as a tree.
 pub(crate) fn number(n: u64) -> Tree

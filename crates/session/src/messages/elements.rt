@@ -11,9 +11,9 @@ ghost use Rattle.session.specs.FromClient.{IsMore, IsReadFault, arguments_of, di
 use crate::fault::Fault;
 use arguments::Args;
 use message_tree::Text;
-use request_options::{PublishOptions, SubscribeOptions};
 use std::alloc::Global;
 use wamp_ids::Id;
+use wamp_messages::{PublishOptions, SubscribeOptions};
 
 /// The elements of a message that aren't read yet.
 pub(crate) trait Elements: Drop {

@@ -5,12 +5,11 @@ ghost use Rattle.eligibility.specs.Lists.{is_number};
 ghost use Rattle.session.specs.FromClient.{IsReadFault, said_of, said_in, said_by, hello, ending, publish, subscribe, unsubscribe};
 ghost use Rattle.session.specs.Says.{Says, SaysNothing};
 ghost use Rattle.session.specs.body.Octets.{IsFaultOf};
-ghost use Rattle.session.specs.declared.messages.said.Said.{Said};
+ghost use Rattle.wamp_messages.specs.declared.said.Said.{Said};
 
 use crate::fault::Fault;
 use crate::messages::elements::Elements;
 use crate::messages::octet_elements::OctetElements;
-use crate::messages::said::Said;
 use crate::messages::tree_elements::TreeElements;
 use crate::wire::serializer::decode;
 use json_to_msgpack::{Transliteration, to_msgpack};
@@ -19,6 +18,7 @@ use msgpack_codec::Refusal;
 use msgpack_cursor::{Unread, message as message_in};
 use rawsocket::Serializer;
 use std::alloc::Global;
+use wamp_messages::Said;
 
 /// What a client's message says (WAMP, "Messages"). The message is spent.
 ///

@@ -11,10 +11,10 @@ use crate::messages::tree_elements::id_among;
 use arguments::Args;
 use message_tree::Text;
 use msgpack_cursor::{Seen, Unread, Value};
-use request_options::{PublishOptions, SubscribeOptions};
 use std::alloc::Global;
 use std::marker::Model;
 use wamp_ids::Id;
+use wamp_messages::{PublishOptions, SubscribeOptions};
 
 /// The elements of a message that aren't read yet.
 #[derive(Drop)]

@@ -6,11 +6,11 @@ ghost use Rattle.message_tree.specs.Meaning.{meaning};
 ghost use Rattle.session.specs.ToClient.{number, uri_of, type_of, triple, unsubscribed, farewell, error, welcome, event, message_of};
 
 use crate::messages::details::{dictionary, event_details, number, text, welcome_details};
-use crate::messages::item::{Item, Publication, Reason, Request};
 use eligibility::Who;
 use message_tree::{Dict, Message, Tree};
 use std::alloc::{AllocError, Global};
 use wamp_ids::Id;
+use wamp_messages::{Item, Publication, Reason, Request};
 
 /// The message that tells a client an item (WAMP, "Messages"); `None` for a PONG, which is a frame
 /// and no message. Nothing in it is uncarried; still MessagePack has no spelling for it where

@@ -11,11 +11,11 @@ use crate::fault::Fault;
 use crate::messages::elements::Elements;
 use arguments::Args;
 use message_tree::{Content, Dict, Options, Text, Tree};
-use request_options::{PublishOptions, SubscribeOptions};
 use std::alloc::Global;
 use std::collections::VecDeque;
 use std::marker::Model;
 use wamp_ids::Id;
+use wamp_messages::{PublishOptions, SubscribeOptions};
 
 /// The elements of a message that aren't read yet.
 #[derive(Drop)]

@@ -4,12 +4,11 @@ ghost use Rattle.std.specs.Str.{bytes_eq};
 ghost use Rattle.session.specs.FirstMessage.{first_of, is_hello, abort_uri_of, reason_of};
 
 use crate::fault::Fault;
-use crate::messages::item::Reason;
-use crate::messages::said::Said;
 use crate::messages::to_client::uri;
 use crate::opening::hello::First;
 use message_tree::Text;
 use wamp_ids::Topic;
+use wamp_messages::{Reason, Said};
 
 /// What the first message of a session asks for: a HELLO for one of these realms (WAMP, "Session
 /// Establishment"). It takes no memory.

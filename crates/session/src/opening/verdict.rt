@@ -6,7 +6,6 @@ ghost use Rattle.session.specs.FrameWalk.{Adds, AddsFor, verdict_of};
 
 use crate::fault::Fault;
 use crate::messages::from_client::read_payload;
-use crate::messages::item::Reason;
 use crate::messages::to_client::farewell;
 use crate::opening::first_message::{abort_reason, first};
 use crate::opening::hello::First;
@@ -15,6 +14,7 @@ use rawsocket::{Frame, Kind, Serializer, write_frame};
 use std::alloc::{AllocError, Global};
 use std::collections::VecDeque;
 use wamp_ids::Topic;
+use wamp_messages::Reason;
 
 /// A client, by its handshake.
 #[derive(Clone, Copy, Drop)]

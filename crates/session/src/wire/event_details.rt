@@ -7,13 +7,13 @@ ghost use Rattle.session.specs.Serializer.{serialized};
 ghost use Rattle.session.specs.ToClient.{event_details};
 
 use crate::fault::Fault;
-use crate::messages::item::Publication;
 use crate::wire::serialized_parts::{
     close_dict, open_dict, put_key, put_number, put_text, put_true,
 };
 use message_tree::Appender;
 use rawsocket::Serializer;
 use std::alloc::{AllocError, Global};
+use wamp_messages::Publication;
 
 /// The publisher, where it is disclosed.
 fn put_publisher(

@@ -9,11 +9,10 @@ ghost use Rattle.session.specs.ItemFrames.{frame_of, octets_of, Fits, IsSpelled,
 ghost use Rattle.arguments.specs.Endings.{IsEnding};
 ghost use Rattle.session.specs.body.SerializedParts.{has_spelling, items_have_spelling, list_opening, list_closing, further};
 ghost use Rattle.session.specs.Serializer.{serialized};
-ghost use Rattle.session.specs.Arguments.{is_all_carried, last_items};
+ghost use Rattle.wamp_messages.specs.Arguments.{is_all_carried, last_items};
 ghost use Rattle.session.specs.ToClient.{number, event, triple, unsubscribed, message_of};
 
 use crate::fault::Fault;
-use crate::messages::item::{Item, Publication};
 use crate::messages::to_client::item_message;
 use crate::wire::event_details::put_details;
 use crate::wire::event_head::EventHead;
@@ -24,6 +23,7 @@ use rawsocket::{Kind, Serializer, fill_header};
 use std::alloc::{AllocError, Global};
 use std::mem;
 use wamp_ids::Id;
+use wamp_messages::{Item, Publication};
 
 /// Three numbers as the first elements of a list of so many.
 fn put_numbers(

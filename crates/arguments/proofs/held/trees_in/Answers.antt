@@ -1,5 +1,5 @@
 use Rattle.std.proofs.Common.{sym, subst}
-use Rattle.arguments.specs.body.Held.{HasFirst}
+use Rattle.arguments.specs.body.KeptArguments.{HasFirst}
 use Rattle.arguments.proofs.held.trees_in.Goals as goal
 
 pub first_tree-requires : goal.first_tree-requires

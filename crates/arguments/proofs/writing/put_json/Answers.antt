@@ -1,9 +1,9 @@
 use Rattle.std.proofs.Common.{◌++◌, [], true, false, sym, ap, ◌∙◌, subst}
-use Rattle.transcoder.specs.Standing.{Stands}
+use Rattle.msgpack_to_json.specs.Standing.{Stands}
 use Rattle.rawsocket.specs.declared.handshake.Serializer.TheVariants.{Json}
 use Rattle.arguments.specs.Arguments.{last_items}
 use Rattle.arguments.specs.Endings.{further}
-use Rattle.arguments.specs.body.Held.{AreWritten, behind_args, first_in, second_in, written_in}
+use Rattle.arguments.specs.body.KeptArguments.{AreWritten, behind_args, first_in, second_in, written_in}
 use Rattle.arguments.proofs.Written.{first_stands, second_stands, json_of_one, json_of_two}
 use Rattle.arguments.proofs.writing.put_json.Goals as goal
 

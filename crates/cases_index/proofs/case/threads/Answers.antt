@@ -1,6 +1,6 @@
 use denote.Param.Send.{sendable}
 use Rattle.std.proofs.Crossing.{crosses}
-use Rattle.session.proofs.SendLemmas.{shared_send, shared_sync}
+use Rattle.wamp_messages.proofs.SendLemmas.{shared_send, shared_sync}
 use Rattle.cases_index.proofs.case.threads.Goals as goal
 
 pub may_be_shared-requires-2-send-T : goal.may_be_shared-requires-2-send-T

@@ -1,6 +1,6 @@
 use denote.Param.Send.{sendable}
 use Rattle.std.proofs.Crossing.{crosses}
-use Rattle.session.proofs.SendLemmas.{publication_sync, said_send, said_sync}
+use Rattle.wamp_messages.proofs.SendLemmas.{publication_sync, said_send, said_sync}
 use Rattle.cases_session.proofs.publishing.threads.Goals as goal
 
 pub may_be_shared-requires-send-T : goal.may_be_shared-requires-send-T

@@ -1,5 +1,5 @@
 use Rattle.std.proofs.Common.{[], ◌∷◌, ◌++◌, ◌∙◌, ap, arith, refl, subst, sym}
-use Rattle.client.specs.declared.client_message.ClientMessage.TheVariants.{Goodbye}
+use Rattle.client_messages.specs.declared.client_message.ClientMessage.TheVariants.{Goodbye}
 use Rattle.rawsocket.specs.Steps.{Told}
 use Rattle.client_session.specs.Saying.{saying}
 use Rattle.client_commands.specs.Acts.{standing, terms_of, writing}

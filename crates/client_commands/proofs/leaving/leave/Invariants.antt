@@ -1,6 +1,6 @@
 use Rattle.std.proofs.Common.{◌≡◌, List}
-use Rattle.client.specs.declared.client_message.ClientMessage.TheVariants.{Goodbye}
-use Rattle.client.specs.declared.heard.Heard.{Heard}
+use Rattle.client_messages.specs.declared.client_message.ClientMessage.TheVariants.{Goodbye}
+use Rattle.client_messages.specs.declared.heard.Heard.{Heard}
 use Rattle.session.specs.Opened.{exchange}
 use Rattle.client_session.specs.Saying.{saying}
 use Rattle.client_commands.specs.Acts.{Continues, Listens, MayCome, standing, terms_of, writing}

@@ -2,7 +2,7 @@ use Rattle.std.proofs.Common.{◌≡◌, ap, inl, inr, refl, subst}
 use Rattle.std.proofs.lemmas.Result.{on_ok_weaker}
 use Rattle.rawsocket.proofs.Lemmas.{no_whole_steps, whole_fine}
 use Rattle.session.specs.Opened.{exchange}
-use Rattle.client.specs.declared.client_message.ClientMessage.TheVariants.{Goodbye}
+use Rattle.client_messages.specs.declared.client_message.ClientMessage.TheVariants.{Goodbye}
 use Rattle.client_session.specs.Hearing.{Terms}
 use Rattle.client_session.specs.Saying.{saying}
 use Rattle.client_commands.specs.Acts.{Leaves, standing, terms_of}

@@ -1,6 +1,6 @@
 use Rattle.std.proofs.Common.{◌≡◌, ◌≤◌, ◌++◌, List}
 use Rattle.rawsocket.specs.Steps.{Fine, Steps, meter}
-use Rattle.client.specs.declared.heard.Heard.{Heard}
+use Rattle.client_messages.specs.declared.heard.Heard.{Heard}
 use Rattle.client_commands.specs.Acts.{Listens, MayCome, events, granted, noted, printed, standing, terms_of}
 use Rattle.client_commands.specs.Notes.{IsNoted, noting}
 use Rattle.client_commands.proofs.subscribing.follow.Given as goal

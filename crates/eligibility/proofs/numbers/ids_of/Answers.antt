@@ -3,7 +3,7 @@ use Rattle.std.proofs.Common.{◌∷◌, [], ◌++◌, ◌||◌, ap, ◌∙◌, 
 use Rattle.std.proofs.lemmas.Int.{to_z-of_z}
 use Rattle.eligibility.specs.Options.{each_of, with_first, number_of}
 use Rattle.eligibility.specs.Lists.{is_number}
-use Rattle.eligibility.specs.body.Ids.{holds}
+use Rattle.eligibility.specs.body.IdSet.{holds}
 use Rattle.eligibility.proofs.ListItems.{after, after-first}
 use Rattle.eligibility.proofs.Standing.{held-more}
 use Rattle.eligibility.proofs.numbers.ids_of.Goals as goal

@@ -2,7 +2,7 @@ use Rattle.std.proofs.Common.{◌≡◌, ℕ, ℤ, ◌<◌, ◌^◌, List}
 use Rattle.msgpack_codec.specs.Short.{item_count}
 use Rattle.eligibility.specs.Options.{each_of, number_of}
 use Rattle.eligibility.specs.Lists.{has_number}
-use Rattle.eligibility.specs.body.Ids.{holds}
+use Rattle.eligibility.specs.body.IdSet.{holds}
 use Rattle.eligibility.proofs.ListItems.{after}
 use Rattle.eligibility.proofs.numbers.ids_of.Given as goal
 

@@ -5,7 +5,7 @@ use Rattle.std.specs.List.{All}
 use Rattle.std.proofs.lemmas.Cmp.{nat_list_cmp_total, on_total}
 use Rattle.std.proofs.lemmas.Fn.{always_returns_same, dedup_same}
 use Rattle.std.proofs.lemmas.List.Sorted.{ranks_by, All-permutation}
-use Rattle.msgpack_canonical.specs.declared.entries.Place.{Place}
+use Rattle.msgpack_canonical.specs.declared.entries.EntryPlace.{EntryPlace}
 use Rattle.msgpack_canonical.specs.body.Entries.{IsStanding, entry_in, place_cmp}
 use Rattle.msgpack_canonical.specs.body.Sorting.{in_order}
 use Rattle.msgpack_canonical.proofs.Sorting.{sorted-dedup, All-dedup}
@@ -16,9 +16,9 @@ use Rattle.msgpack_canonical.proofs.entries.put_in_order.Goals as goal
 pub returns-clause-order : goal.returns-clause-order
 returns-clause-order c =
     let written = c.args.written.now in
-    let key = λ (p : Place). (entry_in written p).0 in
+    let key = λ (p : EntryPlace). (entry_in written p).0 in
     let total : IsTotalOrder (place_cmp written) = on_total key nat_list_cmp_total in
-    let lt = λ (p q : Place). is_lt (place_cmp written p q) in
+    let lt = λ (p q : EntryPlace). is_lt (place_cmp written p q) in
     let ranks = ranks_by nat_list_cmp_total key in
     let sorted = c.in_ok-sort_by.ensures.sorted lt ranks (always_returns_same _ _ _ (λ a r f k. search rules)) in
     let stable = c.in_ok-sort_by.ensures.stable lt ranks (always_returns_same _ _ _ (λ a r f k. search rules)) in

@@ -1,5 +1,5 @@
 use Rattle.std.proofs.Common.{◌<◌, length, ap, ◌∙◌, arith}
-use Rattle.session.specs.declared.messages.item.Publication.{Publication}
+use Rattle.wamp_messages.specs.declared.item.Publication.{Publication}
 use Rattle.realm.specs.Yield.{admits_who}
 use Rattle.realm.specs.body.LiveSessions.{session_of}
 use Rattle.realm.proofs.HoldersAreLive.{live-at, admitted-unlisted, events-more}

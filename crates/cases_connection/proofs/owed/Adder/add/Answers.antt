@@ -1,6 +1,6 @@
 use Rattle.std.proofs.Common.{Option, List, [], sym, ap, subst}
 use Rattle.outbox_queue.specs.Ends.{Sending}
-use Rattle.session.specs.declared.messages.item.Item.{Item}
+use Rattle.wamp_messages.specs.declared.item.Item.{Item}
 use Rattle.cases_connection.proofs.Next.{none_is_left}
 use Rattle.cases_connection.specs.Listing.{Names, Owes}
 use Rattle.cases_connection.specs.declared.owed.ListHistory.{ListHistory}

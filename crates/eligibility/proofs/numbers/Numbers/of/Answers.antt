@@ -1,7 +1,7 @@
 use Rattle.std.proofs.Common.{Some, sym, ap, ◌∙◌}
 use Rattle.eligibility.specs.Options.{each_of, number_of}
 use Rattle.eligibility.specs.Lists.{has_number}
-use Rattle.eligibility.specs.body.Ids.{holds}
+use Rattle.eligibility.specs.body.IdSet.{holds}
 use Rattle.eligibility.specs.body.Standing.{listed_in}
 use Rattle.eligibility.proofs.Standing.{held-some, seen-list}
 use Rattle.eligibility.proofs.numbers.Numbers.of.Goals as goal

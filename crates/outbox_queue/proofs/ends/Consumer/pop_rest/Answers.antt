@@ -2,7 +2,7 @@ use Rattle.std.proofs.Common.{◌≡◌, ℕ, length, sym, ap, ◌∙◌, subst,
 use Rattle.std.specs.Prelude.{slice_get, is_some}
 use Rattle.crossbeam_queue.specs.Passes.{view}
 use Rattle.outbox_queue.specs.Ends.{Owes, IsOf}
-use Rattle.outbox_queue.specs.declared.rule.View.{View}
+use Rattle.outbox_queue.specs.declared.rule.OutboxView.{OutboxView}
 use Rattle.outbox_queue.proofs.ComingOver.{came_adds, goes_on}
 use Rattle.outbox_queue.proofs.RuleSteps.{settles, learns_waiting}
 use Rattle.outbox_queue.proofs.OwedBeginnings.{owes_next}
@@ -18,9 +18,9 @@ invariant_of-self-2 g c =
     let o = g.H.Owed in let old = c.self.invariant in let x = c.in_ok-item.item in let v = view c.self.inside.place.pass in
     let same = c.in_ok-item.ensures.queue in let settled = c.in_ok-item.ensures.rule.0 in let told = settled.0 in let eq = told.0 in
     let owes : slice_get (o.owed x.history v.conn) (length v.taken) ≡ Some x.item = subst (λ (y : ℕ × ℕ). slice_get (o.owed x.history y.0) y.1 ≡ Some x.item) (λ i. (told.1 i, told.2 i)) c.shows.ensures in
-    let P : View g.row.T.Denot g.row.H.Denot → Type 0 = λ u. u.takes ≡ true in
-    let Q : View g.row.T.Denot g.row.H.Denot → Type 0 = λ u. Owes o.owed u.seen u.conn u.taken in
-    let C : View g.row.T.Denot g.row.H.Denot → Type 0 = λ u. IsOf o.is_of u.seen u.chronicle in
+    let P : OutboxView g.row.T.Denot g.row.H.Denot → Type 0 = λ u. u.takes ≡ true in
+    let Q : OutboxView g.row.T.Denot g.row.H.Denot → Type 0 = λ u. Owes o.owed u.seen u.conn u.taken in
+    let C : OutboxView g.row.T.Denot g.row.H.Denot → Type 0 = λ u. IsOf o.is_of u.seen u.chronicle in
     record {
       is_pass = (same.0 ∙ old.is_pass.0, same.2 ∙ old.is_pass.1);
       takes = subst P (sym eq) old.takes;

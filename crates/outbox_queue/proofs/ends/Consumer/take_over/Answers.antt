@@ -7,7 +7,7 @@ use Rattle.outbox_queue.specs.declared.ends.Came.{Came}
 use Rattle.outbox_queue.specs.body.EndInvariants.{CameOver}
 use Rattle.outbox_queue.specs.Rule.{Waiting}
 use Rattle.outbox_queue.specs.declared.owed.Note.{Note}
-use Rattle.outbox_queue.specs.declared.rule.View.{View}
+use Rattle.outbox_queue.specs.declared.rule.OutboxView.{OutboxView}
 use Rattle.outbox_queue.proofs.ComingOver.{comes, joined, joins}
 use Rattle.outbox_queue.proofs.RuleSteps.{comes_over, learns_waiting}
 use Rattle.outbox_queue.proofs.ends.Consumer.take_over.Given as given
@@ -38,7 +38,7 @@ invariant_of-self g c =
     let V : Option g.row.H.Denot × List g.row.T.Denot × ℕ → Type 0 = λ y. IsVouched o.owed o.is_over y.0 from.conn y.1 y.2 in
     let vouched : IsVouched o.owed o.is_over came.history from.conn end.added came.finds.count = subst V (λ i. (sym same.history i, ap (λ e. e.added) (sym same.end) i, sym finds i)) same.vouched in
     let belongs : IsOf o.is_of came.history from.chronicle = subst (λ (h : Option g.row.H.Denot). IsOf o.is_of h from.chronicle) (sym same.history) same.chronicle in
-    let W : View g.row.T.Denot g.row.H.Denot → Type 0 = λ u. (waiting : List (Note g.row.T.Denot g.row.H.Denot)) × Waiting o.begins u waiting in
+    let W : OutboxView g.row.T.Denot g.row.H.Denot → Type 0 = λ u. (waiting : List (Note g.row.T.Denot g.row.H.Denot)) × Waiting o.begins u waiting in
     let waits : W all = subst W (sym c.absorb.ensures.rule ∙ knows) c.absorb.ensures.fact in
     let here = ruled_capacity (arc_value c.self.inside.queue) in
     let holds : end.capacity ≡ here = ap (λ e. e.capacity) same.end ∙ ap (λ w. w.capacity) c.requires.whose ∙ sym (ap (λ a. a.capacity) vi) in
@@ -49,10 +49,10 @@ invariant_of-self g c =
       is_pass = (moved.0 ∙ old.is_pass.0, moved.2 ∙ old.is_pass.1);
       takes = ap (λ u. u.takes) knows;
       capacity = old.capacity;
-      owes = subst (λ (u : View g.row.T.Denot g.row.H.Denot). Owes o.owed u.seen u.conn u.taken) (sym knows) old.owes;
-      is_of = subst (λ (u : View g.row.T.Denot g.row.H.Denot). IsOf o.is_of u.seen u.chronicle) (sym knows) old.is_of;
+      owes = subst (λ (u : OutboxView g.row.T.Denot g.row.H.Denot). Owes o.owed u.seen u.conn u.taken) (sym knows) old.owes;
+      is_of = subst (λ (u : OutboxView g.row.T.Denot g.row.H.Denot). IsOf o.is_of u.seen u.chronicle) (sym knows) old.is_of;
       conn = old.conn ∙ sym (ap (λ u. u.conn) knows);
-      last = subst (λ (u : View g.row.T.Denot g.row.H.Denot). CameOver o.owed o.is_over o.is_of here u came) (sym knows) over;
+      last = subst (λ (u : OutboxView g.row.T.Denot g.row.H.Denot). CameOver o.owed o.is_over o.is_of here u came) (sym knows) over;
     }
 
 pub returns : goal.returns

@@ -3,7 +3,7 @@ use Rattle.std.specs.Prelude.{slice_get}
 use Rattle.crossbeam_queue.specs.Passes.{view}
 use Rattle.outbox_queue.specs.Rule.{Grows, Belongs, with_added, adding}
 use Rattle.outbox_queue.specs.Ends.{Owes, IsOf}
-use Rattle.outbox_queue.specs.declared.rule.View.{View}
+use Rattle.outbox_queue.specs.declared.rule.OutboxView.{OutboxView}
 use Rattle.outbox_queue.proofs.RuleSteps.{adds, learns_full}
 use Rattle.outbox_queue.proofs.OwedBeginnings.{owes_next}
 use Rattle.outbox_queue.proofs.ends.Producer.push.Goals as goal
@@ -22,9 +22,9 @@ invariant_of-self g c =
     let conn : x.conn ≡ v.conn = c.requires.conn ∙ ap (λ a. a.conn) is in
     let place : x.place ≡ length v.added = c.requires.place ∙ ap (λ a. length a.added) is in
     let owes : slice_get (o.owed x.history v.conn) (length v.added) ≡ Some x.item = subst (λ (y : ℕ × ℕ). slice_get (o.owed x.history y.0) y.1 ≡ Some x.item) (λ i. (conn i, place i)) c.shows.ensures in
-    let P : View g.row.T.Denot g.row.H.Denot → Type 0 = λ u. u ≡ adding u.conn u.chronicle u.history u.added in
-    let Q : View g.row.T.Denot g.row.H.Denot → Type 0 = λ u. Owes o.owed u.history u.conn u.added in
-    let C : View g.row.T.Denot g.row.H.Denot → Type 0 = λ u. IsOf o.is_of u.history u.chronicle in
+    let P : OutboxView g.row.T.Denot g.row.H.Denot → Type 0 = λ u. u ≡ adding u.conn u.chronicle u.history u.added in
+    let Q : OutboxView g.row.T.Denot g.row.H.Denot → Type 0 = λ u. Owes o.owed u.history u.conn u.added in
+    let C : OutboxView g.row.T.Denot g.row.H.Denot → Type 0 = λ u. IsOf o.is_of u.history u.chronicle in
     record {
       is_pass = (same.0 ∙ old.is_pass.0, same.2 ∙ old.is_pass.1);
       adds = subst P (sym eq) (ap (λ u. with_added u x) old.adds);

@@ -1,12 +1,12 @@
 use Rattle.std.proofs.Common.{length}
-use Rattle.rawsocket.specs.Steps.{Fine, Steps, meter}
+use Rattle.rawsocket.specs.Steps.{Fine, Steps, write_meter}
 use Rattle.rawsocket.proofs.DeviceLemmas.{Written}
 use Rattle.rawsocket.proofs.devices.turns.write_all.Given as goal
 
 abbrev pub invariant-loop-rest : goal.invariant-loop-rest
 invariant-loop-rest g l = record {
-  written : Written (g.S.Sink.taken l.fn.sink) (g.S.Sink.taken l.sink) l.fn.octets l.rest;
-  steps : Steps (meter (g.S.Sink.calls l.fn.sink) (g.S.Sink.failures l.fn.sink) l.fn.turns) (meter (g.S.Sink.calls l.sink) (g.S.Sink.failures l.sink) l.turns) Fine;
+  written : Written (g.S.Sink.seen l.fn.sink).taken (g.S.Sink.seen l.sink).taken l.fn.octets l.rest;
+  steps : Steps (write_meter (g.S.Sink.seen l.fn.sink) l.fn.turns) (write_meter (g.S.Sink.seen l.sink) l.turns) Fine;
 }
 
 abbrev pub decreases-loop-rest : goal.decreases-loop-rest

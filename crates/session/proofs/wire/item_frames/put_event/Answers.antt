@@ -3,7 +3,7 @@ use Rattle.message_tree.specs.Data.{Data, dict, list, item, no_items}
 use Rattle.msgpack_codec.specs.Short.{item_count}
 use Rattle.session.specs.body.SerializedParts.{separator, list_opening, list_closing, further}
 use Rattle.session.specs.Serializer.{serialized}
-use Rattle.session.specs.Arguments.{last_items}
+use Rattle.wamp_messages.specs.Arguments.{last_items}
 use Rattle.session.specs.ToClient.{number, event_details, event}
 use Rattle.session.proofs.ListParts.{whole_list}
 use Rattle.session.proofs.wire.item_frames.put_event.Goals as goal

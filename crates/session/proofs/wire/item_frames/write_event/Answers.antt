@@ -3,13 +3,13 @@ use Rattle.msgpack_codec.specs.Short.{item_count}
 use Rattle.rawsocket.specs.Frames.{header}
 use Rattle.rawsocket.specs.declared.frame.Kind.TheVariants.{Message}
 use Rattle.rawsocket.specs.declared.handshake.Serializer.{Serializer}
-use Rattle.session.specs.Arguments.{Arguments, last_items}
+use Rattle.wamp_messages.specs.Arguments.{Arguments, last_items}
 use Rattle.session.specs.ToClient.{event}
 use Rattle.session.specs.Serializer.{serialized}
 use Rattle.arguments.specs.Endings.{IsEnding}
 use Rattle.session.specs.body.EventHead.{event_front}
 use Rattle.session.specs.body.SerializedParts.{list_closing}
-use Rattle.session.specs.declared.messages.item.Publication.{Publication}
+use Rattle.wamp_messages.specs.declared.item.Publication.{Publication}
 use Rattle.session.proofs.EventParts.{event_octets, event_is_spelled}
 use Rattle.session.proofs.wire.item_frames.write_event.Goals as goal
 

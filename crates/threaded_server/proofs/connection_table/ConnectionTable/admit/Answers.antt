@@ -1,5 +1,5 @@
 use Rattle.std.proofs.Common.{◌≡◌, ◌-◌, [], ◌∷◌, ◌++◌, None, length, refl, sym, ap, ◌∙◌, subst}
-use Rattle.connection.specs.Seats.{free_at}
+use Rattle.threaded_server.specs.Seats.{free_at}
 use Rattle.ghost_state.specs.GhostList.{items_of}
 use Rattle.threaded_server.proofs.Numbering.{back_numbered, over_numbered, seat_numbered, taken_numbered, took_numbered, unseated_numbered}
 use Rattle.threaded_server.proofs.RosterSteps.{seated_before}
@@ -43,7 +43,7 @@ take-posters-requires-clause-seat g c κs within = seat_asks (places_of (realms_
 pub seat-requires-clause-free : goal.seat-requires-clause-free
 seat-requires-clause-free g c κs within =
     let table = c.args.self.now in
-    free_place table.seats c.take.new.self c.in-Ok.conn table.roster.entries.items (items_of table.roster.lent) c.place_of-place.result c.in-Ok.ensures.ok c.place_of-place.ensures table.seated
+    free_place table.seats c.take.new.self c.in-Ok.conn table.roster.entries.items (items_of table.roster.lent) c.seat_index-place.result c.in-Ok.ensures.ok c.seat_index-place.ensures table.seated
 
 pub invariant_of-self-in-Runs : goal.invariant_of-self-in-Runs
 invariant_of-self-in-Runs g c =
@@ -51,15 +51,15 @@ invariant_of-self-in-Runs g c =
     let conn = c.in-Ok.conn in
     let number = taken_numbered table.seats c.take.new.self c.in-Ok.conn table.roster.entries.items (items_of table.roster.over.streams) c.in-Ok.ensures.ok table.numbered in
     let s = seat_standing table.roster.over.plan c.seat.new.self.over.plan (realms_of table.realms) conn c.take-posters.result.items (lists_of table.posters) (lists_of c.take-posters.new.self) table.roster.entries.items c.seat.new.self.entries.items (items_of table.roster.over.streams)
-    (items_of c.seat.new.self.over.streams) c.place_of-place.result c.in-Runs.entry c.take-posters.ensures c.place_of-place.ensures c.in-Runs.ensures.1.posts c.seat.ensures.plan c.seat.ensures.entries c.seat.ensures.over (record { free = table.free; served = table.served; say = table.say; kept = table.kept; grants = table.grants }) in
+    (items_of c.seat.new.self.over.streams) c.seat_index-place.result c.in-Runs.entry c.take-posters.ensures c.seat_index-place.ensures c.in-Runs.ensures.1.posts c.seat.ensures.plan c.seat.ensures.entries c.seat.ensures.over (record { free = table.free; served = table.served; say = table.say; kept = table.kept; grants = table.grants }) in
     record {
       same = table.same ∙ ap (λ p. p.value) (sym c.seat.ensures.plan);
       free = s.free;
       served = s.served;
       say = s.say;
-      numbered = seat_numbered c.take.new.self conn table.roster.entries.items c.seat.new.self.entries.items (items_of table.roster.over.streams) (items_of c.seat.new.self.over.streams) c.place_of-place.result c.in-Runs.entry c.seat.ensures.entries c.seat.ensures.over c.place_of-place.ensures
+      numbered = seat_numbered c.take.new.self conn table.roster.entries.items c.seat.new.self.entries.items (items_of table.roster.over.streams) (items_of c.seat.new.self.over.streams) c.seat_index-place.result c.in-Runs.entry c.seat.ensures.entries c.seat.ensures.over c.seat_index-place.ensures
           c.in-Runs.ensures.1.number (subst (λ l. AreOf c.in-Ok.conn l) (sym c.in-Runs.ensures.1.posts) c.take-posters.ensures.relabels.own) number.1 number.0;
-      seated = seat_given table.seats c.take.new.self conn table.roster.entries.items c.seat.new.self.entries.items (items_of table.roster.lent) (items_of c.seat.new.self.lent) (halves_of c.in-Runs.entry) c.place_of-place.result c.in-Runs.entry table.numbered.long c.in-Ok.ensures.ok c.place_of-place.ensures
+      seated = seat_given table.seats c.take.new.self conn table.roster.entries.items c.seat.new.self.entries.items (items_of table.roster.lent) (items_of c.seat.new.self.lent) (halves_of c.in-Runs.entry) c.seat_index-place.result c.in-Runs.entry table.numbered.long c.in-Ok.ensures.ok c.seat_index-place.ensures
           c.in-Runs.ensures.1.number c.seat.ensures.entries c.seat.ensures.lent table.seated;
       kept = s.kept;
       grants = s.grants;
@@ -91,10 +91,10 @@ invariant_of-self-in-Ended g c =
     let table = c.args.self.now in
     let conn = c.in-Ok.conn in
     let number = taken_numbered table.seats c.take.new.self c.in-Ok.conn table.roster.entries.items (items_of table.roster.over.streams) c.in-Ok.ensures.ok table.numbered in
-    let free = free_place table.seats c.take.new.self conn table.roster.entries.items (items_of table.roster.lent) c.place_of-place.result c.in-Ok.ensures.ok c.place_of-place.ensures table.seated in
+    let free = free_place table.seats c.take.new.self conn table.roster.entries.items (items_of table.roster.lent) c.seat_index-place.result c.in-Ok.ensures.ok c.seat_index-place.ensures table.seated in
     let same = ap (λ v. v.items) c.pass.ensures.entries in
     let s = ended_standing (sight g.I.Source.given g.I.Source.is_ended g.I.Source.calls g.I.Source.failures g.O.Sink.taken g.O.Sink.calls g.O.Sink.failures) table.roster.over.plan c.pass.new.self.over.plan (realms_of table.realms) (realms_of c.take_in-gone.new.realms) conn c.take-posters.result.items (lists_of table.posters) (lists_of c.take-posters.new.self) (lists_of c.take_in-gone.new.posters)
-    table.roster.entries.items c.pass.new.self.entries.items (items_of table.roster.over.streams) (items_of c.pass.new.self.over.streams) c.place_of-place.result c.in-Ended.began c.of.result c.in-Ended.ended c.of-in-Ended.result.value c.take-posters.ensures c.place_of-place.ensures
+    table.roster.entries.items c.pass.new.self.entries.items (items_of table.roster.over.streams) (items_of c.pass.new.self.over.streams) c.seat_index-place.result c.in-Ended.began c.of.result c.in-Ended.ended c.of-in-Ended.result.value c.take-posters.ensures c.seat_index-place.ensures
     c.in-Ended.ensures.1.number c.in-Ended.ensures.1.posts c.pass.ensures.plan same c.pass.ensures.over c.of-in-Ended.ensures c.of.ensures c.in-Ended.ensures.2 c.take_in-gone.ensures.realms c.take_in-gone.ensures.posters (record { free = table.free; served = table.served; say = table.say; kept = table.kept; grants = table.grants }) in
     record {
       same = table.same ∙ ap (λ p. p.value) (sym c.pass.ensures.plan);
@@ -102,7 +102,7 @@ invariant_of-self-in-Ended g c =
       served = s.served;
       say = s.say;
       numbered = back_numbered c.take.new.self c.vacate.new.seats conn c.pass.new.self.entries.items (items_of c.pass.new.self.over.streams) c.vacate.ensures
-          (unseated_numbered c.take.new.self conn table.roster.entries.items c.pass.new.self.entries.items (items_of table.roster.over.streams) (items_of c.pass.new.self.over.streams) c.place_of-place.result c.in-Ended.began c.of.result c.of-in-Ended.result.value same free c.place_of-place.ensures
+          (unseated_numbered c.take.new.self conn table.roster.entries.items c.pass.new.self.entries.items (items_of table.roster.over.streams) (items_of c.pass.new.self.over.streams) c.seat_index-place.result c.in-Ended.began c.of.result c.of-in-Ended.result.value same free c.seat_index-place.ensures
           c.pass.ensures.over c.of-in-Ended.ensures c.in-Ended.ensures.1.number number.1 number.0);
       seated = seat_kept table.seats c.take.new.self c.vacate.new.seats conn table.roster.entries.items c.pass.new.self.entries.items (items_of table.roster.lent) (items_of c.pass.new.self.lent) c.in-Ended.halves.value table.numbered.long c.in-Ok.ensures.ok c.vacate.ensures same c.pass.ensures.lent table.seated;
       kept = s.kept;
@@ -115,8 +115,8 @@ invariant_of-self-in-Refused g c =
     let conn = c.in-Ok.conn in
     let number = taken_numbered table.seats c.take.new.self c.in-Ok.conn table.roster.entries.items (items_of table.roster.over.streams) c.in-Ok.ensures.ok table.numbered in
     let same = ap (λ v. v.items) c.let_go-gone.ensures.entries in
-    let b = back_standing table.roster.over.plan.value (realms_of table.realms) conn c.take-posters.result.items c.in-Refused.posters.items (lists_of table.posters) (lists_of c.take-posters.new.self) (lists_of c.put.new.self) table.roster.entries.items (items_of table.roster.over.streams) c.place_of-place.result
-    c.take-posters.ensures c.place_of-place.ensures c.in-Refused.ensures.1 c.put.ensures (record { free = table.free; served = table.served; say = table.say; kept = table.kept; grants = table.grants }) in
+    let b = back_standing table.roster.over.plan.value (realms_of table.realms) conn c.take-posters.result.items c.in-Refused.posters.items (lists_of table.posters) (lists_of c.take-posters.new.self) (lists_of c.put.new.self) table.roster.entries.items (items_of table.roster.over.streams) c.seat_index-place.result
+    c.take-posters.ensures c.seat_index-place.ensures c.in-Refused.ensures.1 c.put.ensures (record { free = table.free; served = table.served; say = table.say; kept = table.kept; grants = table.grants }) in
     let s = untouched_standing table.roster.over.plan c.let_go-gone.new.self.over.plan (realms_of table.realms) (lists_of c.put.new.self) table.roster.entries.items c.let_go-gone.new.self.entries.items (items_of table.roster.over.streams) (items_of c.let_go-gone.new.self.over.streams) c.in-Refused.halves
     c.let_go-gone.ensures.plan same c.let_go-gone.ensures.over b in
     record {

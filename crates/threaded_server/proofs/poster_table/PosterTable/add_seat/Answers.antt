@@ -12,5 +12,5 @@ returns g c =
       inbox = c.poster_of-poster.ensures.inbox;
       number = c.poster_of-poster.ensures.number;
       posted = c.poster_of-poster.ensures.posted;
-      put = c.put_at.ensures ∙ ap (λ k. set slots k (option_map (λ posters. set posters c.args.realm (Some c.poster_of-poster.result)) (option_flatten (slice_get slots k)))) (c.place_of.ensures ∙ ap (λ n. n - 1) (ap seat_of c.conn.ensures ∙ c.poster_of-poster.ensures.number));
+      put = c.put_at.ensures ∙ ap (λ k. set slots k (option_map (λ posters. set posters c.args.realm (Some c.poster_of-poster.result)) (option_flatten (slice_get slots k)))) (c.seat_index.ensures ∙ ap (λ n. n - 1) (ap seat_of c.conn.ensures ∙ c.poster_of-poster.ensures.number));
     }

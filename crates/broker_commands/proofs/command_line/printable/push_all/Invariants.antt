@@ -1,6 +1,0 @@
-use Rattle.std.proofs.Common.{◌≡◌, ◌++◌, drop}
-use Rattle.broker_commands.specs.Reasons.{shown}
-use Rattle.broker_commands.proofs.command_line.printable.push_all.Given as goal
-
-abbrev pub invariant-loop-octet : goal.invariant-loop-octet
-invariant-loop-octet l = l.fn.line.items ++ shown l.octets ≡ l.line.items ++ shown (drop l.octet-index l.octets)

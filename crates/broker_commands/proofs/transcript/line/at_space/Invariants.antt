@@ -1,7 +1,0 @@
-use Rattle.std.proofs.Common.{◌≡◌, take, drop}
-use Rattle.broker_commands.specs.Lines.{at_space}
-use Rattle.broker_commands.proofs.FirstSpace.{fronted}
-use Rattle.broker_commands.proofs.transcript.line.at_space.Given as goal
-
-abbrev pub invariant-loop-i : goal.invariant-loop-i
-invariant-loop-i l = at_space l.octets ≡ fronted (take l.i l.octets) (at_space (drop l.i l.octets))

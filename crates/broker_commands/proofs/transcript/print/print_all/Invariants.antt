@@ -1,6 +1,0 @@
-use Rattle.std.proofs.Common.{◌≡◌, ◌++◌, take}
-use Rattle.broker_commands.specs.Transcript.{printed_all}
-use Rattle.broker_commands.proofs.transcript.print.print_all.Given as goal
-
-abbrev pub invariant-loop-number : goal.invariant-loop-number
-invariant-loop-number l = l.out.items ≡ l.fn.out.items ++ printed_all (take l.number-index l.given.items)

@@ -1,0 +1,3 @@
+pub mod GrantsLemmas
+pub mod WrittenPieces
+pub mod PrintableLemmas

@@ -1,0 +1,99 @@
+//! The grammar of the words behind `subscribe` and `publish`, and their help.
+use crate::grammar::option;
+use clap::{Arg, ArgAction, Command};
+use std::alloc::{AllocError, Global};
+
+/// What stands after `subscribe`.
+pub fn subscribe<'a>(alloc: Global) -> Result<Command<'a>, AllocError> {
+    to_a_broker(alloc, "subscribe")?
+        .about("Prints the events of topics as they come, a line of JSON each")
+        .arg(
+            option(alloc, "match").value_name("POLICY").help(
+                "How topics are compared with those named: exact (if none is named), prefix or wildcard",
+            ),
+        )?
+        .arg(flag(alloc, "get-retained").help("Ask for what is retained as well"))?
+        .arg(
+            option(alloc, "count")
+                .value_name("N")
+                .help("End after so many events, from 1"),
+        )?
+        .arg(realm(alloc))?
+        .arg(
+            Arg::new(alloc, "topic")
+                .value_name("TOPIC")
+                .help("The topics")
+                .required(true)
+                .num_args(1..)
+                .action(ArgAction::Append),
+        )
+}
+
+/// What stands after `publish`.
+pub fn publish<'a>(alloc: Global) -> Result<Command<'a>, AllocError> {
+    to_a_broker(alloc, "publish")?
+        .about("Publishes one event of its arguments, or one of each line of standard input")
+        .arg(flag(alloc, "acknowledge").help("Wait until the broker says that it published"))?
+        .arg(flag(alloc, "retain").help("Make it the topic's retained event"))?
+        .arg(
+            option(alloc, "eligible-authrole")
+                .value_name("ROLE")
+                .help("Who may receive it: sessions of this role, or of one of these")
+                .action(ArgAction::Append),
+        )?
+        .arg(
+            option(alloc, "kwargs").value_name("JSON").help(
+                "What is published by keys: a dictionary in JSON, of whole numbers alone",
+            ),
+        )?
+        .arg(realm(alloc))?
+        .arg(
+            Arg::new(alloc, "topic")
+                .value_name("TOPIC")
+                .help("The topic")
+                .required(true),
+        )?
+        .arg(
+            Arg::new(alloc, "argument")
+                .value_name("JSON")
+                .help(
+                    "The event's arguments, each in JSON, of whole numbers alone, or else a text; - publishes each line of standard input",
+                )
+                .num_args(0..)
+                .action(ArgAction::Append),
+        )
+}
+
+/// What stands after the name of a command that is a client: where its broker is, and how it is spoken to.
+fn to_a_broker<'a>(alloc: Global, name: &'a str) -> Result<Command<'a>, AllocError> {
+    Command::new(alloc, name)
+        .arg(
+            option(alloc, "host")
+                .value_name("HOST")
+                .help("The broker's name or address, 127.0.0.1 if none is named"),
+        )?
+        .arg(
+            option(alloc, "port").value_name("PORT").help(
+                "The broker's port, from 1 to 65535, 9000 if none is named",
+            ),
+        )?
+        .arg(
+            option(alloc, "authid")
+                .value_name("AUTHID")
+                .help("The authid to ask for"),
+        )?
+        .arg(flag(alloc, "msgpack").help("Speak MessagePack in place of JSON"))
+}
+
+/// The realm that is joined.
+fn realm<'a>(alloc: Global) -> Arg<'a> {
+    Arg::new(alloc, "realm")
+        .value_name("REALM")
+        .help("The realm")
+        .required(true)
+}
+
+/// An option without a value.
+pub fn flag<'a>(alloc: Global, name: &'a str) -> Arg<'a> {
+    Arg::new(alloc, name).long(name).action(ArgAction::SetTrue)
+}

@@ -1,0 +1,14 @@
+pub mod ItemLists
+pub mod AddedBeginsOwed
+pub mod MarkLemmas
+pub mod SessionQueueLemmas
+pub mod QueueLemmas
+pub mod CutsHaveCauses
+pub mod WorldInvariant
+pub mod FirstAndLeast
+pub mod ExchangeLemmas
+pub mod RunLemmas
+pub mod OneOutcome
+pub mod ItemOrigin
+pub mod RestLemmas
+pub mod RealmLaws

@@ -1,0 +1,10 @@
+pub mod FirstSpace
+pub mod Digits
+pub mod PrintLemmas
+pub mod UnusedNumbers
+pub mod TranscriptSteps
+pub mod ProgressLemmas
+pub mod FaultCauses
+pub mod OneTranscript
+pub mod NumbersAreDecimal
+pub mod SpeechLemmas

@@ -1,6 +1,0 @@
-use Rattle.schedules.proofs.RealmLaws.{realm-laws}
-use Rattle.schedules.proofs.WorldInvariant.{sound-of, in-publishers-order}
-use Rattle.schedules.proofs.laws.publishers_order_is_kept.Goals as goal
-
-pub returns : goal.returns
-returns c = λ w r. in-publishers-order realm-laws w (sound-of w r)

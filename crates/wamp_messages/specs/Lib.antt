@@ -1,0 +1,4 @@
+pub mod Options
+pub mod Arguments
+pub mod Kinds
+pub mod body
