@@ -27,25 +27,31 @@ module _ {I O S : Type 0} where
     pub serves : Serves before now result
     pub moves : Moves (came_in serves.given) was lending had has
 
--- Between two states of an acceptor: each stream that came was lent, or couldn't be taken apart; each that was lent was let go of and came back, as its reader left it, or it was told
--- that no seat is free, while none was, or nothing was read or written; and what came back is these, in the order of that. No two connections had one number. Each realm that served a session ran, from an empty history with these
--- grants on; what it received of a seat begins what the streams posted there; and what the writer of a session took begins what the one history of the realm that its HELLO names
--- owes its connection, and is all of that where it stopped, unless it took as many items as an outbox holds. What comes back has the name of what was lent
+-- what was served between two states of an acceptor
 pub record Served {I O : Type 0} (S : Type 0) (see : Sight I O) (offer : Offer) (grants : Grants) (before now : List Answer) (was lending : Lending I O) : Type 0 where
+  -- what accepting answered meanwhile
   pub given : List Answer
-  pub lent : List (I × O)
-  pub streams : List (Over I O S)
-  pub refused : ℕ
   pub answered : now ≡ before ++ given
+  -- each stream that came was lent to the broker, or couldn't be taken apart for want of memory
+  pub lent : List (I × O)
+  pub refused : ℕ
   pub all_came : came_in given ≡ length lent + refused
   pub refused_are : lending.refused ≡ was.refused + refused
   pub lent_are : lending.lent ≡ was.lent ++ lent
+  -- what came back are the streams that were lent, in the order in which they did
+  pub streams : List (Over I O S)
   pub returned_are : lending.returned ≡ was.returned ++ map after_of streams
+  -- each came back as its reader left it, or it was told that no seat is free, while none was, or nothing was read or written
   pub went : AllWent see offer lent streams
-  pub runs : List (RealmRun S)
-  pub each_ran : All (λ run. IsRun grants run) runs
-  pub apart : AreApart (conns_of streams)
-  pub only_posted : ∥ OnlyPosted runs streams ∥₁
-  pub tied : ∥ All (λ over. OverTied runs over) streams ∥₁
   -- each came back under the name that it was lent under
   pub own : All (λ over. ∥ KeepsNames see (before_of over) ((after_of over).source, (after_of over).sink) ∥₁) streams
+  -- no two connections had one number
+  pub apart : AreApart (conns_of streams)
+  -- each realm that served a session ran, from an empty history with these grants on
+  pub runs : List (RealmRun S)
+  pub each_ran : All (λ run. IsRun grants run) runs
+  -- what a realm received of a seat begins what the streams posted there
+  pub only_posted : ∥ OnlyPosted runs streams ∥₁
+  -- what a session's writer took begins what the one history of the realm that its HELLO names owes its connection, and is all of that where it stopped,
+  -- unless it took as many items as an outbox holds
+  pub tied : ∥ All (λ over. OverTied runs over) streams ∥₁
