@@ -31,16 +31,16 @@ abbrev pub IsNewDrain : TableId → ℕ → ℕ → Option TableId → Taking It
 IsNewDrain queue room conn home drain =
     (drain.queue ≡ queue) × (drain.conn ≡ conn) × (drain.chronicle ≡ home) × (drain.taken ≡ []) × (drain.seen ≡ None) × (drain.capacity ≡ room)
 
-module _ {O S : Type 0} (seen : O → Writing) where
+module _ {O S : Type 0} (seen_of : O → Writing) where
   -- what the writer took from its drain it wrote to its sink, in its serialization and limit, up to its end. The newest history that the drain knows comes back with it: that
   -- history is of the drain's chronicle, and owes the connection what was taken, or more. Where it stopped, all that was added was taken, and a history came that vouches for that;
   -- where the outbox was dropped, none came
   pub record Writes (w : Writer O S) (done : Written O) : Type 0 where
     pub realm : done.realm ≡ w.realm
-    pub written : WritesSince w.drain.taken done.drain.value.taken (seen w.sink).taken (seen done.sink.last.value).taken (IsWrittenBy w.serializer w.limit done.end)
+    pub written : WritesSince w.drain.taken done.drain.value.taken (seen_of w.sink).taken (seen_of done.sink.last.value).taken (IsWrittenBy w.serializer w.limit done.end)
     pub later : IsLater BeginsKept w.drain done.drain.value
     pub stopped : done.end ≡ Stopped → w.drain.empty_finds < done.drain.value.empty_finds
-    pub steps : WriteSteps (seen w.sink) (seen done.sink.last.value) (write_told done.end)
+    pub steps : WriteSteps (seen_of w.sink) (seen_of done.sink.last.value) (write_told done.end)
     pub whole : done.end ≡ Stopped → TookWhole owed_kept over_kept done.drain.value
     pub dropped : done.end ≡ Dropped → (w.drain.empty_finds < done.drain.value.empty_finds) × TookUnvouched owed_kept over_kept done.drain.value
     pub seen : done.seen ≡ newest done.drain.value

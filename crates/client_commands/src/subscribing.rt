@@ -294,13 +294,13 @@ pub fn subscribe<I: Source, O: Sink, P: Sink, N: Sink>(
         (exchanged (I.seen source.new) (O.seen sink.new)) (P.seen output.old).taken
         (P.seen output.new).taken (noting (N.seen notes.old))
         (noting (N.seen notes.new))) }
-    ensures prints { (((P.seen output.new).taken ≡ (P.seen output.old).taken) × (noting
-        (N.seen notes.new).taken (N.seen notes.new).failures ≡ noting (N.seen notes.old))) ⊎ PrintsAfterAsking command.now.contact.serializer
-        command.now.contact.realm command.now.contact.authid command.now.wishes
-        command.now.topics.items (exchanged (I.seen source.old) (O.seen sink.old))
+    ensures prints { (((P.seen output.new).taken ≡ (P.seen output.old).taken)
+        × (noting (N.seen notes.new) ≡ noting (N.seen notes.old)))
+        ⊎ PrintsAfterAsking command.now.contact.serializer command.now.contact.realm
+        command.now.contact.authid command.now.wishes command.now.topics.items
+        (exchanged (I.seen source.old) (O.seen sink.old))
         (exchanged (I.seen source.new) (O.seen sink.new)) (P.seen output.old).taken
-        (P.seen output.new).taken (noting (N.seen notes.old))
-        (noting (N.seen notes.new)) }
+        (P.seen output.new).taken (noting (N.seen notes.old)) (noting (N.seen notes.new)) }
     ensures cause { IfErr result (λ fault. is_of_message fault ≡ true → IsTurnedAway
         command.now.contact.serializer command.now.contact.realm command.now.contact.authid
         (exchanged (I.seen source.old) (O.seen sink.old))
