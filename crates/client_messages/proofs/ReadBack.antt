@@ -49,10 +49,10 @@ arguments_of-last_items (Some a) (Some k) ha hk alone = rw (args_of-args a ha, k
 
 pub said_of-publish : (request : ℕ) (options : Entries) (topic : List ℕ) (a : Arguments) → IsId request
     → is_args_if_any a.args ≡ true → is_kwargs_if_any a.kwargs ≡ true → (a.args ≡ None → a.kwargs ≡ None)
-    → said_of (publish request options topic a) ≡ Some (Publish request (publish_options_of options) topic a)
+    → said_of (publish request options topic a) ≡ Some (Publish (record { request = request; options = publish_options_of options; topic = topic; args = a }))
 unfolding said_of publish reading.publish
 said_of-publish request options topic a id ha hk alone =
-    rw (id_of-number request id) (ap (option_map (Publish request (publish_options_of options) topic)) (arguments_of-last_items a.args a.kwargs ha hk alone))
+    rw (id_of-number request id) (ap (option_map (λ args. Publish (record { request = request; options = publish_options_of options; topic = topic; args = args }))) (arguments_of-last_items a.args a.kwargs ha hk alone))
 
 pub said_of-subscribe : (request : ℕ) (options : Entries) (topic : List ℕ) → IsId request
     → said_of (subscribe request options topic) ≡ Some (Subscribe request (subscribe_options_of options) topic)

@@ -61,6 +61,7 @@ abbrev pub read_as : ClientMessage → brokers.Said
 read_as (Hello realm authid) = read.Hello realm authid
 read_as Abort = read.Abort
 read_as Goodbye = read.Goodbye
-read_as (Publish request options topic args) = read.Publish request (publish_options_of options) topic args
+read_as (Publish request options topic args) =
+    read.Publish (record { request = request; options = publish_options_of options; topic = topic; args = args })
 read_as (Subscribe request options topic) = read.Subscribe request (subscribe_options_of options) topic
 read_as (Unsubscribe request subscription) = read.Unsubscribe request subscription
