@@ -14,6 +14,23 @@ fn options_of(alloc: Global, message: &Message) -> Result<Options, AllocError> {
     Ok(Options::of(Dict::new(alloc)))
 }
 
+/// A PUBLISH, with its options as they stand.
+fn said_again(publish: Publish, options: Options) -> ClientMessage {
+    let Publish {
+        request,
+        options: read,
+        topic,
+        args,
+    } = publish;
+    drop(read);
+    ClientMessage::Publish {
+        request,
+        options,
+        topic,
+        args,
+    }
+}
+
 /// What says just what a broker reads in this message, with its options as they stand.
 pub fn client_message(alloc: Global, message: Message) -> Result<ClientMessage, Fault> {
     let options = options_of(alloc, &message)?;
@@ -21,19 +38,7 @@ pub fn client_message(alloc: Global, message: Message) -> Result<ClientMessage, 
         Said::Hello { realm, authid } => ClientMessage::Hello { realm, authid },
         Said::Abort => ClientMessage::Abort,
         Said::Goodbye => ClientMessage::Goodbye,
-        Said::Publish(
-            Publish {
-                request,
-                options: _,
-                topic,
-                args,
-            },
-        ) => ClientMessage::Publish {
-            request,
-            options,
-            topic,
-            args,
-        },
+        Said::Publish(publish) => said_again(publish, options),
         Said::Subscribe {
             request,
             options: _,
