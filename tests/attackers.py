@@ -85,6 +85,15 @@ class Attacker:
         except Over:
             pass
 
+    def send_for(self, octets, seconds):
+        """Sends it again and again for this time, as often as the broker takes it."""
+        end = time.monotonic() + seconds
+        try:
+            while time.monotonic() < end:
+                self.send(octets)
+        except Over:
+            pass
+
     def say(self, message):
         self.send(frame(self.serializer, message))
 
@@ -322,3 +331,76 @@ def end_at_once(these, count):
         for _ in range(HELD_PATTERNS):
             it.hear(SUBSCRIBED)
     these.leave()
+
+
+def masked_wildcards(components, count, seed):
+    """So many wildcards that fit a topic of `a`s up to its last component, which is another; each is empty at places of its own."""
+    rng = random.Random(seed)
+    found = set()
+    while len(found) < count:
+        found.add(".".join("" if rng.random() < 0.5 else "a" for _ in range(components - 1)) + ".b")
+    return sorted(found)
+
+
+def hold_wildcards(sessions, components):
+    """Each session holds as many wildcards as it may, which take a search for each publication of `a`s and fit none."""
+
+    def subscribe(it):
+        patterns = masked_wildcards(components, HELD_PATTERNS, sessions.index(it))
+        for number, pattern in enumerate(patterns, 1):
+            it.send(frame(it.serializer, [32, number, {"match": "wildcard"}, pattern]))
+        for _ in patterns:
+            it.hear(SUBSCRIBED)
+
+    return subscribe
+
+
+def search(these, count, components, times, publishers=1):
+    """Some sessions hold wildcards, and some of them publish what is compared with all of these, so many times each."""
+    sessions = these.join(count)
+    these.at_once(sessions, hold_wildcards(sessions, components))
+    octets = frame(these.serializer, [16, 1, {}, ".".join("a" * components), []])
+    these.at_once(sessions[:publishers], lambda it: it.send_as_it_goes(octets, times))
+
+
+def flood(these, count, components, seconds, publishers):
+    """The same, as often as it goes in this time."""
+    sessions = these.join(count)
+    these.at_once(sessions, hold_wildcards(sessions, components))
+    octets = frame(these.serializer, [16, 1, {}, ".".join("a" * components), []])
+    these.at_once(sessions[:publishers], lambda it: it.send_for(octets, seconds))
+
+
+def flood_cheaply(these, count, seconds):
+    """Publications to nobody, as often as it goes."""
+    octets = frame(these.serializer, [16, 1, {}, "to.nobody", []]) * 64
+    these.at_once(these.join(count), lambda it: it.send_for(octets, seconds))
+
+
+def ping_shortly(these, count, seconds):
+    """Small PINGs, whose PONGs are read by nobody."""
+    octets = talk.frame_of(talk.PING, b"x") * 64
+    these.at_once(these.join(count), lambda it: it.send_for(octets, seconds))
+
+
+def scan_retained(these, kept, times):
+    """Long topics are retained, and looked through for a wildcard that none of them fits."""
+    (it,) = these.join(1)
+    for number in range(kept):
+        topic = f"{number}." + "x" * 900_000
+        it.ask([16, number + 1, {"retain": True, "acknowledge": True}, topic], PUBLISHED)
+    octets = frame(these.serializer, [32, 1, {"match": "wildcard", "get_retained": True}, ".."])
+    it.send_as_it_goes(octets, times)
+
+
+def publish_to_none(these, count, times):
+    """Publications that match all patterns of some sessions, and that nobody is eligible for."""
+    publisher, *holders = these.join(1 + count)
+
+    def subscribe(it):
+        for number in range(1, HELD_PATTERNS + 1):
+            it.ask([32, number, {"match": "prefix"}, "a" * number], SUBSCRIBED)
+
+    these.at_once(holders, subscribe)
+    octets = frame(these.serializer, [16, 1, {"eligible": []}, "a" * (HELD_PATTERNS + 1), []])
+    publisher.send_as_it_goes(octets, times)

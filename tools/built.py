@@ -9,6 +9,7 @@ import fcntl
 import hashlib
 import json
 import os
+import re
 import shutil
 import signal
 import subprocess
@@ -141,19 +142,41 @@ def stop_in_order():
             signal.signal(it, lambda number, _: sys.exit(128 + number))
 
 
+def is_taken(lock):
+    """Takes a lock, where nobody else holds it."""
+    try:
+        fcntl.flock(lock, fcntl.LOCK_EX | fcntl.LOCK_NB)
+    except BlockingIOError:
+        return False
+    except OSError:
+        pass  # Some file systems have no locks.
+    return True
+
+
+def wait_for(lock):
+    """Says what the holder of a lock does, and waits for it. The holder writes that behind taking it, so it is given a second: until then there
+    stands nothing, or the word of one who is gone."""
+    until = time.monotonic() + 1
+    while True:
+        lock.seek(0)
+        text = lock.read().strip()
+        process = re.search(r"\(process (\d+),", text)
+        if process and os.path.exists(f"/proc/{process[1]}") or time.monotonic() > until:
+            break
+        time.sleep(0.02)
+        if is_taken(lock):
+            return
+    print(f"wampd: waiting until another command is done: {text or 'it builds'}", file=sys.stderr, flush=True)
+    fcntl.flock(lock, fcntl.LOCK_EX)
+
+
 @contextlib.contextmanager
 def alone(path, what):
     """Holds a lock, and tells others what for. Where another command holds it, says what that does, and waits. However its holder ends, it is free."""
     os.makedirs(os.path.dirname(path), exist_ok=True)
     with open(path, "a+", encoding="utf-8") as lock:
-        try:
-            fcntl.flock(lock, fcntl.LOCK_EX | fcntl.LOCK_NB)
-        except BlockingIOError:
-            lock.seek(0)
-            print(f"wampd: waiting until another command is done: {lock.read().strip() or 'it builds'}", file=sys.stderr, flush=True)
-            fcntl.flock(lock, fcntl.LOCK_EX)
-        except OSError:
-            pass  # Some file systems have no locks.
+        if not is_taken(lock):
+            wait_for(lock)
         lock.truncate(0)
         lock.write(f"{what} (process {os.getpid()}, since {time.strftime('%H:%M')})")
         lock.flush()

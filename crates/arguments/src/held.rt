@@ -105,7 +105,8 @@ impl Given {
         kwargs: Option<Content>,
     ) -> Result<Given, AllocError>
         requires { FitMessages (record { args = Some args; kwargs = kwargs }) }
-        ensures same { IfOk result (λ g. arguments_in g ≡ record { args = Some args; kwargs = kwargs }) }
+        ensures same { IfOk result (λ g.
+            arguments_in g ≡ record { args = Some args; kwargs = kwargs }) }
         ensures held { IfOk result IsGiven }
     {
         let has_kwargs = kwargs.is_some();
@@ -157,7 +158,8 @@ impl Given {
 
     /// How many they are: 1 or 2.
     pub(crate) fn count(&self) -> u8
-        ensures { result ≡ item_count (last_items (arguments_in self.now).args (arguments_in self.now).kwargs) }
+        ensures { result
+            ≡ item_count (last_items (arguments_in self.now).args (arguments_in self.now).kwargs) }
     {
         let has_kwargs = match self {
             Given::Trees { kwargs, .. } => kwargs.is_some(),

@@ -67,7 +67,8 @@ fn put_tree(
     requires { is_carried content.now ≡ true }
     ensures ok { OnOk result (out.new.since ≡ out.old.since ++ further_one serializer content.now) }
     ensures spelled { OnOk result (has_spelling_one serializer content.now ≡ true) }
-    ensures unspelled { result ≡ Err Fault.TooLong → has_spelling_one serializer content.now ≡ false }
+    ensures unspelled { result ≡ Err Fault.TooLong
+        → has_spelling_one serializer content.now ≡ false }
     ensures before { out.new.before ≡ out.old.before }
     ensures fault { IfErr result (λ f. (f ≡ Fault.NoMemory) ⊎ (f ≡ Fault.TooLong)) }
 {

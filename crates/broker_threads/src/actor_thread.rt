@@ -15,6 +15,7 @@ use realm_inbox::{Act, Inbox, Letter, Post, RealmChronicle, Shut};
 use std::alloc::Global;
 use std::snapshot::Snapshot;
 use std::sync::{Arc, Wait};
+use std::time::Clock;
 use wamp_ids::SEATS;
 
 /// What the thread of a realm's actor has.
@@ -56,7 +57,7 @@ impl<S: Shut + Send + 'static> Task for ActorThread<S> {
     ghost does = { λ w acted. Acts w acted };
 }
 
-impl<R: Wait + Copy, S: Shut + Send + 'static> Work<R> for ActorThread<S> {
+impl<R: Wait + Clock + Copy, S: Shut + Send + 'static> Work<R> for ActorThread<S> {
     ghost use Rattle.broker_threads.specs.Acts.{Acts};
 
     /// Makes the actor, which runs until it is stopped, marks whose sessions it holds then, hands their outboxes over to their writers, and
@@ -117,7 +118,7 @@ struct StoreNotice<'a, R> {
     is_told: bool,
 }
 
-impl<R: Wait> Onlooker for StoreNotice<'_, R> {
+impl<R: Wait + Clock> Onlooker for StoreNotice<'_, R> {
     fn sees_retained(&mut self, is_full: bool) {
         if !is_full || self.is_told {
             return;
@@ -126,6 +127,15 @@ impl<R: Wait> Onlooker for StoreNotice<'_, R> {
         if let Some(realm) = self.plan.realms.get(self.realm) {
             tell_retained_full(&self.rt, &self.plan.log, realm);
         }
+    }
+
+    fn nanos(&mut self) -> u64 {
+        let Ok(time) = self.rt.monotonic() else {
+            return 0;
+        };
+        time.as_secs()
+            .wrapping_mul(1_000_000_000)
+            .wrapping_add(u64::from(time.subsec_nanos()))
     }
 }
 

@@ -128,8 +128,8 @@ fn serve<
     mut posters: Posters<S>,
 ) -> Ended<I, O, S>
     ensures { GoesBy (sight I.seen O.seen)
-        (offer realms.now (arc_value broker.entry.plan.now).outbox) (stream source sink posters.items)
-        result.source result.posters.items result.course }
+        (offer realms.now (arc_value broker.entry.plan.now).outbox)
+        (stream source sink posters.items) result.source result.posters.items result.course }
 {
     let opened = match open_session(broker.alloc, &mut source, &mut sink, realms) {
         Ok(opened) => opened,

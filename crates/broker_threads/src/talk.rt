@@ -90,7 +90,7 @@ pub fn talk<
     } = converse(&rt, broker.alloc, source, made, poster);
     let is_unwritable = broker.fate.is_unwritable();
     let written = writer.join(&rt);
-    let ends = Ends {
+    let ends = SessionEnds {
         read,
         has_aborted,
         has_greeted,
@@ -191,7 +191,7 @@ fn converse<R: Wait, I: Source, S: Shut>(
 
 // How both threads of a session ended.
 #[derive(Clone, Copy, Drop)]
-struct Ends {
+struct SessionEnds {
     read: ReadEnd,
     has_aborted: bool,
     has_greeted: bool,
@@ -202,7 +202,7 @@ struct Ends {
 }
 
 // Why a session is over.
-fn reason_of(broker: Broker<'_>, ends: Ends, limit: u32) -> CloseReason {
+fn reason_of(broker: Broker<'_>, ends: SessionEnds, limit: u32) -> CloseReason {
     let Broker {
         alloc: _,
         plan,
@@ -332,8 +332,8 @@ fn prepare<S: Shut>(
     ensures realm { IfSome result (λ r. r.0.opened.realm ≡ opened.realm) }
     ensures limit { IfSome result (λ r. r.0.opened.limit ≡ opened.limit) }
     ensures drain { IfSome result (λ r. IsNewDrain r.0.joining.outbox.queue
-        (arc_value broker.entry.plan.now).outbox (poster_conn poster.now) (home_of_poster poster.now)
-        r.1.drain) }
+        (arc_value broker.entry.plan.now).outbox (poster_conn poster.now)
+        (home_of_poster poster.now) r.1.drain) }
 {
     let Broker { alloc, plan, fate } = broker;
     let in_use = plan.in_use.get(opened.realm)?;

@@ -6,7 +6,7 @@ use case_devices::{FailsAt, OneByOne};
 use case_text::{Table, is_refused, line_of, number_of, octets_of};
 use client_commands::{
     Arguments, Contact, Fault, PublishCommand, PublishWishes, Serializer, SubscribeCommand,
-    SubscribeWishes, publish, subscribe, value_of,
+    SubscribeWishes, Timing, publish, subscribe, value_of,
 };
 use message_tree::{Content, Text, Tree};
 use rawsocket::devices::{MemorySource, Sink, Source, WriteSink};
@@ -49,6 +49,16 @@ impl Failing {
         }
         self
     }
+}
+
+/// No time passes.
+#[derive(Drop)]
+struct NoTime;
+
+impl Timing for NoTime {
+    fn rest(&mut self) {}
+
+    fn expects(&mut self, _is_due: bool) {}
 }
 
 /// What the lines of a case have said so far.
@@ -256,12 +266,24 @@ impl Case {
         let notes = WriteSink::new(Vec::with_capacity(alloc, ROOM)?);
         let mut output = FailsAt::new(output, failing.output);
         let mut notes = FailsAt::new(notes, failing.notes);
+        let mut timing = NoTime;
         let ran = match command {
             "subscribe" => {
                 let command = self.subscribing(alloc)?;
-                subscribe(alloc, &command, source, sink, &mut output, &mut notes)
+                subscribe(
+                    alloc,
+                    &command,
+                    source,
+                    sink,
+                    &mut output,
+                    &mut notes,
+                    &mut timing,
+                )
             }
-            _ => publish(alloc, &self.publishing(alloc)?, source, sink, &mut input),
+            _ => {
+                let command = self.publishing(alloc)?;
+                publish(alloc, &command, source, sink, &mut input, &mut timing)
+            }
         };
         Ok(Outcome {
             written: Vec::new(alloc),
@@ -282,6 +304,7 @@ impl Case {
             serializer: self.serializer,
             realm: Text::of(alloc, self.realm.as_str())?,
             authid,
+            timeout: 10,
         })
     }
 

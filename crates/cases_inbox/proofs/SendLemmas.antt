@@ -3,7 +3,7 @@ use denote.Param.Send.{IsSend, sendable}
 use denote.Param.SendFields.{declared_send}
 use Rattle.std.proofs.Crossing.{crosses}
 use Rattle.realm_inbox.proofs.SendLemmas as ends
-use Rattle.realm_inbox.specs.contracts.ends.Door as Door
+use Rattle.realm_inbox.specs.contracts.door.Door as Door
 use Rattle.realm_inbox.specs.contracts.ends.Inbox as Inbox
 use Rattle.realm_inbox.specs.contracts.ends.Poster as Poster
 use Rattle.realm_inbox.specs.contracts.ends.Seat as Seat

@@ -199,6 +199,7 @@ fn step<R: Wait>(
         "try" => told(alloc, room.receive(rt, false)),
         "seats" => seats(alloc, room),
         "stop" => stop(rt, alloc, room),
+        "took" => took(alloc, room, text),
         "close" => {
             room.inbox = None;
             Ok(String::new(alloc))
@@ -255,6 +256,18 @@ fn seats(alloc: Global, room: &Room) -> io::Result<String> {
             Ok(format!(in alloc; "{count} free, from {first} to {last}\n")?)
         }
         _ => line_of(alloc, "none free"),
+    }
+}
+
+// What was received last took so many nanoseconds.
+fn took(alloc: Global, room: &mut Room, text: &str) -> io::Result<String> {
+    let nanos = text.parse::<u64>().unwrap_or(0);
+    match &mut room.inbox {
+        None => line_of(alloc, "no inbox"),
+        Some(inbox) => {
+            let is_dear = inbox.note_time(nanos);
+            line_of(alloc, if is_dear { "dear" } else { "cheap" })
+        }
     }
 }
 

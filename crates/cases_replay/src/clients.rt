@@ -40,7 +40,7 @@ pub fn publish_line(alloc: Global, command: &PublishCommand) -> io::Result<Strin
     Ok(line)
 }
 
-/// A line that begins with the broker.
+/// A line that begins with the broker, and the time for its answers unless that is 10 seconds.
 fn contact_line(alloc: Global, name: &str, contact: &Contact) -> io::Result<String> {
     let serializer = match contact.serializer {
         Serializer::Json => "json",
@@ -48,7 +48,12 @@ fn contact_line(alloc: Global, name: &str, contact: &Contact) -> io::Result<Stri
     };
     let host = contact.host.as_str();
     let port = contact.port;
-    Ok(format!(in alloc; "{name} {host} {port} {serializer}")?)
+    let mut line = format!(in alloc; "{name} {host} {port} {serializer}")?;
+    if contact.timeout != 10 {
+        let timeout = contact.timeout;
+        line.push_str(format!(in alloc; " within {timeout}")?.as_str())?;
+    }
+    Ok(line)
 }
 
 /// The authid, if one is asked for, and the realm.
@@ -81,10 +86,22 @@ fn put_publish_wishes(line: &mut String, wishes: &PublishWishes) -> Result<(), A
     if wishes.retain {
         line.push_str(" retain")?;
     }
-    if let Some(roles) = &wishes.eligible_authrole {
-        for role in roles {
-            line.push_str(" for")?;
-            put_word(line, role)?;
+    if wishes.disclose_me {
+        line.push_str(" disclosed")?;
+    }
+    if !wishes.exclude_me {
+        line.push_str(" with-me")?;
+    }
+    put_texts(line, " to", &wishes.eligible_authid)?;
+    put_texts(line, " for", &wishes.eligible_authrole)
+}
+
+/// Each of these texts, if there are any, behind a word.
+fn put_texts(line: &mut String, word: &str, texts: &Option<Vec<Text>>) -> Result<(), AllocError> {
+    if let Some(texts) = texts {
+        for text in texts {
+            line.push_str(word)?;
+            put_word(line, text)?;
         }
     }
     Ok(())

@@ -104,7 +104,7 @@ fn config_line(start: String, config: &Config) -> io::Result<String> {
     Ok(line)
 }
 
-const FAULTS: [Fault; 10] = [
+const FAULTS: [Fault; 11] = [
     Fault::NoMemory,
     Fault::ReadFault,
     Fault::WriteFault,
@@ -115,6 +115,7 @@ const FAULTS: [Fault; 10] = [
     Fault::ConnectFault,
     Fault::Refused,
     Fault::ConnectionFault,
+    Fault::LateAnswer,
 ];
 
 /// What is reported of each fault, and the exit status.

@@ -143,7 +143,7 @@ impl Case {
     }
 
     /// Serves the clients over pairs of connected sockets.
-    pub fn serve<R: Threads + Wait + RandomSource + Net + Drop + Copy + Send + 'static>(
+    pub fn serve<R: Threads + Wait + Clock + RandomSource + Net + Drop + Copy + Send + 'static>(
         &mut self,
         rt: R,
         alloc: Global,
@@ -159,11 +159,9 @@ impl Case {
     }
 
     /// Does what [`Case::serve`] does with a log, and tells that in place of what the clients got: its lines, sorted.
-    pub fn serve_logged<R: Threads + Wait + RandomSource + Net + Drop + Copy + Send + 'static>(
-        &mut self,
-        rt: R,
-        alloc: Global,
-    ) -> io::Result<String> {
+    pub fn serve_logged<
+        R: Threads + Wait + Clock + RandomSource + Net + Drop + Copy + Send + 'static,
+    >(&mut self, rt: R, alloc: Global) -> io::Result<String> {
         let config = self.config(alloc)?;
         let mut script = Script::new(rt, alloc, self.take_steps(alloc));
         let (near, mut far) = UnixStream::pair(&rt)?;
@@ -176,12 +174,9 @@ impl Case {
     }
 
     /// Does so many times what [`Case::serve`] does once. Where it is told the same each time it is told once.
-    pub fn serve_often<R: Threads + Wait + RandomSource + Net + Drop + Copy + Send + 'static>(
-        &mut self,
-        rt: R,
-        alloc: Global,
-        times: u64,
-    ) -> io::Result<String> {
+    pub fn serve_often<
+        R: Threads + Wait + Clock + RandomSource + Net + Drop + Copy + Send + 'static,
+    >(&mut self, rt: R, alloc: Global, times: u64) -> io::Result<String> {
         let steps = self.take_steps(alloc);
         let mut first = None;
         for time in 0..times {
@@ -273,7 +268,7 @@ fn sorted(alloc: Global, text: &str) -> io::Result<String> {
 }
 
 // How serving ended.
-fn run<R: Threads + Wait + RandomSource + Copy + Send + 'static, A: Acceptor>(
+fn run<R: Threads + Wait + Clock + RandomSource + Copy + Send + 'static, A: Acceptor>(
     rt: R,
     alloc: Global,
     acceptor: &mut A,

@@ -1,21 +1,21 @@
 -- How publishing ends by a fault.
-use Rattle.std.proofs.Common.{◌≡◌, ◌+◌, ◌++◌, ◌∙◌, ℕ, Bool, true, false, List, Result, Ok, Err, ap, inl, inr, refl, subst, sym, append_assoc}
-use Rattle.std.specs.Prelude.{◌||◌, IfErr}
-use Rattle.std.specs.declared.option.Option.{Option}
-use Rattle.message_tree.specs.Data.{Data}
-use Rattle.rawsocket.specs.declared.handshake.Serializer.{Serializer}
+use Rattle.std.proofs.Common.{◌≡◌, ◌+◌, ◌++◌, ◌∙◌, ℕ, Bool, true, false, List, [], ◌∷◌, ◌<◌, append-nil, Result, Ok, Err, ap, inl, inr, refl, subst, sym, append_assoc}
+use Rattle.std.specs.Prelude.{◌||◌, IfErr, OnOk, length}
 use Rattle.session.specs.Opened.{Exchange, exchange}
 use Rattle.client_messages.specs.declared.client_message.ClientMessage.TheVariants.{Goodbye as GoodbyeSaid}
-use Rattle.client_messages.specs.declared.wishes.PublishWishes.{PublishWishes}
 use Rattle.client_session.specs.Hearing.{Ear, Terms}
 use Rattle.client_session.specs.Saying.{saying}
 use Rattle.client_session.specs.Sessions.{Welcomed}
 use Rattle.client_commands.specs.Acts.{Continues, EndsByMessage, Joins, exchange_of, standing, terms_of, writing}
-use Rattle.client_commands.specs.Ends.{EndsAtLine, EndsInAll, EndsInLines, EndsPublishing, IsOver, IsWhole}
+use Rattle.client_commands.specs.Ends.{AreFirstLines, EndsAtLine, EndsInAll, EndsInLines, EndsPublishing, IsOver, IsUnanswered, IsWhole}
 use Rattle.client_commands.specs.Faults.{IsOfNoContents, is_blamed, is_of_contents, is_of_message}
-use Rattle.client_commands.specs.Lines.{IsPublishedOf, ended}
-use Rattle.client_commands.specs.declared.command.Arguments as commands
+use Rattle.client_commands.specs.Lines.{ended}
+use Rattle.client_commands.specs.Pacing.{AllAnswered, IsPaced}
+use Rattle.client_commands.specs.Published.{IsPublishedOf}
+use Rattle.client_commands.specs.declared.command.PublishCommand.{PublishCommand}
 use Rattle.client_commands.specs.declared.fault.Fault.{Fault}
+use Rattle.client_commands.specs.declared.fault.Fault.TheVariants.{BadLine}
+use Rattle.client_commands.proofs.PublishingLemmas.{all-counted}
 
 first-of : (a b : Bool) → b ≡ false → (a || b) ≡ true → a ≡ true
 first-of true b none is = refl
@@ -30,22 +30,79 @@ pub cut-at : (input piece done left front back : List ℕ) → piece ≡ done ++
 cut-at input piece done left front back piece_is left_is =
     ap (λ xs. input ++ xs) (piece_is ∙ ap (λ xs. done ++ xs) left_is) ∙ sym (append_assoc (input ++ done) front back ∙ append_assoc input done (front ++ back))
 
-module _ (wishes : PublishWishes) (topic : List ℕ) (kwargs : Option Data) (t : Terms) (before : Ear) where
+module _ (command : PublishCommand) (t : Terms) (before : Ear) where
+  -- what ends a command at a line ends it in the input
+  at-line : (now : Ear) (input behind octets rest : List ℕ) (count answered : ℕ) (last : Ear) (over : Bool) (fault : Fault) → octets ≡ input ++ behind → IsWhole over rest behind
+      → (p : IsPublishedOf command t before last input rest count answered) → EndsAtLine command t before now p.lines rest fault → EndsInLines command t before now octets over fault
+  at-line now input behind octets rest count answered last over fault split whole p ends = elim ends [
+    | inl stops ↦ inl (record {
+      lines = p.lines;
+      line = rest;
+      behind = behind;
+      split = split ∙ ap (λ xs. xs ++ behind) p.split ∙ append_assoc (ended p.lines) rest behind;
+      clean = (p.rest_clean, p.lines_clean);
+      whole = whole;
+      stops = stops;
+    })
+    | inr unanswered ↦ inr (record {
+      lines = p.lines;
+      first = inl (rest ++ behind, split ∙ ap (λ xs. xs ++ behind) p.split ∙ append_assoc (ended p.lines) rest behind);
+      clean = p.lines_clean;
+      unanswered = unanswered;
+    })
+  ]
+
   -- the line behind those that were published ends it
-  pub ends-at : (u : Terms) (last now : Ear) (input behind rest octets : List ℕ) (count : ℕ) (over : Bool) (fault : Fault) → u ≡ t → octets ≡ input ++ behind → IsWhole over rest behind
-      → IsPublishedOf wishes topic kwargs t before last input rest count → EndsAtLine wishes topic kwargs u (count + 1) rest last now fault
-      → EndsInLines wishes topic kwargs t before now octets over fault
-  ends-at u last now input behind rest octets count over fault e split whole p ends = record {
+  pub ends-at : (u : Terms) (last now : Ear) (input behind rest octets : List ℕ) (count answered : ℕ) (over : Bool) (fault : Fault) → u ≡ t → octets ≡ input ++ behind → IsWhole over rest behind
+      → IsPublishedOf command t before last input rest count answered
+      → ((b : Ear) (ls : List (List ℕ)) → length ls ≡ count → IsPaced command u b last ls answered → EndsAtLine command u b now ls rest fault)
+      → EndsInLines command t before now octets over fault
+  ends-at u last now input behind rest octets count answered over fault e split whole p ends =
+      at-line now input behind octets rest count answered last over fault split whole p
+      (subst (λ x. EndsAtLine command x before now p.lines rest fault) e (ends before p.lines (sym p.counted) (subst (λ x. IsPaced command x before last p.lines answered) (sym e) p.publishes)))
+
+  -- the answer to one of those that were published does
+  pub ends-by-answer : (u : Terms) (mid now : Ear) (input behind rest octets : List ℕ) (count answered : ℕ) (over : Bool) (fault : Fault) → u ≡ t → octets ≡ input ++ behind
+      → IsPublishedOf command t before mid input rest count answered
+      → ((b : Ear) (ls : List (List ℕ)) → length ls ≡ count → IsPaced command u b mid ls answered → IsUnanswered command u b now ls fault)
+      → EndsInLines command t before now octets over fault
+  ends-by-answer u mid now input behind rest octets count answered over fault e split p ends = inr (record {
+    lines = p.lines;
+    first = inl (rest ++ behind, split ∙ ap (λ xs. xs ++ behind) p.split ∙ append_assoc (ended p.lines) rest behind);
+    clean = p.lines_clean;
+    unanswered = subst (λ x. IsUnanswered command x before now p.lines fault) e (ends before p.lines (sym p.counted) (subst (λ x. IsPaced command x before mid p.lines answered) (sym e) p.publishes));
+  })
+
+  -- or the answer to one up to the last one, which needs no LF
+  pub ends-by-last : (mid now : Ear) (input rest : List ℕ) (count answered : ℕ) (fault : Fault) → 0 < length rest
+      → IsPublishedOf command t before mid input rest count answered
+      → ((ls : List (List ℕ)) → length ls ≡ count → IsPaced command t before mid ls answered → IsUnanswered command t before now (rest ∷ ls) fault)
+      → EndsInLines command t before now input true fault
+  ends-by-last mid now input rest count answered fault some p ends = inr (record {
+    lines = rest ∷ p.lines;
+    first = inr (refl, (p.split, some));
+    clean = (p.rest_clean, p.lines_clean);
+    unanswered = ends p.lines (sym p.counted) p.publishes;
+  })
+
+  -- a line that is longer than 2 ^ 20 octets ends it, whether or not LF comes
+  pub ends-long : (now : Ear) (octets rest : List ℕ) (count answered : ℕ) (fault : Fault) → fault ≡ BadLine (count + 1) → 1048576 < length rest → AllAnswered command.wishes.acknowledge count answered
+      → IsPublishedOf command t before now octets rest count answered → EndsInLines command t before now octets false fault
+  ends-long now octets rest count answered fault is long all p = inl (record {
     lines = p.lines;
     line = rest;
-    behind = behind;
-    split = split ∙ ap (λ xs. xs ++ behind) p.split ∙ append_assoc (ended p.lines) rest behind;
+    behind = [];
+    split = p.split ∙ ap (λ xs. ended p.lines ++ xs) (sym (append-nil rest));
     clean = (p.rest_clean, p.lines_clean);
-    whole = whole;
-    last = last;
-    publishes = p.publishes;
-    ends = subst (λ n. EndsAtLine wishes topic kwargs t (n + 1) rest last now fault) p.counted (subst (λ x. EndsAtLine wishes topic kwargs x (count + 1) rest last now fault) e ends);
-  }
+    whole = inr (refl, inr long);
+    stops = record {
+      number = is ∙ ap (λ n. BadLine (n + 1)) p.counted;
+      bad = inl long;
+      answered = answered;
+      publishes = p.publishes;
+      all = all-counted command.wishes.acknowledge answered count (length p.lines) all p.counted;
+    };
+  })
 
   -- a whole line stays so, whether or not the input is over
   whole-however : (over : Bool) (line behind : List ℕ) → IsWhole false line behind → IsWhole over line behind
@@ -60,51 +117,70 @@ module _ (wishes : PublishWishes) (topic : List ℕ) (kwargs : Option Data) (t :
     )
   ]
 
+  -- and so do first lines
+  first-however : (over : Bool) (input : List ℕ) (lines : List (List ℕ)) → AreFirstLines false input lines → AreFirstLines over input lines
+  first-however over input lines f = elim f [
+    | inl behind ↦ inl behind
+    | inr last ↦ absurd (cc (last.0))
+  ]
+
+  ends-however : (now : Ear) (octets : List ℕ) (over : Bool) (fault : Fault) → EndsInLines command t before now octets false fault → EndsInLines command t before now octets over fault
+  ends-however now octets over fault found = elim found [
+    | inl bad ↦ inl (record {
+      lines = bad.lines;
+      line = bad.line;
+      behind = bad.behind;
+      split = bad.split;
+      clean = bad.clean;
+      whole = whole-however over bad.line bad.behind bad.whole;
+      stops = bad.stops;
+    })
+    | inr answer ↦ inr (record {
+      lines = answer.lines;
+      first = first-however over octets answer.lines answer.first;
+      clean = answer.clean;
+      unanswered = answer.unanswered;
+    })
+  ]
+
   -- a piece more ends it, under terms that stay
-  pub ends-in-piece : (u : Terms) (mid now : Ear) (input piece rest : List ℕ) (count : ℕ) (over : Bool) (fault : Fault) → u ≡ t
-      → ((b : Ear) (xs : List ℕ) → IsPublishedOf wishes topic kwargs u b mid xs rest count → EndsInLines wishes topic kwargs u b now (xs ++ piece) false fault)
-      → IsPublishedOf wishes topic kwargs t before mid input rest count → EndsInLines wishes topic kwargs t before now (input ++ piece) over fault
-  ends-in-piece u mid now input piece rest count over fault e ends p =
-      let found : EndsInLines wishes topic kwargs t before now (input ++ piece) false fault =
-      subst (λ x. EndsInLines wishes topic kwargs x before now (input ++ piece) false fault) e
-      (ends before input (subst (λ x. IsPublishedOf wishes topic kwargs x before mid input rest count) (sym e) p)) in
-      record {
-        lines = found.lines;
-        line = found.line;
-        behind = found.behind;
-        split = found.split;
-        clean = found.clean;
-        whole = whole-however over found.line found.behind found.whole;
-        last = found.last;
-        publishes = found.publishes;
-        ends = found.ends;
-      }
+  pub ends-in-piece : (u : Terms) (mid now : Ear) (input piece rest : List ℕ) (count answered : ℕ) (over : Bool) (fault : Fault) → u ≡ t
+      → ((b : Ear) (xs : List ℕ) → IsPublishedOf command u b mid xs rest count answered → EndsInLines command u b now (xs ++ piece) false fault)
+      → IsPublishedOf command t before mid input rest count answered → EndsInLines command t before now (input ++ piece) over fault
+  ends-in-piece u mid now input piece rest count answered over fault e ends p =
+      ends-however now (input ++ piece) over fault (subst (λ x. EndsInLines command x before now (input ++ piece) false fault) e
+      (ends before input (subst (λ x. IsPublishedOf command x before mid input rest count answered) (sym e) p)))
 
   -- the last line ends it
-  pub ends-in-last : (u : Terms) (mid now : Ear) (input rest : List ℕ) (count : ℕ) (over : Bool) (fault : Fault) → u ≡ t → over ≡ true
-      → ((b : Ear) (xs : List ℕ) → IsPublishedOf wishes topic kwargs u b mid xs rest count → EndsInLines wishes topic kwargs u b now xs true fault)
-      → IsPublishedOf wishes topic kwargs t before mid input rest count → EndsInLines wishes topic kwargs t before now input over fault
-  ends-in-last u mid now input rest count over fault e over_is ends p =
-      subst (λ b. EndsInLines wishes topic kwargs t before now input b fault) (sym over_is)
-      (subst (λ x. EndsInLines wishes topic kwargs x before now input true fault) e
-      (ends before input (subst (λ x. IsPublishedOf wishes topic kwargs x before mid input rest count) (sym e) p)))
+  pub ends-in-last : (u : Terms) (mid now : Ear) (input rest : List ℕ) (count answered : ℕ) (over : Bool) (fault : Fault) → u ≡ t → over ≡ true
+      → ((b : Ear) (xs : List ℕ) → IsPublishedOf command u b mid xs rest count answered → EndsInLines command u b now xs true fault)
+      → IsPublishedOf command t before mid input rest count answered → EndsInLines command t before now input over fault
+  ends-in-last u mid now input rest count answered over fault e over_is ends p =
+      subst (λ b. EndsInLines command t before now input b fault) (sym over_is)
+      (subst (λ x. EndsInLines command x before now input true fault) e
+      (ends before input (subst (λ x. IsPublishedOf command x before mid input rest count answered) (sym e) p)))
 
 -- what follows of a fault from two things that hold of it
 pub both-err : {X : Type 0} (r : Result X Fault) (P Q R : Fault → Type 0) → ((f : Fault) → P f → Q f → R f) → IfErr r P → IfErr r Q → IfErr r R
 both-err (Ok x) P Q R w p q = tt
 both-err (Err f) P Q R w p q = w f p q
 
-module _ (s : Serializer) (realm : List ℕ) (authid : Option (List ℕ)) (wishes : PublishWishes) (topic : List ℕ) (arguments : commands.Arguments) (kwargs : Option Data) (before : Exchange) (session : Welcomed) (given taken given_before given_now : List ℕ) (over : Bool) where
+-- and of what ends well
+pub both-ok : {X : Type 0} (r : Result X Fault) (P Q R : Type 0) → (P → Q → R) → OnOk r P → OnOk r Q → OnOk r R
+both-ok (Ok x) P Q R w p q = w p q
+both-ok (Err f) P Q R w p q = tt
+
+module _ (command : PublishCommand) (before : Exchange) (session : Welcomed) (given taken given_before given_now : List ℕ) (over : Bool) where
   -- while it published
-  pub ends-publishing : (now : Ear) (last : Exchange) (fault : Fault) → Joins s realm authid before (exchange given taken) session
-      → EndsInAll wishes topic kwargs arguments (terms_of session) (standing session given taken) now given_before given_now over fault → Continues (exchange_of now) last
-      → EndsPublishing s realm authid wishes topic arguments kwargs before last given_before given_now over fault
+  pub ends-publishing : (now : Ear) (last : Exchange) (fault : Fault) → Joins command.contact.serializer command.contact.realm command.contact.authid before (exchange given taken) session
+      → EndsInAll command (terms_of session) (standing session given taken) now given_before given_now over fault → Continues (exchange_of now) last
+      → EndsPublishing command before last given_before given_now over fault
   ends-publishing now last fault joins ends since = record { joined = exchange given taken; session = session; joins = joins; now = now; ends = inl (ends, since) }
 
   -- behind GOODBYE
-  pub ends-leaving : (u : Terms) (now : Ear) (last : Exchange) (fault : Fault) → Joins s realm authid before (exchange given taken) session → u ≡ terms_of session
-      → IsOver wishes topic kwargs arguments (terms_of session) (standing session given taken) now given_before given_now over → EndsByMessage u (writing now (saying u.serializer GoodbyeSaid)) last fault
-      → EndsPublishing s realm authid wishes topic arguments kwargs before last given_before given_now over fault
+  pub ends-leaving : (u : Terms) (now : Ear) (last : Exchange) (fault : Fault) → Joins command.contact.serializer command.contact.realm command.contact.authid before (exchange given taken) session → u ≡ terms_of session
+      → IsOver command (terms_of session) (standing session given taken) now given_before given_now over → EndsByMessage u (writing now (saying u.serializer GoodbyeSaid)) last fault
+      → EndsPublishing command before last given_before given_now over fault
   ends-leaving u now last fault joins e out ends = record {
     joined = exchange given taken;
     session = session;

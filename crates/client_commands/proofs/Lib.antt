@@ -5,4 +5,5 @@ pub mod EntriesLemmas
 pub mod FaultLemmas
 pub mod ListeningLemmas
 pub mod NotingLemmas
+pub mod PacingLemmas
 pub mod PublishingLemmas

@@ -5,14 +5,11 @@ use Rattle.std.specs.declared.option.Option.{Option}
 use Rattle.rawsocket.specs.Devices.{GrowsByBeginning, Reading, Writing}
 use Rattle.rawsocket.specs.declared.handshake.Serializer.{Serializer}
 use Rattle.session.specs.Opened.{Exchange, exchange}
-use Rattle.wamp_messages.specs.Arguments.{Arguments}
-use Rattle.client_messages.specs.declared.client_message.ClientMessage.{ClientMessage}
-use Rattle.client_messages.specs.declared.client_message.ClientMessage.TheVariants.{Hello, Goodbye as GoodbyeSaid, Subscribe, Publish}
-use Rattle.client_messages.specs.Wishes.{subscribe_options, publish_options}
+use Rattle.client_messages.specs.declared.client_message.ClientMessage.TheVariants.{Hello, Goodbye as GoodbyeSaid, Subscribe}
+use Rattle.client_messages.specs.Wishes.{subscribe_options}
 use Rattle.client_messages.specs.declared.wishes.SubscribeWishes.{SubscribeWishes}
-use Rattle.client_messages.specs.declared.wishes.PublishWishes.{PublishWishes}
 use Rattle.client_messages.specs.declared.heard.Heard.{Heard}
-use Rattle.client_messages.specs.declared.heard.Heard.TheVariants.{Welcome, Abort, Goodbye, Published, Subscribed, Event}
+use Rattle.client_messages.specs.declared.heard.Heard.TheVariants.{Welcome, Abort, Goodbye, Subscribed, Event}
 use Rattle.client_session.specs.Handshake.{Replies}
 use Rattle.client_session.specs.Hearing.{Ear, HearsNext, Terms, ear, heard_at, terms}
 use Rattle.client_session.specs.Saying.{saying}
@@ -234,15 +231,3 @@ pub record EndsAfterAsking (s : Serializer) (realm : List ℕ) (authid : Option 
   pub asking : Ear
   pub asks : Asks s realm authid wishes topics before asking t
   pub ends : EndsByMessage t asking last fault ⊎ EndsLeaving t asking last fault
-
--- a publication was said, and where an acknowledgement was asked for, it was heard next
-abbrev pub Acknowledges : Bool → Terms → ℕ → Ear → Ear → Type 0
-Acknowledges false t request said now = now ≡ said
-Acknowledges true t request said now = (publication : ℕ) × HearsNext t said now (Ok (Published request publication))
-
-abbrev pub publication : PublishWishes → List ℕ → ℕ → Arguments → ClientMessage
-publication wishes topic request args = Publish request (publish_options wishes) topic args
-
-abbrev pub IsPublished : PublishWishes → List ℕ → Terms → ℕ → Arguments → Ear → Ear → Type 0
-IsPublished wishes topic t request args before now =
-    Acknowledges wishes.acknowledge t request (writing before (saying t.serializer (publication wishes topic request args))) now

@@ -1,5 +1,5 @@
 -- What the faults of a command tell of each device.
-use Rattle.std.specs.Prelude.{◌≡◌, ◌+◌, ◌||◌, ℕ, ⊤, Bool, true, false}
+use Rattle.std.specs.Prelude.{◌≡◌, ◌+◌, ◌||◌, ⊤, Bool, true, false}
 use Rattle.rawsocket.specs.Devices.{Reading, Writing}
 use Rattle.rawsocket.specs.Steps.{Told, Fine, Failed, NoTurn, failures_told}
 use Rattle.client_session.specs.Faults.{read_told, write_told}

@@ -4,4 +4,6 @@ pub mod Faults
 pub mod Notes
 pub mod Acts
 pub mod Lines
+pub mod Pacing
+pub mod Published
 pub mod Ends

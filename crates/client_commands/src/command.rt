@@ -2,6 +2,7 @@
 use client_messages::{PublishWishes, SubscribeWishes};
 use client_session::Serializer;
 use message_tree::{Content, Text};
+use wamp_ids::Policy;
 
 /// Where a broker is, and how it is spoken to.
 #[derive(Drop)]
@@ -16,6 +17,8 @@ pub struct Contact {
     pub realm: Text,
     /// The authid that is asked for, if one is.
     pub authid: Option<Text>,
+    /// How many seconds an answer that is due may take, from 1.
+    pub timeout: u32,
 }
 
 /// What `subscribe` is told.
@@ -30,6 +33,25 @@ pub struct SubscribeCommand {
     /// The topics. The SUBSCRIBE of each has its place as its request's id, from 1.
     pub topics: Vec<Text>,
 }
+
+impl SubscribeCommand {
+    /// What people may have overlooked: a `*` in a topic that is to be matched as it stands.
+    pub fn hint(&self) -> Option<&'static str> {
+        if !matches!(self.wishes.policy, Policy::Exact) {
+            return None;
+        }
+        for topic in &self.topics {
+            if topic.as_str().contains('*') {
+                return Some(STAR);
+            }
+        }
+        None
+    }
+}
+
+/// What is told of a `*`.
+const STAR: &str =
+    "a * in a topic is a letter like others; --match prefix and --match wildcard match many topics";
 
 /// What `publish` is told.
 #[derive(Drop)]

@@ -32,7 +32,8 @@ pub fn event_line(
     details: &EventDetails,
     args: &Args,
 ) -> Result<Vec<u8>, AllocError>
-    ensures line { IfOk result (λ v. v.items ≡ event_line topic.now publication details.now args.now) }
+    ensures line { IfOk result (λ v.
+        v.items ≡ event_line topic.now publication details.now args.now) }
 {
     let dict = event_dict(alloc, topic, publication, details, args)?;
     line_of(alloc, dict)
@@ -113,7 +114,8 @@ fn put_text(
 
 #[tactic(auto, unfolding(crate::specs::EventLine::put_publisher))]
 fn put_publisher(alloc: Global, dict: &mut Dict, details: &EventDetails) -> Result<(), AllocError>
-    ensures set { OnOk result (dict_view dict.new ≡ put_publisher details.now (dict_view dict.old)) }
+    ensures set { OnOk result
+        (dict_view dict.new ≡ put_publisher details.now (dict_view dict.old)) }
     ensures carried { OnOk result (entries_carried (dict_view dict.old) ≡ true
         → entries_carried (dict_view dict.new) ≡ true) }
 {

@@ -80,9 +80,9 @@ pub(crate) fn answer_goodbye<O: Sink>(
     reason: Text,
 ) -> Fault
     ensures answered { result ≡ Fault.Closed reason → Takes (O.seen sink.old) (O.seen sink.new)
-        (saying session.now.line.serializer ClientMessage.Goodbye) }
+        (saying session.now.line.serializer ClientMessage.GoodbyeAndOut) }
     ensures begun { TakesBeginning (O.seen sink.old) (O.seen sink.new)
-        (saying session.now.line.serializer ClientMessage.Goodbye) }
+        (saying session.now.line.serializer ClientMessage.GoodbyeAndOut) }
     ensures closed { is_of_message result ≡ true → result ≡ Fault.Closed reason }
     ensures carried { IsOfNoContents result }
     ensures unended { IsNoEnd result }
@@ -91,7 +91,7 @@ pub(crate) fn answer_goodbye<O: Sink>(
     ensures writes { WriteFailuresTold (O.seen sink.old) (O.seen sink.new)
         (sink_told result) }
 {
-    match say(alloc, session.link(), sink, ClientMessage::Goodbye) {
+    match say(alloc, session.link(), sink, ClientMessage::GoodbyeAndOut) {
         Ok(()) => Fault::Closed(reason),
         Err(fault) => fault,
     }

@@ -15,9 +15,11 @@ mod leaving;
 mod line_input;
 mod message_args;
 mod noting;
+mod pacing;
 mod publishing;
 mod subscribing;
 mod subscriptions;
+mod timing;
 mod value;
 
 pub use client_messages::{PublishWishes, SubscribeWishes};
@@ -27,4 +29,5 @@ pub use event_lines::event_line;
 pub use fault::Fault;
 pub use publishing::publish;
 pub use subscribing::subscribe;
+pub use timing::Timing;
 pub use value::value_of;

@@ -12,7 +12,10 @@ pub(crate) struct Progress {
     pub(crate) rest: Vec<u8>,
     /// How many lines were published.
     pub(crate) count: u64,
+    /// How many of them are acknowledged, where that is asked for.
+    pub(crate) answered: u64,
     ghost few: { count ≤ 9007199254740992 },
+    ghost due: { answered ≤ count },
 }
 
 /// Where the first LF is.

@@ -1,202 +1,52 @@
 //! `publish`.
-ghost use Rattle.std.specs.Prelude.{◌≡◌, ◌≢◌, ◌⊎◌, ◌<◌, ◌++◌, ◌+◌, ℕ, List, [], IfOk, IfErr, OnOk, Some, false, length, true};
+ghost use Rattle.std.specs.Prelude.{◌≡◌, ◌⊎◌, ◌<◌, ◌++◌, ℕ, List, [], IfErr, OnOk, Some, false, length, true};
 ghost use Rattle.rawsocket.specs.Steps.{ReadSteps, failures_told, told_by};
 ghost use Rattle.session.specs.Opened.{exchanged};
-ghost use Rattle.client_messages.specs.declared.heard.Heard.TheVariants.{Published as PublishedHeard};
-ghost use Rattle.client_session.specs.Hearing.{Ear};
-ghost use Rattle.client_commands.specs.Acts.{Acknowledges, IsPublished, IsTurnedAway, publication, standing_of, terms_of};
-ghost use Rattle.client_commands.specs.Ends.{EndsAtLine, EndsInAll, EndsInInput, EndsInLines, EndsInWords, EndsPublishing, HearsAnother, IsUnacknowledged};
-ghost use Rattle.client_commands.specs.Lines.{IsPublishedOf, IsReadToEnd, Publishes, PublishesAll, PublishesInput, PublishesLine};
+ghost use Rattle.client_commands.specs.Acts.{IsTurnedAway, standing_of, terms_of};
+ghost use Rattle.client_commands.specs.Ends.{EndsInAll, EndsInInput, EndsInLines, EndsInWords, EndsPublishing, IsUnacknowledged};
+ghost use Rattle.client_commands.specs.Pacing.{AllAnswered, IsPublished};
+ghost use Rattle.client_commands.specs.Published.{IsPublishedOf, IsReadToEnd, Publishes, PublishesAll, PublishesInput, WherePublished};
 ghost use Rattle.client_commands.specs.Faults.{IsOfBroker, IsOfNoContents, ReadFailuresTold, TellsEnd, WriteFailuresTold, input_told, is_blamed, is_of_message, output_told, sink_told, source_told};
 
 use crate::command::{Arguments, PublishCommand};
 use crate::fault::Fault;
-use crate::hearing::{fault_of, hear, say};
+use crate::hearing::say;
 use crate::joining::join;
 use crate::leaving::{answer_goodbye, leave};
 use crate::line_input::{LONGEST, Progress, line_feed_in};
-use crate::message_args::{args_of, args_of_line};
-use client_session::{Args, ClientMessage, ClientSession, Heard};
+use crate::message_args::args_of;
+use crate::pacing::{hear_answer, hear_answers, publication, publish_line};
+use crate::timing::Timing;
+use client_session::{Args, ClientSession};
 use message_tree::Content;
 use rawsocket::devices::{NoOctets, PIECE, Sink, Source, Turns, read_piece};
-use std::alloc::{AllocError, Global};
+use std::alloc::Global;
 use wamp_ids::Id;
 
-/// Hears that a request is published.
-fn await_published<I: Source, O: Sink>(
-    alloc: Global,
-    session: &mut ClientSession,
-    source: &mut I,
-    sink: &mut O,
-    request: Id,
-) -> Result<(), Fault>
-    ensures published { OnOk result (Acknowledges true (terms_of session.old) request
-        (standing_of session.old (I.seen source.old) (O.seen sink.old))
-        (standing_of session.new (I.seen source.new) (O.seen sink.new))) }
-    ensures another { IfErr result (λ fault. is_of_message fault ≡ true → HearsAnother
-        (terms_of session.old) request
-        (standing_of session.old (I.seen source.old) (O.seen sink.old))
-        (standing_of session.new (I.seen source.new) (O.seen sink.new)) fault) }
-    ensures carried { IfErr result IsOfNoContents }
-    ensures gone { IfErr result (TellsEnd (I.seen source.new).is_ended) }
-    ensures terms { terms_of session.new ≡ terms_of session.old }
-    ensures aside { IfErr result IsOfBroker }
-    ensures reads { ReadFailuresTold (I.seen source.old) (I.seen source.new)
-        (told_by source_told result) }
-    ensures writes { WriteFailuresTold (O.seen sink.old) (O.seen sink.new)
-        (told_by sink_told result) }
-{
-    let heard = match hear(alloc, session, source, sink) {
-        Ok(heard) => heard,
-        Err(fault) => return Err(fault),
-    };
-    if is_published(&heard, request) {
-        return Ok(());
-    }
-    Err(fault_of(heard))
-}
-
-/// Whether this is the PUBLISHED of a request.
-fn is_published(heard: &Heard, asked: Id) -> bool
-    ensures published { result ≡ true → (publication : ℕ) × (heard.now ≡ PublishedHeard asked publication) }
-    ensures other { result ≡ false → (publication : ℕ) → heard.now ≢ PublishedHeard asked publication }
-{
-    match heard {
-        Heard::Published { request, .. } => request.value() == asked.value(),
-        _ => false,
-    }
-}
-
-/// The PUBLISH of arguments.
-fn publication(
-    alloc: Global,
-    command: &PublishCommand,
-    request: Id,
-    args: Args,
-) -> Result<ClientMessage, AllocError>
-    ensures { IfOk result (λ said. said
-        ≡ publication command.now.wishes command.now.topic request args) }
-{
-    let options = command.wishes.options(alloc)?;
-    let topic = command.topic.try_copy(alloc)?;
-    Ok(ClientMessage::Publish {
-        request,
-        options,
-        topic,
-        args,
-    })
-}
-
-/// Publishes arguments as this request, and waits for PUBLISHED where that is wished.
-fn publish_as<I: Source, O: Sink>(
-    alloc: Global,
-    command: &PublishCommand,
-    session: &mut ClientSession,
-    source: &mut I,
-    sink: &mut O,
-    request: Id,
-    args: Args,
-) -> Result<(), Fault>
-    ensures published { OnOk result (IsPublished command.now.wishes command.now.topic
-        (terms_of session.old) request args
-        (standing_of session.old (I.seen source.old) (O.seen sink.old))
-        (standing_of session.new (I.seen source.new) (O.seen sink.new))) }
-    ensures unacknowledged { IfErr result (λ fault. is_of_message fault ≡ true → IsUnacknowledged
-        command.now.wishes command.now.topic (terms_of session.old) request args
-        (standing_of session.old (I.seen source.old) (O.seen sink.old))
-        (standing_of session.new (I.seen source.new) (O.seen sink.new)) fault) }
-    ensures carried { IfErr result IsOfNoContents }
-    ensures gone { IfErr result (TellsEnd (I.seen source.new).is_ended) }
-    ensures terms { terms_of session.new ≡ terms_of session.old }
-    ensures aside { IfErr result IsOfBroker }
-    ensures reads { ReadFailuresTold (I.seen source.old) (I.seen source.new)
-        (told_by source_told result) }
-    ensures writes { WriteFailuresTold (O.seen sink.old) (O.seen sink.new)
-        (told_by sink_told result) }
-{
-    let Ok(said) = publication(alloc, command, request, args) else {
-        return Err(Fault::NoMemory);
-    };
-    if let Err(fault) = say(alloc, session.link(), sink, said) {
-        return Err(fault);
-    }
-    if command.wishes.acknowledge {
-        return await_published(alloc, session, source, sink, request);
-    }
-    Ok(())
-}
-
-/// Publishes the line that stands in `rest`.
-fn publish_line<I: Source, O: Sink>(
+/// Publishes each line that these octets end, hears what is due, and keeps the octets behind the last LF.
+fn publish_piece<I: Source, O: Sink, T: Timing>(
     alloc: Global,
     command: &PublishCommand,
     session: &mut ClientSession,
     source: &mut I,
     sink: &mut O,
     progress: &mut Progress,
-) -> Result<(), Fault>
-    ensures published { OnOk result (PublishesLine command.now.wishes command.now.topic
-        command.now.kwargs (terms_of session.old) (progress.old.count + 1) progress.old.rest.items
-        (standing_of session.old (I.seen source.old) (O.seen sink.old))
-        (standing_of session.new (I.seen source.new) (O.seen sink.new))) }
-    ensures rest { OnOk result (progress.new.rest.items ≡ []) }
-    ensures count { OnOk result (progress.new.count ≡ progress.old.count + 1) }
-    ensures ends { IfErr result (λ fault. is_blamed fault ≡ true → EndsAtLine command.now.wishes
-        command.now.topic command.now.kwargs (terms_of session.old) (progress.old.count + 1)
-        progress.old.rest.items
-        (standing_of session.old (I.seen source.old) (O.seen sink.old))
-        (standing_of session.new (I.seen source.new) (O.seen sink.new)) fault) }
-    ensures gone { IfErr result (TellsEnd (I.seen source.new).is_ended) }
-    ensures terms { terms_of session.new ≡ terms_of session.old }
-    ensures aside { IfErr result IsOfBroker }
-    ensures reads { ReadFailuresTold (I.seen source.old) (I.seen source.new)
-        (told_by source_told result) }
-    ensures writes { WriteFailuresTold (O.seen sink.old) (O.seen sink.new)
-        (told_by sink_told result) }
-{
-    let number = progress.count + 1;
-    if progress.rest.len() > LONGEST {
-        return Err(Fault::BadLine(number));
-    }
-    let Ok(request) = Id::new(number) else {
-        return Err(Fault::BadLine(number));
-    };
-    let args = match args_of_line(alloc, &progress.rest, number, &command.kwargs) {
-        Ok(args) => args,
-        Err(fault) => return Err(fault),
-    };
-    if let Err(fault) = publish_as(alloc, command, session, source, sink, request, args) {
-        return Err(fault);
-    }
-    progress.rest.clear();
-    progress.count = number;
-    Ok(())
-}
-
-/// Publishes each line that these octets end, and keeps those behind the last LF.
-fn publish_piece<I: Source, O: Sink>(
-    alloc: Global,
-    command: &PublishCommand,
-    session: &mut ClientSession,
-    source: &mut I,
-    sink: &mut O,
-    progress: &mut Progress,
+    timing: &mut T,
     piece: &[u8],
 ) -> Result<(), Fault>
-    ensures published { OnOk result ((before : Ear) (input : List ℕ) → IsPublishedOf
-        command.now.wishes command.now.topic command.now.kwargs (terms_of session.old) before
-        (standing_of session.old (I.seen source.old) (O.seen sink.old)) input
-        progress.old.rest.items progress.old.count → IsPublishedOf command.now.wishes
-        command.now.topic command.now.kwargs (terms_of session.old) before
+    ensures published { OnOk result (WherePublished command.now (terms_of session.old)
+        (standing_of session.old (I.seen source.old) (O.seen sink.old)) progress.old
+        (λ before input. IsPublishedOf command.now (terms_of session.old) before
         (standing_of session.new (I.seen source.new) (O.seen sink.new))
-        (input ++ piece.now) progress.new.rest.items progress.new.count) }
-    ensures ends { IfErr result (λ fault. is_blamed fault ≡ true → (before : Ear) (input : List ℕ) →
-        IsPublishedOf command.now.wishes command.now.topic command.now.kwargs (terms_of session.old)
-        before (standing_of session.old (I.seen source.old) (O.seen sink.old)) input
-        progress.old.rest.items progress.old.count → EndsInLines command.now.wishes
-        command.now.topic command.now.kwargs (terms_of session.old) before
+        (input ++ piece.now) progress.new.rest.items progress.new.count progress.new.answered)) }
+    ensures all { OnOk result (AllAnswered command.now.wishes.acknowledge progress.new.count
+        progress.new.answered) }
+    ensures ends { IfErr result (λ fault. is_blamed fault ≡ true →
+        WherePublished command.now (terms_of session.old)
+        (standing_of session.old (I.seen source.old) (O.seen sink.old)) progress.old
+        (λ before input. EndsInLines command.now (terms_of session.old) before
         (standing_of session.new (I.seen source.new) (O.seen sink.new))
-        (input ++ piece.now) false fault) }
+        (input ++ piece.now) false fault)) }
     ensures gone { IfErr result (TellsEnd (I.seen source.new).is_ended) }
     ensures terms { terms_of session.new ≡ terms_of session.old }
     ensures aside { IfErr result IsOfBroker }
@@ -210,10 +60,13 @@ fn publish_piece<I: Source, O: Sink>(
         let Ok(()) = progress.rest.extend_from_slice(&left[..at]) else {
             return Err(Fault::NoMemory);
         };
-        if let Err(fault) = publish_line(alloc, command, session, source, sink, progress) {
+        if let Err(fault) = publish_line(alloc, command, session, source, sink, progress, timing) {
             return Err(fault);
         }
         left = &left[at + 1..];
+    }
+    if let Err(fault) = hear_answers(alloc, command, session, source, sink, progress, timing, 0) {
+        return Err(fault);
     }
     let Ok(()) = progress.rest.extend_from_slice(left) else {
         return Err(Fault::NoMemory);
@@ -224,29 +77,30 @@ fn publish_piece<I: Source, O: Sink>(
     Ok(())
 }
 
-/// Publishes what stands in `rest` as the last line, if it is one: the input ended.
-fn publish_last<I: Source, O: Sink>(
+/// Publishes what stands in `rest` as the last line, if it is one: the input ended. It hears what is due.
+fn publish_last<I: Source, O: Sink, T: Timing>(
     alloc: Global,
     command: &PublishCommand,
     session: &mut ClientSession,
     source: &mut I,
     sink: &mut O,
     progress: &mut Progress,
+    timing: &mut T,
 ) -> Result<(), Fault>
-    ensures published { OnOk result ((before : Ear) (input given_before given : List ℕ) → given ≡
-        given_before ++ input → IsPublishedOf command.now.wishes command.now.topic
-        command.now.kwargs (terms_of session.old) before
-        (standing_of session.old (I.seen source.old) (O.seen sink.old)) input
-        progress.old.rest.items progress.old.count → PublishesInput command.now.wishes
-        command.now.topic command.now.kwargs (terms_of session.old) before
+    requires all { AllAnswered command.now.wishes.acknowledge progress.old.count
+        progress.old.answered }
+    ensures published { OnOk result ((given_before given : List ℕ) →
+        WherePublished command.now (terms_of session.old)
+        (standing_of session.old (I.seen source.old) (O.seen sink.old)) progress.old
+        (λ before input. given ≡ given_before ++ input → PublishesInput command.now
+        (terms_of session.old) before
         (standing_of session.new (I.seen source.new) (O.seen sink.new)) given_before
-        given) }
-    ensures ends { IfErr result (λ fault. is_blamed fault ≡ true → (before : Ear) (input : List ℕ) →
-        IsPublishedOf command.now.wishes command.now.topic command.now.kwargs (terms_of session.old)
-        before (standing_of session.old (I.seen source.old) (O.seen sink.old)) input
-        progress.old.rest.items progress.old.count → EndsInLines command.now.wishes
-        command.now.topic command.now.kwargs (terms_of session.old) before
-        (standing_of session.new (I.seen source.new) (O.seen sink.new)) input true fault) }
+        given)) }
+    ensures ends { IfErr result (λ fault. is_blamed fault ≡ true →
+        WherePublished command.now (terms_of session.old)
+        (standing_of session.old (I.seen source.old) (O.seen sink.old)) progress.old
+        (λ before input. EndsInLines command.now (terms_of session.old) before
+        (standing_of session.new (I.seen source.new) (O.seen sink.new)) input true fault)) }
     ensures gone { IfErr result (TellsEnd (I.seen source.new).is_ended) }
     ensures terms { terms_of session.new ≡ terms_of session.old }
     ensures aside { IfErr result IsOfBroker }
@@ -258,11 +112,14 @@ fn publish_last<I: Source, O: Sink>(
     if progress.rest.is_empty() {
         return Ok(());
     }
-    publish_line(alloc, command, session, source, sink, progress)
+    if let Err(fault) = publish_line(alloc, command, session, source, sink, progress, timing) {
+        return Err(fault);
+    }
+    hear_answers(alloc, command, session, source, sink, progress, timing, 0)
 }
 
 /// Publishes each line of an input, which is read in pieces of the buffer; the last line may have no LF.
-fn publish_pieces<I: Source, O: Sink, J: Source>(
+fn publish_pieces<I: Source, O: Sink, J: Source, T: Timing>(
     alloc: Global,
     command: &PublishCommand,
     session: &mut ClientSession,
@@ -270,19 +127,20 @@ fn publish_pieces<I: Source, O: Sink, J: Source>(
     sink: &mut O,
     input: &mut J,
     progress: &mut Progress,
+    timing: &mut T,
     buffer: &mut [u8],
 ) -> Result<(), Fault>
     requires fresh { progress.old.rest.items ≡ [] }
     requires none { progress.old.count ≡ 0 }
+    requires unasked { progress.old.answered ≡ 0 }
     requires wide { 0 < length buffer.old }
-    ensures published { OnOk result (PublishesInput command.now.wishes command.now.topic
-        command.now.kwargs (terms_of session.old)
+    ensures published { OnOk result (PublishesInput command.now (terms_of session.old)
         (standing_of session.old (I.seen source.old) (O.seen sink.old))
         (standing_of session.new (I.seen source.new) (O.seen sink.new))
         (J.seen input.old).given (J.seen input.new).given) }
     ensures ended { OnOk result ((J.seen input.new).is_ended ≡ true) }
-    ensures ends { IfErr result (λ fault. is_blamed fault ≡ true → EndsInInput command.now.wishes
-        command.now.topic command.now.kwargs (terms_of session.old)
+    ensures ends { IfErr result (λ fault. is_blamed fault ≡ true → EndsInInput command.now
+        (terms_of session.old)
         (standing_of session.old (I.seen source.old) (O.seen sink.old))
         (standing_of session.new (I.seen source.new) (O.seen sink.new))
         (J.seen input.old).given (J.seen input.new).given (J.seen input.new).is_ended fault) }
@@ -300,7 +158,9 @@ fn publish_pieces<I: Source, O: Sink, J: Source>(
         let count = match read_piece(input, buffer, &mut turns) {
             Ok(count) => count,
             Err(NoOctets::Ended) => {
-                if let Err(fault) = publish_last(alloc, command, session, source, sink, progress) {
+                if let Err(fault) = publish_last(
+                    alloc, command, session, source, sink, progress, timing,
+                ) {
                     return Err(fault);
                 }
                 return Ok(());
@@ -309,7 +169,9 @@ fn publish_pieces<I: Source, O: Sink, J: Source>(
             Err(NoOctets::TooManyTurns) => return Err(Fault::TooManyTurns),
         };
         let piece = &buffer[..count];
-        if let Err(fault) = publish_piece(alloc, command, session, source, sink, progress, piece) {
+        if let Err(fault) = publish_piece(
+            alloc, command, session, source, sink, progress, timing, piece,
+        ) {
             return Err(fault);
         }
     }
@@ -317,22 +179,22 @@ fn publish_pieces<I: Source, O: Sink, J: Source>(
 
 /// Publishes each line of an input. It is apart from `publish_pieces`, which is lent what is owned here: what is owned at each way out
 /// is what a check costs.
-fn publish_lines<I: Source, O: Sink, J: Source>(
+fn publish_lines<I: Source, O: Sink, J: Source, T: Timing>(
     alloc: Global,
     command: &PublishCommand,
     session: &mut ClientSession,
     source: &mut I,
     sink: &mut O,
     input: &mut J,
+    timing: &mut T,
 ) -> Result<(), Fault>
-    ensures published { OnOk result (PublishesInput command.now.wishes command.now.topic
-        command.now.kwargs (terms_of session.old)
+    ensures published { OnOk result (PublishesInput command.now (terms_of session.old)
         (standing_of session.old (I.seen source.old) (O.seen sink.old))
         (standing_of session.new (I.seen source.new) (O.seen sink.new))
         (J.seen input.old).given (J.seen input.new).given) }
     ensures ended { OnOk result ((J.seen input.new).is_ended ≡ true) }
-    ensures ends { IfErr result (λ fault. is_blamed fault ≡ true → EndsInInput command.now.wishes
-        command.now.topic command.now.kwargs (terms_of session.old)
+    ensures ends { IfErr result (λ fault. is_blamed fault ≡ true → EndsInInput command.now
+        (terms_of session.old)
         (standing_of session.old (I.seen source.old) (O.seen sink.old))
         (standing_of session.new (I.seen source.new) (O.seen sink.new))
         (J.seen input.old).given (J.seen input.new).given (J.seen input.new).is_ended fault) }
@@ -351,6 +213,7 @@ fn publish_lines<I: Source, O: Sink, J: Source>(
     let mut progress = Progress {
         rest: Vec::new(alloc),
         count: 0,
+        answered: 0,
     };
     publish_pieces(
         alloc,
@@ -360,8 +223,47 @@ fn publish_lines<I: Source, O: Sink, J: Source>(
         sink,
         input,
         &mut progress,
+        timing,
         &mut buffer,
     )
+}
+
+/// Publishes arguments as this request, and waits for PUBLISHED where that is wished.
+fn publish_as<I: Source, O: Sink>(
+    alloc: Global,
+    command: &PublishCommand,
+    session: &mut ClientSession,
+    source: &mut I,
+    sink: &mut O,
+    request: Id,
+    args: Args,
+) -> Result<(), Fault>
+    ensures published { OnOk result (IsPublished command.now (terms_of session.old) request args
+        (standing_of session.old (I.seen source.old) (O.seen sink.old))
+        (standing_of session.new (I.seen source.new) (O.seen sink.new))) }
+    ensures unacknowledged { IfErr result (λ fault. is_of_message fault ≡ true →
+        IsUnacknowledged command.now (terms_of session.old) request args
+        (standing_of session.old (I.seen source.old) (O.seen sink.old))
+        (standing_of session.new (I.seen source.new) (O.seen sink.new)) fault) }
+    ensures carried { IfErr result IsOfNoContents }
+    ensures gone { IfErr result (TellsEnd (I.seen source.new).is_ended) }
+    ensures terms { terms_of session.new ≡ terms_of session.old }
+    ensures aside { IfErr result IsOfBroker }
+    ensures reads { ReadFailuresTold (I.seen source.old) (I.seen source.new)
+        (told_by source_told result) }
+    ensures writes { WriteFailuresTold (O.seen sink.old) (O.seen sink.new)
+        (told_by sink_told result) }
+{
+    let Ok(said) = publication(alloc, command, request, args) else {
+        return Err(Fault::NoMemory);
+    };
+    if let Err(fault) = say(alloc, session.link(), sink, said) {
+        return Err(fault);
+    }
+    if command.wishes.acknowledge {
+        return hear_answer(alloc, session, source, sink, request.value());
+    }
+    Ok(())
 }
 
 /// Publishes words as the first request.
@@ -373,12 +275,12 @@ fn publish_words<I: Source, O: Sink>(
     sink: &mut O,
     words: &Content,
 ) -> Result<(), Fault>
-    ensures published { OnOk result (IsPublished command.now.wishes command.now.topic
-        (terms_of session.old) 1 (record { args = Some words.now; kwargs = command.now.kwargs })
+    ensures published { OnOk result (IsPublished command.now (terms_of session.old) 1
+        (record { args = Some words.now; kwargs = command.now.kwargs })
         (standing_of session.old (I.seen source.old) (O.seen sink.old))
         (standing_of session.new (I.seen source.new) (O.seen sink.new))) }
-    ensures ends { IfErr result (λ fault. is_blamed fault ≡ true → EndsInWords command.now.wishes
-        command.now.topic command.now.kwargs (terms_of session.old) words.now
+    ensures ends { IfErr result (λ fault. is_blamed fault ≡ true →
+        EndsInWords command.now (terms_of session.old) words.now
         (standing_of session.old (I.seen source.old) (O.seen sink.old))
         (standing_of session.new (I.seen source.new) (O.seen sink.new)) fault) }
     ensures gone { IfErr result (TellsEnd (I.seen source.new).is_ended) }
@@ -403,22 +305,22 @@ fn publish_words<I: Source, O: Sink>(
 }
 
 /// Publishes what a command is told: its words once, or each line of the input.
-fn publish_all<I: Source, O: Sink, J: Source>(
+fn publish_all<I: Source, O: Sink, J: Source, T: Timing>(
     alloc: Global,
     command: &PublishCommand,
     session: &mut ClientSession,
     source: &mut I,
     sink: &mut O,
     input: &mut J,
+    timing: &mut T,
 ) -> Result<(), Fault>
-    ensures published { OnOk result (PublishesAll command.now.wishes command.now.topic
-        command.now.kwargs command.now.arguments (terms_of session.old)
+    ensures published { OnOk result (PublishesAll command.now (terms_of session.old)
         (standing_of session.old (I.seen source.old) (O.seen sink.old))
         (standing_of session.new (I.seen source.new) (O.seen sink.new))
         (J.seen input.old).given (J.seen input.new).given) }
     ensures ended { OnOk result (IsReadToEnd command.now.arguments (J.seen input.new).is_ended) }
-    ensures ends { IfErr result (λ fault. is_blamed fault ≡ true → EndsInAll command.now.wishes
-        command.now.topic command.now.kwargs command.now.arguments (terms_of session.old)
+    ensures ends { IfErr result (λ fault. is_blamed fault ≡ true →
+        EndsInAll command.now (terms_of session.old)
         (standing_of session.old (I.seen source.old) (O.seen sink.old))
         (standing_of session.new (I.seen source.new) (O.seen sink.new))
         (J.seen input.old).given (J.seen input.new).given (J.seen input.new).is_ended fault) }
@@ -433,40 +335,39 @@ fn publish_all<I: Source, O: Sink, J: Source>(
 {
     match &command.arguments {
         Arguments::Words(words) => publish_words(alloc, command, session, source, sink, words),
-        Arguments::Lines => publish_lines(alloc, command, session, source, sink, input),
+        Arguments::Lines => publish_lines(alloc, command, session, source, sink, input, timing),
     }
 }
 
 /// Joins the realm, publishes, and leaves.
 ///
 /// Words are published once. Of lines each is published as it comes, as requests 1, 2, ..; the input isn't read for words.
-/// Where an acknowledgement is wished, each publication waits for the one before; without it nothing is read from the broker
-/// before the end. A broker answers GOODBYE behind all that was published, so where this ends well it has taken all.
+/// Where acknowledgements are asked for, at most 16 publications are unanswered at any time, and none before more of the input is
+/// read, nor behind the last one; they are to come in the order of the publications. Behind so many `timing` rests. Without them
+/// nothing is read from the broker before the end. A broker answers GOODBYE behind all that was published, so where this ends well it has taken all.
 ///
 /// # Errors
 /// [`Fault::Refused`] where the broker refuses the session or a publication, [`Fault::Closed`] where it closes the session,
 /// [`Fault::Unexpected`], [`Fault::ForeignEvent`], [`Fault::Connection`]; [`Fault::Usage`] and [`Fault::BadLine`] for what no
 /// message carries; [`Fault::ReadFault`] and [`Fault::TooManyTurns`] of the input; [`Fault::NoMemory`]. What was published before
 /// stays published. The streams are to be closed.
-pub fn publish<I: Source, O: Sink, J: Source>(
+pub fn publish<I: Source, O: Sink, J: Source, T: Timing>(
     alloc: Global,
     command: &PublishCommand,
     source: &mut I,
     sink: &mut O,
     input: &mut J,
+    timing: &mut T,
 ) -> Result<(), Fault>
-    ensures publishes { OnOk result (Publishes command.now.contact.serializer
-        command.now.contact.realm command.now.contact.authid command.now.wishes command.now.topic
-        command.now.arguments command.now.kwargs (exchanged (I.seen source.old) (O.seen sink.old))
+    ensures publishes { OnOk result (Publishes command.now
+        (exchanged (I.seen source.old) (O.seen sink.old))
         (exchanged (I.seen source.new) (O.seen sink.new)) (J.seen input.old).given
         (J.seen input.new).given) }
     ensures ended { OnOk result (IsReadToEnd command.now.arguments (J.seen input.new).is_ended) }
     ensures cause { IfErr result (λ fault. is_blamed fault ≡ true → IsTurnedAway
         command.now.contact.serializer command.now.contact.realm command.now.contact.authid
         (exchanged (I.seen source.old) (O.seen sink.old))
-        (exchanged (I.seen source.new) (O.seen sink.new)) fault ⊎ EndsPublishing
-        command.now.contact.serializer command.now.contact.realm command.now.contact.authid
-        command.now.wishes command.now.topic command.now.arguments command.now.kwargs
+        (exchanged (I.seen source.new) (O.seen sink.new)) fault ⊎ EndsPublishing command.now
         (exchanged (I.seen source.old) (O.seen sink.old))
         (exchanged (I.seen source.new) (O.seen sink.new)) (J.seen input.old).given
         (J.seen input.new).given (J.seen input.new).is_ended fault) }
@@ -482,7 +383,7 @@ pub fn publish<I: Source, O: Sink, J: Source>(
         Ok(session) => session,
         Err(fault) => return Err(fault),
     };
-    match publish_all(alloc, command, &mut session, source, sink, input) {
+    match publish_all(alloc, command, &mut session, source, sink, input, timing) {
         Ok(()) => leave(alloc, &mut session, source, sink),
         Err(Fault::BadLine(line)) => match leave(alloc, &mut session, source, sink) {
             Ok(()) => Err(Fault::BadLine(line)),

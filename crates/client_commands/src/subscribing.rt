@@ -18,6 +18,7 @@ use crate::joining::join;
 use crate::leaving::{answer_goodbye, leave};
 use crate::noting::{note_of, tell};
 use crate::subscriptions::{Granted, grant, topic_told};
+use crate::timing::Timing;
 use client_messages::SubscribeWishes;
 use client_session::{ClientMessage, ClientSession, Heard, Link};
 use message_tree::Text;
@@ -32,7 +33,8 @@ fn request_for(
     request: Id,
     topic: &Text,
 ) -> Result<ClientMessage, AllocError>
-    ensures { IfOk result (λ said. said ≡ SubscribeSaid request (subscribe_options wishes) topic.now) }
+    ensures { IfOk result (λ said.
+        said ≡ SubscribeSaid request (subscribe_options wishes) topic.now) }
 {
     let options = wishes.options(alloc)?;
     let topic = topic.try_copy(alloc)?;
@@ -273,6 +275,8 @@ fn is_reached(count: Option<u64>, printed: u64) -> bool
 /// All SUBSCRIBEs are said before the first answer is heard, and events may come before the last one is answered. The topic of a line is the
 /// one that the event names, else the one that was subscribed to.
 ///
+/// It tells `timing` that what comes while it listens may take for ever, and that the answer to its GOODBYE is due.
+///
 /// To `notes` it tells each topic as the broker gives its subscription: `subscribed to TOPIC`. Where a note fails that is passed over.
 ///
 /// # Errors
@@ -280,13 +284,14 @@ fn is_reached(count: Option<u64>, printed: u64) -> bool
 /// [`Fault::Unexpected`], [`Fault::ForeignEvent`], [`Fault::Connection`]; [`Fault::WriteFault`] and [`Fault::TooManyTurns`] of the
 /// output; [`Fault::Usage`] where there are more than 2^53 topics; [`Fault::NoMemory`]. What was printed stays. The streams are to
 /// be closed.
-pub fn subscribe<I: Source, O: Sink, P: Sink, N: Sink>(
+pub fn subscribe<I: Source, O: Sink, P: Sink, N: Sink, T: Timing>(
     alloc: Global,
     command: &SubscribeCommand,
     source: &mut I,
     sink: &mut O,
     output: &mut P,
     notes: &mut N,
+    timing: &mut T,
 ) -> Result<(), Fault>
     ensures subscribes { OnOk result (Subscribes command.now.contact.serializer
         command.now.contact.realm command.now.contact.authid command.now.wishes
@@ -324,8 +329,12 @@ pub fn subscribe<I: Source, O: Sink, P: Sink, N: Sink>(
     if let Err(fault) = ask(alloc, command, session.link(), sink) {
         return Err(fault);
     }
+    timing.expects(false);
     match follow(alloc, command, &mut session, source, sink, output, notes) {
-        Ok(()) => leave(alloc, &mut session, source, sink),
+        Ok(()) => {
+            timing.expects(true);
+            leave(alloc, &mut session, source, sink)
+        }
         Err(Fault::Closed(reason)) => Err(answer_goodbye(alloc, &session, sink, reason)),
         Err(fault) => Err(fault),
     }

@@ -8,7 +8,7 @@ use Rattle.session.specs.ToClient.{number, triple}
 use Rattle.wamp_messages.specs.declared.said.Said as brokers
 use Rattle.wamp_messages.specs.declared.said.Said.TheVariants as read
 use Rattle.client_messages.specs.declared.client_message.ClientMessage.{ClientMessage}
-use Rattle.client_messages.specs.declared.client_message.ClientMessage.TheVariants.{Hello, Abort, Goodbye, Publish, Subscribe, Unsubscribe}
+use Rattle.client_messages.specs.declared.client_message.ClientMessage.TheVariants.{Hello, Abort, Goodbye, GoodbyeAndOut, Publish, Subscribe, Unsubscribe}
 
 abbrev pub roles : Entries
 roles = put (codes "publisher") (dict no_entries) (put (codes "subscriber") (dict no_entries) no_entries)
@@ -46,6 +46,7 @@ abbrev pub message_for : ClientMessage → Data
 message_for (Hello realm authid) = hello realm authid
 message_for Abort = ending 3 (codes "wamp.error.protocol_violation")
 message_for Goodbye = ending 6 (codes "wamp.close.close_realm")
+message_for GoodbyeAndOut = ending 6 (codes "wamp.close.goodbye_and_out")
 message_for (Publish request options topic args) = publish request options topic args
 message_for (Subscribe request options topic) = subscribe request options topic
 message_for (Unsubscribe request subscription) = triple 34 request subscription
@@ -61,6 +62,7 @@ abbrev pub read_as : ClientMessage → brokers.Said
 read_as (Hello realm authid) = read.Hello realm authid
 read_as Abort = read.Abort
 read_as Goodbye = read.Goodbye
+read_as GoodbyeAndOut = read.Goodbye
 read_as (Publish request options topic args) =
     read.Publish (record { request = request; options = publish_options_of options; topic = topic; args = args })
 read_as (Subscribe request options topic) = read.Subscribe request (subscribe_options_of options) topic

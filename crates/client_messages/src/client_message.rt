@@ -17,6 +17,8 @@ pub enum ClientMessage {
     Abort,
     /// GOODBYE: it closes the session.
     Goodbye,
+    /// GOODBYE, as the answer to the one of a broker that closes the session.
+    GoodbyeAndOut,
     /// PUBLISH.
     Publish {
         /// The request's id.

@@ -8,30 +8,25 @@ ghost use Rattle.client_messages.specs.FromBroker.{request_of, request_by};
 
 use crate::fault::Fault;
 use message_tree::{Options, Text, Tree};
-use session::Request;
-use std::collections::VecDeque;
+use session::{Request, TreeElements};
 use std::marker::Model;
 use wamp_ids::Id;
 
 /// The elements of a message that aren't read yet.
 #[derive(Drop)]
 pub(crate) struct UnreadElements {
-    rest: VecDeque<Tree>,
+    rest: TreeElements,
 }
 
 impl Model for UnreadElements {
-    ghost use Rattle.std.specs.Prelude.{◌≤◌};
-    ghost use Rattle.message_tree.specs.Data.{Items, items_depth};
+    ghost use Rattle.message_tree.specs.Data.{Items};
     ghost use Rattle.message_tree.specs.Code.{items_code};
-    ghost use Rattle.message_tree.specs.View.{items_view};
 
     ghost Value = { Items };
 
     ghost coded = { items_code };
 
-    ghost view = { λ e. items_view e.rest.items };
-
-    ghost invariant = { λ e. items_depth (items_view e.rest.items) ≤ 99 };
+    ghost view = { λ e. e.rest };
 }
 
 impl UnreadElements {
@@ -41,7 +36,7 @@ impl UnreadElements {
         ensures { result ≡ items_view trees.items }
     {
         UnreadElements {
-            rest: VecDeque::from_vec(trees),
+            rest: TreeElements::of(trees),
         }
     }
 
@@ -51,7 +46,7 @@ impl UnreadElements {
             (λ t. self.old ≡ item (view t) self.new) }
         ensures bounded { IfSome result (λ t. depth (view t) ≤ 99) }
     {
-        self.rest.pop_front()
+        self.rest.next()
     }
 
     /// The next element, a text.
@@ -60,10 +55,7 @@ impl UnreadElements {
         ensures err { OnErr result (first text_of self.old ≡ None) }
         ensures fault { IfErr result (λ fault. fault ≡ Fault.NoBrokerMessage) }
     {
-        match self.next() {
-            Some(Tree::Text(text)) => Ok(Text::from_string(text)),
-            _ => Err(Fault::NoBrokerMessage),
-        }
+        self.rest.next_text().ok_or(Fault::NoBrokerMessage)
     }
 
     /// The next element, a dictionary.
@@ -72,10 +64,7 @@ impl UnreadElements {
         ensures err { OnErr result (first dict_of self.old ≡ None) }
         ensures fault { IfErr result (λ fault. fault ≡ Fault.NoBrokerMessage) }
     {
-        match self.next() {
-            Some(Tree::Dict(dict)) => Ok(Options::of(dict)),
-            _ => Err(Fault::NoBrokerMessage),
-        }
+        self.rest.next_dict().ok_or(Fault::NoBrokerMessage)
     }
 
     /// The next element, a whole number that a serialization carries.
@@ -84,14 +73,7 @@ impl UnreadElements {
         ensures err { OnErr result (first number_of self.old ≡ None) }
         ensures fault { IfErr result (λ fault. fault ≡ Fault.NoBrokerMessage) }
     {
-        let Some(tree) = self.next() else {
-            return Err(Fault::NoBrokerMessage);
-        };
-        let is_carried = tree.is_carried();
-        match tree {
-            Tree::Whole(number) if is_carried => Ok(number),
-            _ => Err(Fault::NoBrokerMessage),
-        }
+        self.rest.next_number().ok_or(Fault::NoBrokerMessage)
     }
 
     /// The next element, the type of a request.
@@ -109,10 +91,7 @@ impl UnreadElements {
         ensures err { OnErr result (first id_of self.old ≡ None) }
         ensures fault { IfErr result (λ fault. fault ≡ Fault.NoBrokerMessage) }
     {
-        match self.next() {
-            Some(Tree::Whole(number)) => id_among(number),
-            _ => Err(Fault::NoBrokerMessage),
-        }
+        self.rest.next_id().ok_or(Fault::NoBrokerMessage)
     }
 
     /// That nothing is left.
@@ -134,13 +113,7 @@ pub(crate) fn id_among(number: i128) -> Result<Id, Fault>
     ensures err { OnErr result (id_among number ≡ None) }
     ensures fault { IfErr result (λ fault. fault ≡ Fault.NoBrokerMessage) }
 {
-    if number < 0 || number > u64::MAX as i128 {
-        return Err(Fault::NoBrokerMessage);
-    }
-    match Id::new(number as u64) {
-        Ok(id) => Ok(id),
-        Err(_) => Err(Fault::NoBrokerMessage),
-    }
+    session::id_among(number).ok_or(Fault::NoBrokerMessage)
 }
 
 fn request_by(kind: i128) -> Result<Request, Fault>

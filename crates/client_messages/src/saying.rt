@@ -21,8 +21,8 @@ use wamp_ids::Id;
 /// The message by which a client says this (WAMP, "Messages"): a broker reads it as just that.
 ///
 /// HELLO announces the roles of publisher and subscriber, which the standard demands, and beside an
-/// authid the method `anonymous`. GOODBYE gives the reason `wamp.close.close_realm`, ABORT
-/// `wamp.error.protocol_violation`.
+/// authid the method `anonymous`. GOODBYE gives the reason `wamp.close.close_realm`, and as an answer
+/// `wamp.close.goodbye_and_out`; ABORT gives `wamp.error.protocol_violation`.
 ///
 /// # Errors
 /// [`Fault::TooDeep`] where options nest more than 98 levels, [`Fault::NoMemory`] where a growth was
@@ -37,6 +37,7 @@ pub fn said_message(alloc: Global, said: ClientMessage) -> Result<Message, Fault
         ClientMessage::Hello { realm, authid } => hello(alloc, realm, authid),
         ClientMessage::Abort => ending(alloc, 3, "wamp.error.protocol_violation"),
         ClientMessage::Goodbye => ending(alloc, 6, "wamp.close.close_realm"),
+        ClientMessage::GoodbyeAndOut => ending(alloc, 6, "wamp.close.goodbye_and_out"),
         ClientMessage::Publish {
             request,
             options,

@@ -187,9 +187,3 @@ reads_held octets held frames r = by_fault (fault_of r.rest) refl
           splits = record { whole = refl; each = tt; ended = λ begins. r.splits.ended (front_frame r.rest begins) };
           held_is = sym (again ∙ take_all 4 (take 4 r.rest) (omega (arith, length-take 4 r.rest)));
         })
-
--- nothing was read for want of memory
-pub nothing_heard : (t : Terms) (before : Ear) → Reads before.held [] before.held → HearsNext t before before (Err NoMemory)
-nothing_heard t before steady =
-    listening_stops t before before.waiting before.waiting before.held before.given before.taken before.taken NoMemory (listening_start t before steady)
-    (begins_whole t.limit (stand before.waiting before.taken) (stand before.waiting before.taken) (passes_none t.limit (stand before.waiting before.taken)))

@@ -259,10 +259,11 @@ pub record Line : Type 0 where
   pub waiting : List Content
   pub held : List ℕ
 
--- what holds of each: the limit is one that a handshake tells, and what is held would be held if nothing more came
-pub record IsSteady (limit : ℕ) (held : List ℕ) : Type 0 where
+-- what holds of each: the limit is one that a handshake tells, what is held would be held if nothing more came, and there is room to read into
+pub record IsReady (limit : ℕ) (held buffer : List ℕ) : Type 0 where
   pub fits : limit ≤ 16777215
   pub steady : Reads held [] held
+  pub room : 0 < length buffer
 
 abbrev pub heard_at : Line → Reading → Writing → Ear
 heard_at l source sink = ear l.waiting l.held source.given sink.taken

@@ -26,11 +26,14 @@ use std::marker::Model;
 pub struct Link {
     broker: BrokerTerms,
     inbox: UnheardFrames,
+    /// Where the pieces of the stream are read into: one for all, since to make it costs more than to
+    /// hear a short message.
+    buffer: Vec<u8>,
 }
 
 impl Model for Link {
     ghost use Rattle.rawsocket.specs.Frames.{contents};
-    ghost use Rattle.client_session.specs.Hearing.{IsSteady, Line};
+    ghost use Rattle.client_session.specs.Hearing.{IsReady, Line};
 
     ghost Value = { Line };
 
@@ -41,7 +44,7 @@ impl Model for Link {
       held = l.inbox.deframer;
     } };
 
-    ghost invariant = { λ l. IsSteady l.broker.limit l.inbox.deframer };
+    ghost invariant = { λ l. IsReady l.broker.limit l.inbox.deframer l.buffer.items };
 }
 
 impl Link {
@@ -77,16 +80,21 @@ impl Link {
     {
         let mut reading = Turns::new();
         let mut writing = Turns::new();
-        match shake_hands(alloc, serializer, source, sink, &mut reading, &mut writing) {
-            Ok(limit) => Ok(Link {
-                broker: BrokerTerms { serializer, limit },
-                inbox: UnheardFrames {
-                    waiting: VecDeque::new(alloc),
-                    deframer: Deframer::new(alloc),
-                },
-            }),
-            Err(fault) => Err(fault),
-        }
+        let limit = match shake_hands(alloc, serializer, source, sink, &mut reading, &mut writing) {
+            Ok(limit) => limit,
+            Err(fault) => return Err(fault),
+        };
+        let Ok(buffer) = vec![in alloc; 0; PIECE] else {
+            return Err(Fault::NoMemory);
+        };
+        Ok(Link {
+            broker: BrokerTerms { serializer, limit },
+            inbox: UnheardFrames {
+                waiting: VecDeque::new(alloc),
+                deframer: Deframer::new(alloc),
+            },
+            buffer,
+        })
     }
 
     /// Says something: writes its message as one frame.
@@ -151,16 +159,13 @@ impl Link {
         let broker = self.broker;
         let mut reading = Turns::new();
         let mut writing = Turns::new();
-        let Ok(mut buffer) = vec![in alloc; 0; PIECE] else {
-            return Err(Fault::NoMemory);
-        };
         hear_next(
             alloc,
             broker,
             &mut self.inbox,
             source,
             sink,
-            &mut buffer,
+            &mut self.buffer,
             &mut reading,
             &mut writing,
         )

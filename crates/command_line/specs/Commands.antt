@@ -12,10 +12,11 @@ use Rattle.command_line.specs.declared.refusal.CommandRefusal.TheVariants.{NoMem
 use Rattle.broker_config.specs.declared.fault.Fault.{Fault as ServingFault}
 use Rattle.broker_config.specs.declared.fault.Fault.TheVariants.{NoMemory as OutOfMemory, ListenFault as NotListening}
 use Rattle.command_line.specs.declared.fault.Fault.{Fault}
-use Rattle.command_line.specs.declared.fault.Fault.TheVariants.{NoMemory, ReadFault, WriteFault, Usage, BadLine, TooManyTurns, ListenFault, ConnectFault, Refused, ConnectionFault}
+use Rattle.command_line.specs.declared.fault.Fault.TheVariants.{NoMemory, ReadFault, WriteFault, Usage, BadLine, TooManyTurns, ListenFault, ConnectFault, Refused, ConnectionFault, LateAnswer}
 use Rattle.rawsocket.specs.Steps.{Told, Fine, Failed}
 use Rattle.replay.specs.declared.fault.Fault.{Fault as ReplayFault}
 use Rattle.replay.specs.declared.fault.Fault.TheVariants as of_replay
+use Rattle.client_commands.specs.declared.command.Contact.{Contact}
 use Rattle.client_commands.specs.declared.fault.Fault.{Fault as ClientFault}
 use Rattle.client_commands.specs.declared.fault.Fault.TheVariants as client
 
@@ -35,14 +36,19 @@ pub record IsServable (config : Config) : Type 0 where
   pub room : 1 ≤ config.outbox
   pub fits : config.outbox ≤ 65536
 
--- a replay has a realm; a broker can be served, at a port; a client has a port to connect to, topics, and events to wait for
+-- a client has a port to connect to, and waits for answers
+pub record IsReachable (contact : Contact) : Type 0 where
+  pub port : 1 ≤ contact.port
+  pub patient : 1 ≤ contact.timeout
+
+-- a replay has a realm; a broker can be served, at a port; a client can connect, has topics, and events to wait for
 abbrev pub IsRunnable : Command → Type 0
 IsRunnable (Help text) = ⊤
 IsRunnable (Version text) = ⊤
 IsRunnable (Replay config) = 0 < length config.realms.items
 IsRunnable (Serve host port config log) = (1 ≤ port) × IsServable config
-IsRunnable (Subscribe command) = (1 ≤ command.contact.port) × (1 ≤ length command.topics.items) × MatchOption command.count ⊤ (λ count. 1 ≤ count)
-IsRunnable (Publish command) = 1 ≤ command.contact.port
+IsRunnable (Subscribe command) = IsReachable command.contact × (1 ≤ length command.topics.items) × MatchOption command.count ⊤ (λ count. 1 ≤ count)
+IsRunnable (Publish command) = IsReachable command.contact
 
 -- the first of these words asks for the version
 abbrev pub asks_for_version : List (String Global) → Bool
@@ -120,6 +126,7 @@ name_of ListenFault = codes "E26 listen fault"
 name_of ConnectFault = codes "E27 connect fault"
 name_of Refused = codes "E28 refused by the broker"
 name_of ConnectionFault = codes "E29 connection fault"
+name_of LateAnswer = codes "E30 no answer in time"
 
 -- the number of the line that is at fault, if one is
 abbrev pub line_number : Fault → List ℕ
@@ -133,6 +140,7 @@ line_number ListenFault = []
 line_number ConnectFault = []
 line_number Refused = []
 line_number ConnectionFault = []
+line_number LateAnswer = []
 
 -- the line by which the program tells of a fault
 abbrev pub fault_line : Fault → List ℕ
@@ -154,3 +162,4 @@ status_of ListenFault = 1
 status_of ConnectFault = 1
 status_of Refused = 1
 status_of ConnectionFault = 1
+status_of LateAnswer = 1

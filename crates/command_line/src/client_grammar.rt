@@ -33,8 +33,29 @@ pub fn subscribe<'a>(alloc: Global) -> Result<Command<'a>, AllocError> {
 pub fn publish<'a>(alloc: Global) -> Result<Command<'a>, AllocError> {
     to_a_broker(alloc, "publish")?
         .about("Publishes one event of its arguments, or one of each line of standard input")
-        .arg(flag(alloc, "acknowledge").help("Wait until the broker says that it published"))?
+        .arg(
+            flag(alloc, "no-acknowledge")
+                .conflicts_with("acknowledge")?
+                .help(
+                    "Don't wait for the broker to say that it published: faster, but what it refuses is lost without a word, and a long input may cut those who hear it",
+                ),
+        )?
+        .arg(flag(alloc, "acknowledge").help(
+            "Wait until the broker says that it published, as it does anyway",
+        ))?
         .arg(flag(alloc, "retain").help("Make it the topic's retained event"))?
+        .arg(flag(alloc, "disclose-me").help("Tell who hears it who published it"))?
+        .arg(
+            option(alloc, "exclude-me").value_name("WHETHER").help(
+                "Whether the publisher itself is left out: true (if it isn't said) or false",
+            ),
+        )?
+        .arg(
+            option(alloc, "eligible-authid")
+                .value_name("AUTHID")
+                .help("Who may receive it: sessions of this authid, or of one of these")
+                .action(ArgAction::Append),
+        )?
         .arg(
             option(alloc, "eligible-authrole")
                 .value_name("ROLE")
@@ -67,13 +88,20 @@ pub fn publish<'a>(alloc: Global) -> Result<Command<'a>, AllocError> {
 /// What stands after the name of a command that is a client: where its broker is, and how it is spoken to.
 fn to_a_broker<'a>(alloc: Global, name: &'a str) -> Result<Command<'a>, AllocError> {
     Command::new(alloc, name)
+        .disable_help_flag(true)
         .arg(
-            option(alloc, "host")
-                .value_name("HOST")
-                .help("The broker's name or address, 127.0.0.1 if none is named"),
+            Arg::new(alloc, "help")
+                .long("help")
+                .action(ArgAction::Help)
+                .help("Print help"),
         )?
         .arg(
-            option(alloc, "port").value_name("PORT").help(
+            option(alloc, "host").short('h').value_name("HOST").help(
+                "The broker's name or address, 127.0.0.1 if none is named; its port may stand behind a colon",
+            ),
+        )?
+        .arg(
+            option(alloc, "port").short('p').value_name("PORT").help(
                 "The broker's port, from 1 to 65535, 9000 if none is named",
             ),
         )?
@@ -82,7 +110,17 @@ fn to_a_broker<'a>(alloc: Global, name: &'a str) -> Result<Command<'a>, AllocErr
                 .value_name("AUTHID")
                 .help("The authid to ask for"),
         )?
-        .arg(flag(alloc, "msgpack").help("Speak MessagePack in place of JSON"))
+        .arg(
+            option(alloc, "timeout").value_name("SECONDS").help(
+                "How long an answer of the broker may take, from 1 to 86400, 10 if it isn't said",
+            ),
+        )?
+        .arg(
+            flag(alloc, "json")
+                .conflicts_with("msgpack")?
+                .help("Speak JSON in place of MessagePack"),
+        )?
+        .arg(flag(alloc, "msgpack").help("Speak MessagePack, as it does anyway"))
 }
 
 /// The realm that is joined.

@@ -1,5 +1,6 @@
 //! What the words behind `subscribe` and `publish` ask for.
-ghost use Rattle.std.specs.Prelude.{◌≤◌, IfOk, MatchOption, length, ⊤};
+ghost use Rattle.std.specs.Prelude.{◌≤◌, IfOk, IfSome, MatchOption, length, ⊤};
+ghost use Rattle.command_line.specs.Commands.{IsReachable};
 
 use crate::refusal::{CommandRefusal, refused, refused_value};
 use clap::ArgMatches;
@@ -17,6 +18,12 @@ const HOST: &str = "127.0.0.1";
 /// The port of the broker, unless another one is named.
 const PORT: u16 = 9000;
 
+/// How many seconds an answer may take, unless it is said.
+const TIMEOUT: u32 = 10;
+
+/// The longest time that it may take: a day.
+const LONGEST_TIMEOUT: u32 = 86400;
+
 /// The word that stands for the lines of standard input.
 const LINES: &str = "-";
 
@@ -25,14 +32,20 @@ const DEEPEST: usize = 98;
 
 /// Why something can't be published.
 const NOT_CARRIED: &str =
-    "numbers have to be whole, and lists and dictionaries may stand in each other 98 deep";
+    "numbers have to be whole (others can be sent as texts, '\"21.5\"'), and lists and dictionaries may stand in each other 98 deep";
+
+/// Why a text is no port.
+const NO_PORT: &str = "a number from 1 to 65535 is wanted";
+
+/// Why there is none behind a host.
+const NO_PORT_BEHIND: &str = "a number from 1 to 65535 is wanted behind the colon";
 
 /// What the words behind `subscribe` ask for.
 pub fn read_subscribe(
     alloc: Global,
     words: &ArgMatches<'_>,
 ) -> Result<SubscribeCommand, CommandRefusal>
-    ensures port { IfOk result (λ c. 1 ≤ c.contact.port) }
+    ensures reachable { IfOk result (λ c. IsReachable c.contact) }
     ensures topics { IfOk result (λ c. 1 ≤ length c.topics.items) }
     ensures count { IfOk result (λ c. MatchOption c.count ⊤ (λ n. 1 ≤ n)) }
 {
@@ -53,7 +66,7 @@ pub fn read_subscribe(
 
 /// What the words behind `publish` ask for.
 pub fn read_publish(alloc: Global, words: &ArgMatches<'_>) -> Result<PublishCommand, CommandRefusal>
-    ensures port { IfOk result (λ c. 1 ≤ c.contact.port) }
+    ensures { IfOk result (λ c. IsReachable c.contact) }
 {
     let contact = read_contact(alloc, words)?;
     let wishes = read_wishes(alloc, words)?;
@@ -74,45 +87,97 @@ pub fn read_publish(alloc: Global, words: &ArgMatches<'_>) -> Result<PublishComm
 
 /// Where the broker is, and how it is spoken to.
 fn read_contact(alloc: Global, words: &ArgMatches<'_>) -> Result<Contact, CommandRefusal>
-    ensures { IfOk result (λ contact. 1 ≤ contact.port) }
+    ensures { IfOk result IsReachable }
 {
-    let port = read_port(alloc, words)?;
+    let (host, port) = read_place(alloc, words)?;
     let Some(realm) = words.get_str("realm") else {
         return refused(alloc, "no realm is named");
     };
     Ok(Contact {
-        host: String::from_str(alloc, words.get_str("host").unwrap_or(HOST))?,
+        host: String::from_str(alloc, host)?,
         port,
         serializer: serializer_of(words),
         realm: Text::of(alloc, realm)?,
         authid: read_authid(alloc, words)?,
+        timeout: read_timeout(alloc, words)?,
     })
+}
+
+/// How many seconds an answer may take.
+fn read_timeout(alloc: Global, words: &ArgMatches<'_>) -> Result<u32, CommandRefusal>
+    ensures { IfOk result (λ seconds. 1 ≤ seconds) }
+{
+    let Some(text) = words.get_str("timeout") else {
+        return Ok(TIMEOUT);
+    };
+    match text.parse::<u32>() {
+        Ok(seconds) if 1 <= seconds && seconds <= LONGEST_TIMEOUT => Ok(seconds),
+        _ => refused_value(
+            alloc,
+            text,
+            "--timeout <SECONDS>",
+            "a number from 1 to 86400 is wanted",
+        ),
+    }
 }
 
 /// How messages are serialized.
 fn serializer_of(words: &ArgMatches<'_>) -> Serializer {
-    if words.get_flag("msgpack") {
-        Serializer::MsgPack
-    } else {
+    if words.get_flag("json") {
         Serializer::Json
+    } else {
+        Serializer::MsgPack
     }
 }
 
-/// The port that is connected to.
-fn read_port(alloc: Global, words: &ArgMatches<'_>) -> Result<u16, CommandRefusal>
-    ensures { IfOk result (λ port. 1 ≤ port) }
+/// The host and the port that are connected to. The port may stand behind the host and a colon.
+fn read_place<'a>(
+    alloc: Global,
+    words: &'a ArgMatches<'_>,
+) -> Result<(&'a str, u16), CommandRefusal>
+    ensures { IfOk result (λ place. 1 ≤ place.1) }
 {
-    let Some(text) = words.get_str("port") else {
-        return Ok(PORT);
-    };
+    let host = words.get_str("host").unwrap_or(HOST);
+    match (split_place(host), words.get_str("port")) {
+        (None, None) => Ok((host, PORT)),
+        (None, Some(text)) => match port_of(text) {
+            Some(port) => Ok((host, port)),
+            None => refused_value(alloc, text, "--port <PORT>", NO_PORT),
+        },
+        (Some((name, text)), None) => match port_of(text) {
+            Some(port) => Ok((name, port)),
+            None => refused_value(alloc, host, "--host <HOST>", NO_PORT_BEHIND),
+        },
+        (Some(_), Some(text)) => {
+            refused_value(
+                alloc,
+                text,
+                "--port <PORT>",
+                "a port stands behind the host as well",
+            )
+        }
+    }
+}
+
+/// A host and what stands behind its colon, if there is one: `HOST:PORT`, or `[HOST]:PORT` of an address that has
+/// colons itself.
+fn split_place(place: &str) -> Option<(&str, &str)> {
+    if let Some(inner) = place.strip_prefix("[") {
+        return inner.split_once("]:");
+    }
+    match place.split_once(':') {
+        Some((host, port)) if !port.contains(':') => Some((host, port)),
+        _ => None,
+    }
+}
+
+/// The port that a text names.
+fn port_of(text: &str) -> Option<u16>
+    ensures { IfSome result (λ port. 1 ≤ port) }
+{
     match text.parse::<u16>() {
-        Ok(port) if port > 0 => Ok(port),
-        _ => refused_value(
-            alloc,
-            text,
-            "--port <PORT>",
-            "a number from 1 to 65535 is wanted",
-        ),
+        Ok(port) if port > 0 => Some(port),
+        _ => None,
     }
 }
 
@@ -181,15 +246,44 @@ fn read_texts(alloc: Global, words: &ArgMatches<'_>, name: &str) -> Result<Vec<T
 }
 
 /// What each publication wishes.
-fn read_wishes(alloc: Global, words: &ArgMatches<'_>) -> Result<PublishWishes, AllocError> {
-    let mut wishes = PublishWishes::none();
-    wishes.acknowledge = words.get_flag("acknowledge");
-    wishes.retain = words.get_flag("retain");
-    let roles = read_texts(alloc, words, "eligible-authrole")?;
-    if !roles.is_empty() {
-        wishes.eligible_authrole = Some(roles);
+fn read_wishes(alloc: Global, words: &ArgMatches<'_>) -> Result<PublishWishes, CommandRefusal> {
+    Ok(PublishWishes {
+        acknowledge: !words.get_flag("no-acknowledge"),
+        disclose_me: words.get_flag("disclose-me"),
+        eligible_authid: read_texts_if_any(alloc, words, "eligible-authid")?,
+        eligible_authrole: read_texts_if_any(alloc, words, "eligible-authrole")?,
+        exclude_me: read_exclude_me(alloc, words)?,
+        retain: words.get_flag("retain"),
+    })
+}
+
+/// Whether a publisher is left out.
+fn read_exclude_me(alloc: Global, words: &ArgMatches<'_>) -> Result<bool, CommandRefusal> {
+    match words.get_str("exclude-me") {
+        None => Ok(true),
+        Some("true") => Ok(true),
+        Some("false") => Ok(false),
+        Some(text) => refused_value(
+            alloc,
+            text,
+            "--exclude-me <WHETHER>",
+            "true or false is wanted",
+        ),
     }
-    Ok(wishes)
+}
+
+/// The texts that are given for an argument, if it is given.
+fn read_texts_if_any(
+    alloc: Global,
+    words: &ArgMatches<'_>,
+    name: &str,
+) -> Result<Option<Vec<Text>>, AllocError> {
+    let texts = read_texts(alloc, words, name)?;
+    if texts.is_empty() {
+        Ok(None)
+    } else {
+        Ok(Some(texts))
+    }
 }
 
 /// What is published: the words, or each line of standard input.

@@ -25,6 +25,7 @@ fn name(fault: &Fault) -> &'static str
         Fault::ConnectFault => "E27 connect fault",
         Fault::Refused => "E28 refused by the broker",
         Fault::ConnectionFault => "E29 connection fault",
+        Fault::LateAnswer => "E30 no answer in time",
     }
 }
 
@@ -84,6 +85,7 @@ fn status(fault: &Fault) -> u8
         Fault::ConnectFault => 1,
         Fault::Refused => 1,
         Fault::ConnectionFault => 1,
+        Fault::LateAnswer => 1,
     }
 }
 

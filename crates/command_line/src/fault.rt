@@ -35,6 +35,9 @@ pub enum Fault {
     /// E29: the connection to the broker failed or was ended, or what came is nothing that a broker says.
     #[error("E29 connection fault")]
     ConnectionFault,
+    /// E30: the broker didn't answer within the time that it has.
+    #[error("E30 no answer in time")]
+    LateAnswer,
 }
 
 impl From<AllocError> for Fault {

@@ -24,8 +24,8 @@ impl<S: Shut, P: Posting<S>> Posting<S> for FarewellPoster<P> {
     fn post<R: Wait>(&mut self, rt: &R, act: Act<S>, octets: usize) -> Result<(), Act<S>>
         requires { is_join act ≡ false }
         ensures { MatchResult result (λ _.
-            P.posted self.new.poster ≡ with_acts (P.posted self.old.poster) (act ∷ [])) (λ back. (back ≡ act)
-            × (P.posted self.new.poster ≡ P.posted self.old.poster)) }
+            P.posted self.new.poster ≡ with_acts (P.posted self.old.poster) (act ∷ []))
+            (λ back. (back ≡ act) × (P.posted self.new.poster ≡ P.posted self.old.poster)) }
     {
         self.has_aborted = self.has_aborted || is_abort(&act);
         self.has_greeted = self.has_greeted || is_hello(&act);

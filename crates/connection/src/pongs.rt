@@ -70,8 +70,8 @@ impl<S: Shut, P: Posting<S>> Posting<S> for PongPoster<P> {
     fn post<R: Wait>(&mut self, rt: &R, act: Act<S>, octets: usize) -> Result<(), Act<S>>
         requires { is_join act ≡ false }
         ensures { MatchResult result (λ _.
-            P.posted self.new.poster ≡ with_acts (P.posted self.old.poster) (act ∷ [])) (λ back. (back ≡ act)
-            × (P.posted self.new.poster ≡ P.posted self.old.poster)) }
+            P.posted self.new.poster ≡ with_acts (P.posted self.old.poster) (act ∷ []))
+            (λ back. (back ≡ act) × (P.posted self.new.poster ≡ P.posted self.old.poster)) }
     {
         if let Act::Ping(payload) = &act {
             self.pongs.waiting.take_on(rt, payload.as_slice().len());

@@ -71,7 +71,8 @@ fn post<R: Wait, S: Shut, P: Posting<S>>(
     octets: usize,
 ) -> Result<(), ReadEnd>
     requires { is_join act ≡ false }
-    ensures posted { OnOk result (P.posted poster.new ≡ with_acts (P.posted poster.old) (act ∷ [])) }
+    ensures posted { OnOk result
+        (P.posted poster.new ≡ with_acts (P.posted poster.old) (act ∷ [])) }
     ensures back { OnErr result (P.posted poster.new ≡ P.posted poster.old) }
     ensures end { IfErr result (λ e. e ≡ ReadEnd.ActorGone) }
 {

@@ -32,8 +32,8 @@ pub(crate) fn flag_at(options: &Dict, key: &str, absent: bool) -> Result<bool, F
 
 /// The numbers that an option lists, where it does.
 pub(crate) fn numbers_at(alloc: Global, options: &Dict, key: &str) -> Result<Option<Numbers>, Fault>
-    ensures ok { IfOk result (λ r. list_or_none number_of (find_entry key.now (dict_view options.now))
-        ≡ Some r) }
+    ensures ok { IfOk result (λ r.
+        list_or_none number_of (find_entry key.now (dict_view options.now)) ≡ Some r) }
     ensures bad { result ≡ Err Fault.Shape
         → list_or_none number_of (find_entry key.now (dict_view options.now)) ≡ None }
 {

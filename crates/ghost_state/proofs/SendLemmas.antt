@@ -1,7 +1,7 @@
 -- A count may go to other threads.
 use denote.Param.Send.{IsSend, sendable}
 use Rattle.std.proofs.Crossing.{crosses}
-use Rattle.ghost_state.proofs.ghost_count.Trail.TheLaws.TheKnot.{crosses as counts}
+use Rattle.ghost_state.proofs.ghost_count.CountTrail.TheLaws.TheKnot.{crosses as counts}
 use Rattle.ghost_state.specs.contracts.ghost_count.GhostCount as GhostCount
 
 pub count_send : IsSend GhostCount.the_row

@@ -1,9 +1,9 @@
 -- What a count without bytes stands for.
 use Rattle.std.specs.Prelude.{ℕ, suc}
-use Rattle.ghost_state.specs.declared.ghost_count.Trail.{Trail}
-use Rattle.ghost_state.specs.declared.ghost_count.Trail.TheVariants.{Begun, Longer'}
+use Rattle.ghost_state.specs.declared.ghost_count.CountTrail.{CountTrail}
+use Rattle.ghost_state.specs.declared.ghost_count.CountTrail.TheVariants.{Begun, Longer'}
 
 -- how many links the trail has
-abbrev pub links : Trail → ℕ
+abbrev pub links : CountTrail → ℕ
 links Begun = 0
 links (Longer' mark before) = suc (links before)

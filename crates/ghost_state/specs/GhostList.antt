@@ -1,11 +1,11 @@
 -- The members of a list that takes no bytes.
 use Rattle.std.specs.Prelude.{List, [], ◌∷◌, ◌++◌}
-use Rattle.ghost_state.specs.declared.ghost_list.Trail.{Trail}
-use Rattle.ghost_state.specs.declared.ghost_list.Trail.TheVariants.{Begun, Longer'}
+use Rattle.ghost_state.specs.declared.ghost_list.ListTrail.{ListTrail}
+use Rattle.ghost_state.specs.declared.ghost_list.ListTrail.TheVariants.{Begun, Longer'}
 use Rattle.ghost_state.specs.declared.ghost_list.GhostList.{GhostList}
 
 module _ {T : Type 0} where
-  abbrev pub members : Trail T → List T
+  abbrev pub members : ListTrail T → List T
   members Begun = []
   members (Longer' mark before last) = members before ++ last.value ∷ []
 

@@ -7,15 +7,15 @@ use std::snapshot::Snapshot;
 
 /// As many links as were counted. A value of it is only looked at by a snapshot.
 #[derive(Drop)]
-pub(crate) enum Trail {
+pub(crate) enum CountTrail {
     Begun,
-    Longer(Snapshot<Trail>),
+    Longer(Snapshot<CountTrail>),
 }
 
 /// How often something happened. It takes no bytes, so nothing that runs can depend on it.
 #[derive(Drop)]
 pub struct GhostCount {
-    trail: Snapshot<Trail>,
+    trail: Snapshot<CountTrail>,
 }
 
 impl Model for GhostCount {
@@ -33,7 +33,7 @@ impl GhostCount {
         ensures { result ≡ 0 }
     {
         GhostCount {
-            trail: Snapshot::of(&Trail::Begun),
+            trail: Snapshot::of(&CountTrail::Begun),
         }
     }
 
@@ -41,7 +41,7 @@ impl GhostCount {
     pub fn tick(&mut self)
         ensures { self.new ≡ self.old + 1 }
     {
-        let before = mem::replace(&mut self.trail, Snapshot::of(&Trail::Begun));
-        self.trail = Snapshot::of(&Trail::Longer(before));
+        let before = mem::replace(&mut self.trail, Snapshot::of(&CountTrail::Begun));
+        self.trail = Snapshot::of(&CountTrail::Longer(before));
     }
 }

@@ -7,15 +7,15 @@ use std::snapshot::Snapshot;
 
 // A list, the last member first. A value of it is only looked at by a snapshot.
 #[derive(Drop)]
-pub(crate) enum Trail<T> {
+pub(crate) enum ListTrail<T> {
     Begun,
-    Longer(Snapshot<Trail<T>>, Snapshot<T>),
+    Longer(Snapshot<ListTrail<T>>, Snapshot<T>),
 }
 
 /// A list that grows at its end and takes no bytes.
 #[derive(Drop)]
 pub struct GhostList<T> {
-    trail: Snapshot<Trail<T>>,
+    trail: Snapshot<ListTrail<T>>,
 }
 
 impl<T> GhostList<T> {
@@ -24,7 +24,7 @@ impl<T> GhostList<T> {
         ensures { items_of result ≡ [] }
     {
         GhostList {
-            trail: Snapshot::of(&Trail::Begun),
+            trail: Snapshot::of(&ListTrail::Begun),
         }
     }
 
@@ -32,7 +32,7 @@ impl<T> GhostList<T> {
     pub fn add(&mut self, last: Snapshot<T>)
         ensures { items_of self.new ≡ items_of self.old ++ last.value ∷ [] }
     {
-        let before = mem::replace(&mut self.trail, Snapshot::of(&Trail::Begun));
-        self.trail = Snapshot::of(&Trail::Longer(before, last));
+        let before = mem::replace(&mut self.trail, Snapshot::of(&ListTrail::Begun));
+        self.trail = Snapshot::of(&ListTrail::Longer(before, last));
     }
 }

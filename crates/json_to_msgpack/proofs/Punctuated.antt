@@ -6,8 +6,8 @@ use Rattle.json.specs.Token.{Token}
 use Rattle.json.specs.Word.{head, ends_word, word}
 use Rattle.json.specs.Cursor.{is_leaf}
 use Rattle.json.specs.Lex.{token, comma, colon, other, class, string_token, between, in_word, in_string, lex_byte, lex, Place, fresh, after_value, after_comma, after_key, begins_colon, may_begin, may_close, if_allowed, place_token, punctuate}
-use Rattle.json_to_msgpack.specs.declared.token.Place as place
-use Rattle.json_to_msgpack.specs.declared.token.Place.TheVariants.{Fresh, AfterValue, AfterComma}
+use Rattle.json_to_msgpack.specs.declared.token.LexPlace as place
+use Rattle.json_to_msgpack.specs.declared.token.LexPlace.TheVariants.{Fresh, AfterValue, AfterComma}
 use Rattle.json_to_msgpack.specs.body.Lexing.{place_of, tokens_left, Begins, opening, closing, IsAfterValue, IsStringAt, IsWordAt}
 use Rattle.json_to_msgpack.proofs.Octets.{word_over}
 
@@ -37,7 +37,7 @@ unfolding lex
 string_lexemes text old s from to e h =
     ap (lex between) e ∙ ap (λ o. token (string_token o) ∷ lex in_string (drop from text)) h.read ∙ ap (λ ls. token (spec.string s) ∷ ls) h.passed
 
-pub string_value : (text old s : List ℕ) (from to next : ℕ) (after : place.Place) → old ≡ 34 ∷ drop from text → IsStringAt text from s to → IsAfterValue text to after next → Begins old (spec.string s) after (drop next text)
+pub string_value : (text old s : List ℕ) (from to next : ℕ) (after : place.LexPlace) → old ≡ 34 ∷ drop from text → IsStringAt text from s to → IsAfterValue text to after next → Begins old (spec.string s) after (drop next text)
 unfolding punctuate
 string_value text old s from to next after e h behind p may =
     let k = λ (n : Place). punctuate n (lex between (drop to text)) in
@@ -74,7 +74,7 @@ first_word (x ∷ xs) e = ap (λ c. lex_byte between c x xs (λ m. lex m xs)) e 
 word_lexemes : (text : List ℕ) (w : Token) (from to : ℕ) → IsWordAt text from w to → ends_word (drop to text) ≡ true → lex between (drop from text) ≡ token w ∷ lex between (drop to text)
 word_lexemes text w from to h over = first_word (drop from text) h.begun ∙ (λ i. token (h.is over i) ∷ h.passed i) ∙ ap (λ ls. token w ∷ ls) (word_over (drop to text) over)
 
-pub word_value : (text : List ℕ) (w : Token) (from to next : ℕ) (after : place.Place) → IsWordAt text from w to → IsAfterValue text to after next → Begins (drop from text) w after (drop next text)
+pub word_value : (text : List ℕ) (w : Token) (from to next : ℕ) (after : place.LexPlace) → IsWordAt text from w to → IsAfterValue text to after next → Begins (drop from text) w after (drop next text)
 unfolding punctuate
 word_value text w from to next after h behind p may =
     ap (punctuate p) (word_lexemes text w from to h behind.ended) ∙ leaf_token p w _ (λ n. punctuate n (lex between (drop to text))) h.leaf may ∙ ap (λ ts. w ∷ ts) behind.rest
@@ -110,12 +110,12 @@ end_after text from at same e ended =
 
 -- ---- from the lexer's places
 
-pub begun : (here after : place.Place) (old left : List ℕ) (t : Token) → may_begin (place_of here) ≡ true → Begins old t after left → tokens_left here old ≡ t ∷ tokens_left after left
+pub begun : (here after : place.LexPlace) (old left : List ℕ) (t : Token) → may_begin (place_of here) ≡ true → Begins old t after left → tokens_left here old ≡ t ∷ tokens_left after left
 begun Fresh after old left t may h = h fresh refl
 begun AfterValue after old left t may h = absurd (false≢true may)
 begun AfterComma after old left t may h = h after_comma refl
 
-pub closes : (here after : place.Place) (text : List ℕ) (at next bracket : ℕ) → may_close (place_of here) ≡ true → (bracket ≡ 93) ⊎ (bracket ≡ 125) → drop at text ≡ bracket ∷ drop (at + 1) text → IsAfterValue text (at + 1) after next
+pub closes : (here after : place.LexPlace) (text : List ℕ) (at next bracket : ℕ) → may_close (place_of here) ≡ true → (bracket ≡ 93) ⊎ (bracket ≡ 125) → drop at text ≡ bracket ∷ drop (at + 1) text → IsAfterValue text (at + 1) after next
     → tokens_left here (drop at text) ≡ closing bracket ∷ tokens_left after (drop next text)
 unfolding lex punctuate
 closes here after text at next bracket may b e behind = close_place here may b
@@ -134,12 +134,12 @@ closes here after text at next bracket may b e behind = close_place here may b
     either p may (inl is) = list_end p may is
     either p may (inr is) = dict_end p may is
 
-    close_place : (h : place.Place) → may_close (place_of h) ≡ true → (bracket ≡ 93) ⊎ (bracket ≡ 125) → tokens_left h (drop at text) ≡ closing bracket ∷ tokens_left after (drop next text)
+    close_place : (h : place.LexPlace) → may_close (place_of h) ≡ true → (bracket ≡ 93) ⊎ (bracket ≡ 125) → tokens_left h (drop at text) ≡ closing bracket ∷ tokens_left after (drop next text)
     close_place Fresh may b = either fresh refl b
     close_place AfterValue may b = either after_value refl b
     close_place AfterComma may b = absurd (false≢true may)
 
-pub no_tokens : (here : place.Place) (t : List ℕ) → may_close (place_of here) ≡ true → t ≡ [] → tokens_left here t ≡ []
+pub no_tokens : (here : place.LexPlace) (t : List ℕ) → may_close (place_of here) ≡ true → t ≡ [] → tokens_left here t ≡ []
 unfolding lex punctuate
 no_tokens Fresh t may e = ap (λ l. punctuate fresh (lex between l)) e
 no_tokens AfterValue t may e = ap (λ l. punctuate after_value (lex between l)) e

@@ -14,7 +14,7 @@ ghost use Rattle.json_to_msgpack.specs.body.Keys.{key_octets};
 use crate::deep_keys::Key;
 use crate::lexer::Lexer;
 use crate::refusal::TextRefusal;
-use crate::token::Token;
+use crate::token::JsonToken;
 use crate::writing::{put, put_all, put_bytes_head, put_from_zero, put_text_head, put_whole_short};
 use base64::DecodeAllocError;
 use base64::engine::general_purpose::STANDARD;
@@ -204,15 +204,15 @@ fn put_any_number(number: &[u8], out: &mut Vec<u8>) -> Result<bool, TextRefusal>
 
 /// The value that a token is, and whether it isn't a number too large.
 #[inline(always)]
-fn put_leaf(alloc: Global, token: Token, out: &mut Vec<u8>) -> Result<bool, TextRefusal>
+fn put_leaf(alloc: Global, token: JsonToken, out: &mut Vec<u8>) -> Result<bool, TextRefusal>
     ensures { IfOk result
         (λ fits. IsTokenPut fits (token_of token.entry) out.old.items out.new.items) }
 {
     match token {
-        Token::Null => put_null(out)?,
-        Token::Flag(value) => put_flag(value, out)?,
-        Token::Number(number) => return put_number(number, out),
-        Token::String(text) => put_string(alloc, text.as_str(), out)?,
+        JsonToken::Null => put_null(out)?,
+        JsonToken::Flag(value) => put_flag(value, out)?,
+        JsonToken::Number(number) => return put_number(number, out),
+        JsonToken::String(text) => put_string(alloc, text.as_str(), out)?,
     }
     Ok(true)
 }

@@ -4,25 +4,25 @@ ghost use Rattle.std.specs.Bool.{MatchBool};
 ghost use Rattle.std.specs.String.{string_bytes};
 ghost use Rattle.json.specs.Token as grammar;
 ghost use Rattle.json.specs.Lex.{may_begin, may_close, tokens};
-ghost use Rattle.json_to_msgpack.specs.body.Lexing.{token_of, place_of, tokens_left, Begins, BeginsNatural, IsTaken, opening, closing, IsAfterValue, IsAfterKey, IsStringAt};
+ghost use Rattle.json_to_msgpack.specs.body.Lexing.{token_of, place_of, tokens_left, BeginsAt, BeginsNatural, IsTaken, opening, closing, IsAfterValue, IsAfterKey, IsStringAt};
 
 use crate::literals::{natural_at, word_at};
 use crate::refusal::TextRefusal;
 use crate::scan::{octet_at, plain_end, spaces_end};
-use crate::token::{Place, Token};
+use crate::token::{JsonToken, LexPlace};
 use crate::unescape::unescape;
 use std::alloc::Global;
 use std::marker::Model;
 
-impl Place {
+impl LexPlace {
     /// Whether a value or a key may stand next.
     #[inline(always)]
     fn is_open(self) -> bool
         ensures { result ≡ may_begin (place_of self) }
     {
         match self {
-            Place::AfterValue => false,
-            Place::Fresh | Place::AfterComma => true,
+            LexPlace::AfterValue => false,
+            LexPlace::Fresh | LexPlace::AfterComma => true,
         }
     }
 
@@ -32,8 +32,8 @@ impl Place {
         ensures { result ≡ may_close (place_of self) }
     {
         match self {
-            Place::AfterComma => false,
-            Place::Fresh | Place::AfterValue => true,
+            LexPlace::AfterComma => false,
+            LexPlace::Fresh | LexPlace::AfterValue => true,
         }
     }
 }
@@ -69,16 +69,16 @@ fn string_at(alloc: Global, text: &str, at: usize) -> Result<(String, usize), Te
 
 /// What follows a value: a comma, which is passed, a closing bracket, or the end.
 #[inline(always)]
-fn after_value(octets: &[u8], from: usize) -> Option<(Place, usize)>
+fn after_value(octets: &[u8], from: usize) -> Option<(LexPlace, usize)>
     requires { from ≤ length octets.now }
     ensures { IfSome result (λ r. IsAfterValue octets.now from r.0 r.1) }
 {
     let at = spaces_end(octets, from);
     match octet_at(octets, at) {
-        Some(b',') => Some((Place::AfterComma, spaces_end(octets, at + 1))),
-        Some(b']') => Some((Place::AfterValue, at)),
-        Some(b'}') => Some((Place::AfterValue, at)),
-        None => Some((Place::AfterValue, at)),
+        Some(b',') => Some((LexPlace::AfterComma, spaces_end(octets, at + 1))),
+        Some(b']') => Some((LexPlace::AfterValue, at)),
+        Some(b'}') => Some((LexPlace::AfterValue, at)),
+        None => Some((LexPlace::AfterValue, at)),
         _ => None,
     }
 }
@@ -103,9 +103,8 @@ fn token_at<'a>(
     alloc: Global,
     text: &'a str,
     at: usize,
-) -> Result<(Token<'a>, Place, usize), TextRefusal>
-    ensures { IfOk result
-        (λ r. Begins (drop at text.now) (token_of r.0) r.1 (drop r.2 text.now)) }
+) -> Result<(JsonToken<'a>, LexPlace, usize), TextRefusal>
+    ensures { IfOk result (λ r. BeginsAt text.now at (token_of r.0) r.1 r.2) }
 {
     match octet_at(text.as_bytes(), at) {
         Some(b'"') => string_token(alloc, text, at),
@@ -116,9 +115,8 @@ fn token_at<'a>(
 
 /// The string at a place that has no escapes, as a value.
 #[inline(always)]
-fn plain_token<'a>(text: &'a str, at: usize) -> Option<(&'a str, Place, usize)>
-    ensures { IfSome result
-        (λ r. Begins (drop at text.now) (grammar.string r.0.now) r.1 (drop r.2 text.now)) }
+fn plain_token<'a>(text: &'a str, at: usize) -> Option<(&'a str, LexPlace, usize)>
+    ensures { IfSome result (λ r. BeginsAt text.now at (grammar.string r.0.now) r.1 r.2) }
 {
     let (string, end) = plain_at(text, at)?;
     let (place, next) = after_value(text.as_bytes(), end)?;
@@ -127,8 +125,9 @@ fn plain_token<'a>(text: &'a str, at: usize) -> Option<(&'a str, Place, usize)>
 
 /// The digits at a place, as a value.
 #[inline(always)]
-fn natural_token(octets: &[u8], at: usize) -> Option<(u64, Place, usize)>
-    ensures { IfSome result (λ r. BeginsNatural (drop at octets.now) r.0 r.1 (drop r.2 octets.now)) }
+fn natural_token(octets: &[u8], at: usize) -> Option<(u64, LexPlace, usize)>
+    ensures { IfSome result
+        (λ r. BeginsNatural (drop at octets.now) r.0 r.1 (drop r.2 octets.now)) }
 {
     let (natural, end) = natural_at(octets, at)?;
     let (place, next) = after_value(octets, end)?;
@@ -141,13 +140,12 @@ fn string_token<'a>(
     alloc: Global,
     text: &'a str,
     at: usize,
-) -> Result<(Token<'a>, Place, usize), TextRefusal>
-    ensures { IfOk result
-        (λ r. Begins (drop at text.now) (token_of r.0) r.1 (drop r.2 text.now)) }
+) -> Result<(JsonToken<'a>, LexPlace, usize), TextRefusal>
+    ensures { IfOk result (λ r. BeginsAt text.now at (token_of r.0) r.1 r.2) }
 {
     match string_at(alloc, text, at) {
         Ok((string, end)) => match after_value(text.as_bytes(), end) {
-            Some((place, next)) => Ok((Token::String(string), place, next)),
+            Some((place, next)) => Ok((JsonToken::String(string), place, next)),
             None => Err(TextRefusal::Unclear),
         },
         Err(refusal) => Err(refusal),
@@ -156,10 +154,9 @@ fn string_token<'a>(
 
 /// The number or literal at a place.
 #[inline(always)]
-fn word_token<'a>(text: &'a str, at: usize) -> Result<(Token<'a>, Place, usize), TextRefusal>
+fn word_token<'a>(text: &'a str, at: usize) -> Result<(JsonToken<'a>, LexPlace, usize), TextRefusal>
     requires { at < length text.now }
-    ensures { IfOk result
-        (λ r. Begins (drop at text.now) (token_of r.0) r.1 (drop r.2 text.now)) }
+    ensures { IfOk result (λ r. BeginsAt text.now at (token_of r.0) r.1 r.2) }
 {
     let Some((token, end)) = word_at(text, at) else {
         return Err(TextRefusal::Unclear);
@@ -173,8 +170,7 @@ fn word_token<'a>(text: &'a str, at: usize) -> Result<(Token<'a>, Place, usize),
 /// The key at a place that has no escapes, and where its value may begin.
 #[inline(always)]
 fn plain_key_at<'a>(text: &'a str, at: usize) -> Option<(&'a str, usize)>
-    ensures { IfSome result (λ r. Begins (drop at text.now) (grammar.key r.0.now) Place.Fresh
-        (drop r.1 text.now)) }
+    ensures { IfSome result (λ r. BeginsAt text.now at (grammar.key r.0.now) LexPlace.Fresh r.1) }
 {
     let (key, end) = plain_at(text, at)?;
     let next = after_key(text.as_bytes(), end)?;
@@ -184,8 +180,8 @@ fn plain_key_at<'a>(text: &'a str, at: usize) -> Option<(&'a str, usize)>
 /// The key at a place, and where its value may begin.
 #[inline(always)]
 fn key_at(alloc: Global, text: &str, at: usize) -> Result<(String, usize), TextRefusal>
-    ensures { IfOk result (λ r. Begins (drop at text.now) (grammar.key (string_bytes r.0)) Place.Fresh
-        (drop r.1 text.now)) }
+    ensures { IfOk result
+        (λ r. BeginsAt text.now at (grammar.key (string_bytes r.0)) LexPlace.Fresh r.1) }
 {
     match string_at(alloc, text, at) {
         Ok((key, end)) => match after_key(text.as_bytes(), end) {
@@ -200,8 +196,7 @@ fn key_at(alloc: Global, text: &str, at: usize) -> Result<(String, usize), TextR
 #[inline(always)]
 fn open_at(octets: &[u8], at: usize, bracket: u8) -> Option<usize>
     requires { (bracket ≡ 91) ⊎ (bracket ≡ 123) }
-    ensures { IfSome result
-        (λ next. Begins (drop at octets.now) (opening bracket) Place.Fresh (drop next octets.now)) }
+    ensures { IfSome result (λ next. BeginsAt octets.now at (opening bracket) LexPlace.Fresh next) }
 {
     if octet_at(octets, at)? != bracket {
         return None;
@@ -211,7 +206,7 @@ fn open_at(octets: &[u8], at: usize, bracket: u8) -> Option<usize>
 
 /// What stands behind a closing bracket, if it stands at a place and may.
 #[inline(always)]
-fn end_at(octets: &[u8], at: usize, place: Place, bracket: u8) -> Option<(Place, usize)>
+fn end_at(octets: &[u8], at: usize, place: LexPlace, bracket: u8) -> Option<(LexPlace, usize)>
     requires { (bracket ≡ 93) ⊎ (bracket ≡ 125) }
     ensures { IfSome result (λ r. tokens_left place (drop at octets.now)
         ≡ closing bracket ∷ tokens_left r.0 (drop r.1 octets.now)) }
@@ -227,7 +222,7 @@ fn end_at(octets: &[u8], at: usize, place: Place, bracket: u8) -> Option<(Place,
 pub(crate) struct Lexer<'a> {
     text: &'a str,
     at: usize,
-    place: Place,
+    place: LexPlace,
 }
 
 impl<'a> Model for Lexer<'a> {
@@ -252,7 +247,7 @@ impl<'a> Lexer<'a> {
         Lexer {
             text,
             at: spaces_end(text.as_bytes(), 0),
-            place: Place::Fresh,
+            place: LexPlace::Fresh,
         }
     }
 
@@ -311,7 +306,7 @@ impl<'a> Lexer<'a> {
         }
         match plain_key_at(self.text, self.at) {
             Some((key, at)) => {
-                self.place = Place::Fresh;
+                self.place = LexPlace::Fresh;
                 self.at = at;
                 Some(key)
             }
@@ -348,7 +343,7 @@ impl<'a> Lexer<'a> {
         }
         match open_at(self.text.as_bytes(), self.at, bracket) {
             Some(at) => {
-                self.place = Place::Fresh;
+                self.place = LexPlace::Fresh;
                 self.at = at;
                 true
             }
@@ -358,7 +353,7 @@ impl<'a> Lexer<'a> {
 
     /// Takes a value with nothing inside.
     #[inline(always)]
-    pub(crate) fn take_token(&mut self, alloc: Global) -> Result<Token<'a>, TextRefusal>
+    pub(crate) fn take_token(&mut self, alloc: Global) -> Result<JsonToken<'a>, TextRefusal>
         ensures { IfOk result (λ t. self.old ≡ token_of t ∷ self.new) }
     {
         if !self.place.is_open() {
@@ -384,7 +379,7 @@ impl<'a> Lexer<'a> {
         }
         match key_at(alloc, self.text, self.at) {
             Ok((key, at)) => {
-                self.place = Place::Fresh;
+                self.place = LexPlace::Fresh;
                 self.at = at;
                 Ok(key)
             }

@@ -5,7 +5,7 @@ ghost use Rattle.json.specs.Word.{head, after_digits, after_minus, after_sign, a
 ghost use Rattle.json_to_msgpack.specs.body.Lexing.{IsPart, IsWordAt, IsNaturalAt, token_of};
 
 use crate::scan::{digits_end, octet_at};
-use crate::token::Token;
+use crate::token::JsonToken;
 
 /// Where digits end, of which there is one at least.
 #[inline(always)]
@@ -129,14 +129,14 @@ pub(crate) fn natural_at(octets: &[u8], from: usize) -> Option<(u64, usize)>
 
 /// The number at a place.
 #[inline(always)]
-fn number_at<'a>(text: &'a str, at: usize) -> Option<(Token<'a>, usize)>
+fn number_at<'a>(text: &'a str, at: usize) -> Option<(JsonToken<'a>, usize)>
     requires { (at < length text.now) × (head (drop at text.now) < 102)
         × (class (head (drop at text.now)) ≡ other) }
     ensures { IfSome result (λ found. IsWordAt text.now at (token_of found.0) found.1) }
 {
     let octets = text.as_bytes();
     let end = number_end(octets, at)?;
-    Some((Token::Number(&octets[at..end]), end))
+    Some((JsonToken::Number(&octets[at..end]), end))
 }
 
 /// Whether three octets follow the one at a place.
@@ -150,16 +150,16 @@ fn has_behind(octets: &[u8], at: usize, b: u8, c: u8, d: u8) -> bool
 
 /// The word at a place, and where it ends, if what is behind it ends a word.
 #[inline(always)]
-pub(crate) fn word_at<'a>(text: &'a str, at: usize) -> Option<(Token<'a>, usize)>
+pub(crate) fn word_at<'a>(text: &'a str, at: usize) -> Option<(JsonToken<'a>, usize)>
     requires { at < length text.now }
     ensures { IfSome result (λ found. IsWordAt text.now at (token_of found.0) found.1) }
 {
     let octets = text.as_bytes();
     let rest = &octets[at..];
     match octets[at] {
-        b't' if has_behind(octets, at, b'r', b'u', b'e') => Some((Token::Flag(true), at + 4)),
-        b'f' if rest.starts_with(b"false") => Some((Token::Flag(false), at + 5)),
-        b'n' if has_behind(octets, at, b'u', b'l', b'l') => Some((Token::Null, at + 4)),
+        b't' if has_behind(octets, at, b'r', b'u', b'e') => Some((JsonToken::Flag(true), at + 4)),
+        b'f' if rest.starts_with(b"false") => Some((JsonToken::Flag(false), at + 5)),
+        b'n' if has_behind(octets, at, b'u', b'l', b'l') => Some((JsonToken::Null, at + 4)),
         b'-' => number_at(text, at),
         b'0'..=b'9' => number_at(text, at),
         _ => None,

@@ -1,7 +1,7 @@
 //! Tokens of a JSON text.
 /// A value with nothing inside.
 #[derive(Drop)]
-pub(crate) enum Token<'a> {
+pub(crate) enum JsonToken<'a> {
     Null,
     Flag(bool),
     /// A number, as it stands in the text.
@@ -12,7 +12,7 @@ pub(crate) enum Token<'a> {
 
 /// What may stand next, as commas and colons say.
 #[derive(Clone, Copy, Drop)]
-pub(crate) enum Place {
+pub(crate) enum LexPlace {
     /// A value, a key, or the bracket that closes.
     Fresh,
     /// The bracket that closes, or the end.

@@ -3,6 +3,7 @@ ghost use Rattle.std.specs.Prelude.{◌≡◌, ◌<◌, ◌^◌, ◌≤◌, ◌+
 ghost use Rattle.std.specs.Int.{w32, to_be_bytes};
 ghost use Rattle.message_tree.specs.Data.{fits_codecs};
 ghost use Rattle.msgpack_codec.specs.Short.{text_head, bytes_head, list_head, dict_head, whole_short, from_zero, below_zero};
+ghost use Rattle.json_to_msgpack.specs.body.Heads.{counted};
 
 use crate::refusal::TextRefusal;
 use std::alloc::Global;
@@ -201,32 +202,8 @@ pub(crate) fn close_list(
         out[head] = 0x90 + count as u8;
         Ok(())
     } else {
-        close_long_list(alloc, head, count, out)
+        close_counted(alloc, head, 0xdc, count, out)
     }
-}
-
-/// The same of 16 members or more, which are moved behind the longer head.
-#[inline(never)]
-#[tactic(auto, unfolding(msgpack_codec::specs::Short::list_head))]
-fn close_long_list(
-    alloc: Global,
-    head: usize,
-    count: u32,
-    out: &mut Vec<u8>,
-) -> Result<(), TextRefusal>
-    requires { (head < length out.old.items) × (16 ≤ count) }
-    ensures { OnOk result (out.new.items
-        ≡ take head out.old.items ++ (list_head count ++ drop (head + 1) out.old.items)) }
-{
-    let body = cut(alloc, head, out)?;
-    if count < 0x1_0000 {
-        put(0xdc, out)?;
-        put_all(&(count as u16).to_be_bytes(), out)?;
-    } else {
-        put(0xdd, out)?;
-        put_all(&count.to_be_bytes(), out)?;
-    }
-    put_all(&body, out)
 }
 
 /// Writes the head of a dictionary of so many members, which stand behind the octet at `head`, in
@@ -248,29 +225,30 @@ pub(crate) fn close_dict(
         out[head] = 0x80 + count as u8;
         Ok(())
     } else {
-        close_long_dict(alloc, head, count, out)
+        close_counted(alloc, head, 0xde, count, out)
     }
 }
 
-/// The same of 16 members or more, which are moved behind the longer head.
+/// Writes a count behind a mark, in two octets, or in four behind the next mark, in place of the octet at
+/// `head`. What stands behind it is moved.
 #[inline(never)]
-#[tactic(auto, unfolding(msgpack_codec::specs::Short::dict_head))]
-fn close_long_dict(
+fn close_counted(
     alloc: Global,
     head: usize,
+    mark: u8,
     count: u32,
     out: &mut Vec<u8>,
 ) -> Result<(), TextRefusal>
-    requires { (head < length out.old.items) × (16 ≤ count) }
+    requires { (head < length out.old.items) × (mark < 255) }
     ensures { OnOk result (out.new.items
-        ≡ take head out.old.items ++ (dict_head count ++ drop (head + 1) out.old.items)) }
+        ≡ take head out.old.items ++ (counted mark count ++ drop (head + 1) out.old.items)) }
 {
     let body = cut(alloc, head, out)?;
     if count < 0x1_0000 {
-        put(0xde, out)?;
+        put(mark, out)?;
         put_all(&(count as u16).to_be_bytes(), out)?;
     } else {
-        put(0xdf, out)?;
+        put(mark + 1, out)?;
         put_all(&count.to_be_bytes(), out)?;
     }
     put_all(&body, out)

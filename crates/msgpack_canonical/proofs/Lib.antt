@@ -10,5 +10,5 @@ pub mod Parts
 pub mod Kept
 pub mod Sizes
 pub mod Placing
-pub mod LeastEntries
-pub mod LeastOrder
+pub mod CanonicalEntries
+pub mod CanonicalOrder

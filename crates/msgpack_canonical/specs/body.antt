@@ -3,4 +3,4 @@ pub mod Fitting
 pub mod Kinds
 pub mod Entries
 pub mod Sorting
-pub mod LeastEntries
+pub mod CanonicalEntries

@@ -49,7 +49,7 @@ fn put_list_head(out: &mut Appender, count: u32) -> Result<(), AllocError>
 }
 
 /// The same, where there are fewer than 2^32 values; and whether there are.
-pub(crate) fn put_short_list_head(out: &mut Appender, count: u64) -> Result<bool, AllocError>
+pub(crate) fn put_fitting_list_head(out: &mut Appender, count: u64) -> Result<bool, AllocError>
     ensures fits { IfOk result (λ b. b ≡ nat_lt count (2 ^ 32)) }
     ensures ok { IfOk result (λ b. b ≡ true → out.new.since ≡ out.old.since ++ list_head count) }
     ensures before { out.new.before ≡ out.old.before }

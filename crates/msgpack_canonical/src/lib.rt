@@ -8,10 +8,10 @@
 //! octets are refused, for the same reasons as by `msgpack_codec::decode`.
 mod beginnings;
 mod canonical;
+mod canonical_entries;
 mod entries;
 mod heads;
 mod kinds;
-mod least;
 mod leaves;
 mod texts;
 mod writing;

@@ -7,10 +7,10 @@ ghost use Rattle.msgpack_codec.specs.body.Passing.{list_at};
 ghost use Rattle.msgpack_canonical.specs.body.Fitting.{IsPut, IsUnread};
 ghost use Rattle.msgpack_canonical.specs.body.Entries.{AreRead, IsEntryPut, IsNoEntry};
 
+use crate::canonical_entries::{canonical_entry, put_canonical_dict};
 use crate::entries::{EntryPlace, FEW, add_place, put_entries, put_in_order};
-use crate::heads::put_short_list_head;
+use crate::heads::put_fitting_list_head;
 use crate::kinds::{TokenKind, kind_of};
-use crate::least::{least_entry, put_least_dict};
 use crate::leaves::{put_leaf, put_text};
 use crate::texts::first_text;
 use message_tree::Appender;
@@ -88,7 +88,7 @@ fn put_list<'a>(
         (IsUnread (list_at (value_at room) count octets.entry.now))) }
     ensures before { out.new.before ≡ out.old.before }
 {
-    let mut is_written = put_short_list_head(out, count)?;
+    let mut is_written = put_fitting_list_head(out, count)?;
     let mut rest = octets;
     for _ in 0..count {
         let Some(put) = put_value(alloc, rest, room, out)? else {
@@ -156,7 +156,7 @@ fn put_entry<'a>(
         e.rest.now e.is_text written.items e.written.items)) }
     ensures none { IfOk result (λ o. IfNone o (IsNoEntry (value_at room) octets.entry.now)) }
 {
-    if let Some((entry, rest)) = least_entry(octets) {
+    if let Some((entry, rest)) = canonical_entry(octets) {
         let mut written = written;
         written.extend_from_slice(entry.octets)?;
         return Ok(Some(WrittenEntry {
@@ -253,7 +253,7 @@ fn put_dict<'a>(
         (IsUnread (dict_at (value_at room) count no_entries true octets.entry.now))) }
     ensures before { out.new.before ≡ out.old.before }
 {
-    match put_least_dict(alloc, octets, count, room, out)? {
+    match put_canonical_dict(alloc, octets, count, room, out)? {
         Some((rest, is_written)) => Ok(Some(Put { rest, is_written })),
         None => put_any_dict(alloc, octets, count, room, out),
     }

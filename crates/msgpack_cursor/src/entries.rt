@@ -59,7 +59,8 @@ pub(crate) struct CursorEntry<'a> {
 /// The key at the front and the value behind it; `None` where the key is no text, or one is missing.
 pub(crate) fn entry_at(octets: &[u8], room: u8) -> Option<CursorEntry<'_>>
     requires { room ≤ 100 }
-    ensures some { IfSome result (λ e. IsEntry (value_at room) octets.now e.key.now e.value e.rest.now) }
+    ensures some { IfSome result (λ e.
+        IsEntry (value_at room) octets.now e.key.now e.value e.rest.now) }
     ensures none { IfNone result (IsNoEntry (value_at room) octets.now) }
 {
     let Some((key, rest)) = first_text(octets) else {

@@ -31,7 +31,7 @@ use Rattle.outbox_queue.specs.contracts.ends.Consumer as Consumer
 use Rattle.outbox_queue.specs.contracts.ends.Consumer.TheInside as taking
 use Rattle.outbox_queue.specs.contracts.counted.Finds as Finds
 use Rattle.outbox_queue.specs.contracts.ends.Came as Came
-use Rattle.outbox_queue.specs.contracts.link.Link as Link
+use Rattle.outbox_queue.specs.contracts.link.EndsLink as EndsLink
 use Rattle.outbox_queue.specs.contracts.link.OneQueue as OneQueue
 use Rattle.outbox_queue.specs.contracts.link.OneQueueProtocolFarewellOptionWhose.TheImpl as one_queue
 use Rattle.outbox_queue.specs.contracts.link.Whose as Whose
@@ -103,14 +103,14 @@ module _ (T H : RattleType) (owed : Ghosts H.Denot T.Denot) where
   slot_sync : IsSend T → IsSend H → IsSync slot
   slot_sync t h = slotted.the_sync _ _ _ _ (turns.ghosts going known OneQueue.the_row (one_queue.ghosts T H owed one_queue.no_dict one_queue.no_dict) turns.no_dict) global.ghosts (option_send _ (farewell_send t h)) heap.send heap.sync heap.frees
 
-  link_send : IsSend T → IsSend H → IsSend (Link.the_row T H owed)
-  link_send t h = declared_send (Link.the_type T H owed) (search (crosses, sendable) depth 60, (as_row_send (row_field slot) (slot_send t h), tt))
+  link_send : IsSend T → IsSend H → IsSend (EndsLink.the_row T H owed)
+  link_send t h = declared_send (EndsLink.the_type T H owed) (search (crosses, sendable) depth 60, (as_row_send (row_field slot) (slot_send t h), tt))
 
-  link_sync : IsSend T → IsSend H → IsSync (Link.the_row T H owed)
-  link_sync t h = declared_sync (Link.the_type T H owed) (search (crosses, sendable) depth 60, (as_row_sync (row_field slot) (slot_sync t h), tt))
+  link_sync : IsSend T → IsSend H → IsSync (EndsLink.the_row T H owed)
+  link_sync t h = declared_sync (EndsLink.the_type T H owed) (search (crosses, sendable) depth 60, (as_row_sync (row_field slot) (slot_sync t h), tt))
 
-  shared_send : IsSend T → IsSend H → IsSend (as_row (Arc.the_field (Link.the_row T H owed) Global.the_row global.ghosts))
-  shared_send t h = as_row_send (Arc.the_field (Link.the_row T H owed) Global.the_row global.ghosts) (heap.Arc-send (Link.the_row T H owed) (link_send t h) (link_sync t h))
+  shared_send : IsSend T → IsSend H → IsSend (as_row (Arc.the_field (EndsLink.the_row T H owed) Global.the_row global.ghosts))
+  shared_send t h = as_row_send (Arc.the_field (EndsLink.the_row T H owed) Global.the_row global.ghosts) (heap.Arc-send (EndsLink.the_row T H owed) (link_send t h) (link_sync t h))
 
   pass_send : IsSend T → IsSend H → IsSend (as_row (Seat.the_field (Option.the_row going) (Doing.the_row going known)))
   pass_send t h = as_row_send (Seat.the_field (Option.the_row going) (Doing.the_row going known)) (seat.the_send (Option.the_row going) (Doing.the_row going known) (option_send going (farewell_send t h)))

@@ -15,7 +15,9 @@ ghost use Rattle.atomic_table.specs.Seated.{TableId};
 use crate::counted::{CountedPass, Finds};
 use crate::owed::{Owed, Stamped};
 use crate::parting::Farewell;
-use crate::rule::{Adds, Ends, InStep, OutboxView, Over, QueueNaming, Settles, Takes, Whole};
+use crate::rule::{
+    Adds, ComesOver, InStep, OutboxView, QueueNaming, Settles, Takes, TwoEnds, Whole,
+};
 use crossbeam_queue::{Pass, RuledArrayQueue};
 use ghost_state::GhostCount;
 use std::alloc::{AllocError, Global};
@@ -27,17 +29,17 @@ use std::sync::{Arc, Wait};
 pub type Queue<T, H> = RuledArrayQueue<Stamped<T, H>, OutboxView<T, H>, InStep>;
 
 /// What one end knows of the queue. It takes no bytes.
-pub type Place<T, H> = Pass<Stamped<T, H>, OutboxView<T, H>>;
+pub type QueuePass<T, H> = Pass<Stamped<T, H>, OutboxView<T, H>>;
 
 /// The same, with the end's count of finds.
-pub type CountedPlace<T, H> = CountedPass<Stamped<T, H>, OutboxView<T, H>>;
+pub type CountedQueuePass<T, H> = CountedPass<Stamped<T, H>, OutboxView<T, H>>;
 
 /// The end that adds. Contracts see what was added, by which history, how often the queue was found full, and how much had been
 /// added when it last was.
 #[derive(Drop)]
 pub struct Producer<T, H: Owed<T>> {
     queue: Arc<Queue<T, H>>,
-    place: CountedPlace<T, H>,
+    place: CountedQueuePass<T, H>,
     conn: u64,
     added: GhostCount,
     added_at_find: Snapshot<GhostCount>,
@@ -92,7 +94,7 @@ impl<T: Drop, H: Owed<T>> Producer<T, H> {
     }
 
     /// What it knows of the queue, and how often it found that full.
-    pub fn into_place(self) -> (Place<T, H>, Finds)
+    pub fn into_place(self) -> (QueuePass<T, H>, Finds)
         ensures queue { result.0.table_id ≡ self.queue }
         ensures free { result.0.me.1 ≡ [] }
         ensures view { shown result.0 ≡ adding self.conn self.chronicle self.history self.added }
@@ -164,7 +166,7 @@ pub struct Came<H> {
 pub struct Consumer<T, H: Owed<T>> {
     queue: Arc<Queue<T, H>>,
     // Also what the end that added knew, once it came over.
-    place: CountedPlace<T, H>,
+    place: CountedQueuePass<T, H>,
     conn: u64,
     came: Option<Came<H>>,
 }
@@ -284,7 +286,7 @@ impl<T: Drop, H: Owed<T>> Consumer<T, H> {
         end.shows();
         let (theirs, finds) = end.into_place();
         self.place
-            .absorb::<InStep, Over, Settles>(&self.queue, theirs);
+            .absorb::<InStep, ComesOver, Settles>(&self.queue, theirs);
         self.came = Some(Came { history, finds });
     }
 
@@ -304,9 +306,9 @@ impl<T: Drop, H: Owed<T>> Consumer<T, H> {
 /// chronicle.
 fn cut<T, H: Owed<T>, J: QueueNaming>(
     queue: &Queue<T, H>,
-    place: &mut Place<T, H>,
+    place: &mut QueuePass<T, H>,
     conn: u64,
-) -> Place<T, H>
+) -> QueuePass<T, H>
     requires queue { IsPassOf queue.now place.old }
     requires start { shown place.old ≡ start }
     requires conn { conn ≡ J.conn }
@@ -314,7 +316,7 @@ fn cut<T, H: Owed<T>, J: QueueNaming>(
     ensures ends { (shown place.new ≡ adding conn J.chronicle None [])
         × (shown result ≡ taking conn J.chronicle None []) }
 {
-    queue.another::<Ends<J>>(place)
+    queue.another::<TwoEnds<J>>(place)
 }
 
 /// The two ends of a new queue, through which nothing has gone. The caller picks the chronicle of its
@@ -371,8 +373,8 @@ pub fn new_ends<T: Drop, H: Owed<T>>(
 fn join_places<T: Drop, H: Owed<T>, R: Wait>(
     rt: &R,
     queue: &Queue<T, H>,
-    place: &mut Place<T, H>,
-    theirs: Place<T, H>,
+    place: &mut QueuePass<T, H>,
+    theirs: QueuePass<T, H>,
 )
     requires queue { IsPassOf queue.now place.old × IsPassOf queue.now theirs }
     requires adds { (shown place.old).adds ≡ true }
@@ -391,7 +393,7 @@ fn join_places<T: Drop, H: Owed<T>, R: Wait>(
 fn take_all<T: Drop, H: Owed<T>, R: Wait>(
     rt: &R,
     queue: &Queue<T, H>,
-    mut place: Place<T, H>,
+    mut place: QueuePass<T, H>,
     mut into: Vec<T>,
 ) -> Vec<T>
     requires queue { IsPassOf queue.now place }

@@ -87,7 +87,7 @@ impl<T, H: Owed<T>> Lesson<Farewell<T, H>, Option<Whose>> for Through {
 
 /// What the two ends share.
 #[derive(Drop)]
-pub struct Link<T, H: Owed<T>> {
+pub struct EndsLink<T, H: Owed<T>> {
     /// Nothing more is added.
     pub is_shut: AtomicBool,
     pub slot: Slot<T, H>,
@@ -109,19 +109,19 @@ fn pick<T: Drop, H: Owed<T>, J: Picking>(
     slot.another::<Picked<J>>(pass)
 }
 
-impl<T: Drop, H: Owed<T>> Link<T, H> {
+impl<T: Drop, H: Owed<T>> EndsLink<T, H> {
     /// What the two ends of the queue share of which this is one, and what each knows of the slot.
     pub fn new(
         alloc: Global,
         end: &Consumer<T, H>,
-    ) -> Result<(Link<T, H>, SlotPass<T, H>, SlotPass<T, H>), AllocError>
+    ) -> Result<(EndsLink<T, H>, SlotPass<T, H>, SlotPass<T, H>), AllocError>
         ensures slot { IfOk result (λ l. IsPassOf l.0.slot l.1 × IsPassOf l.0.slot l.2) }
         ensures known { IfOk result (λ l. (shown l.1 ≡ Some (whose_drain end.now))
             × (shown l.2 ≡ Some (whose_drain end.now))) }
     {
         let (slot, mut pass) = Slot::ruled(alloc, 1)?;
         let other = pick::<T, H, Brand>(&slot, &mut pass, end);
-        let link = Link {
+        let link = EndsLink {
             is_shut: AtomicBool::new(false),
             slot,
         };

@@ -7,7 +7,7 @@ ghost use Rattle.outbox_queue.specs.Ends.{Owes, IsOf, Vouches};
 ghost use Rattle.outbox_queue.specs.Slot.{whose_of};
 
 use crate::ends::Producer;
-use crate::link::{Link, SlotPass};
+use crate::link::{EndsLink, SlotPass};
 use crate::owed::{Owed, Stamped};
 use crate::parting::Farewell;
 use crossbeam_utils::sync::Unparker;
@@ -27,7 +27,7 @@ pub struct Full<S>(pub S);
 pub struct Outbox<T, H: Owed<T>> {
     end: Producer<T, H>,
     is_closed: bool,
-    link: Arc<Link<T, H>>,
+    link: Arc<EndsLink<T, H>>,
     pass: SlotPass<T, H>,
     waker: Unparker,
 }
@@ -56,7 +56,7 @@ impl<T, H: Owed<T>> Model for Outbox<T, H> {
 impl<T: Drop, H: Owed<T>> Outbox<T, H> {
     pub(crate) fn new(
         end: Producer<T, H>,
-        link: Arc<Link<T, H>>,
+        link: Arc<EndsLink<T, H>>,
         pass: SlotPass<T, H>,
         waker: Unparker,
     ) -> Outbox<T, H>

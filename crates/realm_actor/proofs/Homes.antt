@@ -8,11 +8,10 @@ use Rattle.outbox_queue.specs.Tied.{Kept}
 use Rattle.wamp_messages.specs.declared.item.Item.{Item}
 use Rattle.realm.specs.History.{History}
 use Rattle.atomic_table.specs.Seated.{TableId}
-use Rattle.std.specs.Prelude.{IfSome, option_to_list}
 use Rattle.realm_inbox.specs.declared.letter.Post.{Post}
 use Rattle.realm_inbox.specs.declared.letter.Post.TheVariants.{Act, Stop}
-use Rattle.realm_inbox.specs.Seats.{IsHomed, EachHomed}
-use Rattle.realm_actor.specs.ReceivedAhead.{AreHomed, IsAt}
+use Rattle.realm_inbox.specs.Seats.{IsHomed}
+use Rattle.realm_actor.specs.Run.{IsAt}
 use Rattle.realm_actor.specs.declared.row.Row.{Row}
 use Rattle.realm_actor.specs.OutboxHistory.{Box, Goes, IsHome}
 use Rattle.realm_actor.specs.Rows.{box_in, BoxGoes, RowGoes, EachGoes, RowHome, EachHome}
@@ -82,18 +81,6 @@ module _ {S : Type 0} (own : TableId) where
 
 -- of the posts of an inbox
 module _ {S : Type 0} where
-  pub homed_with : (home : Option TableId) (ps : List (Post S)) (p : Post S) → EachHomed home ps → IsHomed home p → EachHomed home (ps ++ p ∷ [])
-  homed_with home [] p all one = (one, tt)
-  homed_with home (x ∷ ps) p all one = (all.0, homed_with home ps p all.1 one)
-
-  pub homed_next : (home : Option TableId) (result : Option (Post S)) (mid later : List (Post S)) → mid ≡ option_to_list result ++ later → EachHomed home mid → AreHomed home result later
-  homed_next home None mid later is all = subst (λ l. EachHomed home l) is all
-  homed_next home (Some p) mid later is all = subst (λ l. EachHomed home l) is all
-
-  pub homed_given : (home : Option TableId) (result : Option (Post S)) (later : List (Post S)) → EachHomed home later → IfSome result (λ p. IsHomed home p) → AreHomed home result later
-  homed_given home None later all one = all
-  homed_given home (Some p) later all one = (one, all)
-
   -- what a Join of an inbox of this chronicle brings
   pub homed_at : (own : TableId) (home : Option TableId) (p : Post S) → IsAt own home → IsHomed home p → IsHomed (Some own) p
   homed_at own home (Act l) at homed = λ joining picked is brings. ap (λ k. Some k) (at picked (homed joining picked is brings))

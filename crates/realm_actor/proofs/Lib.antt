@@ -13,7 +13,6 @@ pub mod HandleLemmas
 pub mod RowRemoval
 pub mod TableInvariant
 pub mod StopLemmas
-pub mod ReceivedAhead
 pub mod RunLemmas
 pub mod RunHistory
 pub mod LiveThroughRun

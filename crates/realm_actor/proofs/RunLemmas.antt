@@ -7,12 +7,10 @@ use Rattle.realm_inbox.specs.declared.act.Act as the
 use Rattle.realm_inbox.specs.declared.letter.Post.{Post}
 use Rattle.realm_inbox.specs.declared.letter.Post.TheVariants.{Act, Stop}
 use Rattle.realm_inbox.specs.Seats.{seat_of_letter, said, adds_at, at_seat, IsNext, InOrder}
-use Rattle.realm_inbox.proofs.Lemmas.{at_seat_snoc}
+use Rattle.realm_inbox.proofs.Lemmas.{at_seat_snoc, in_order_snoc}
 use Rattle.realm_actor.specs.declared.outcome.Outcome.{Outcome}
 use Rattle.realm_actor.specs.ActorView.{Acting}
 use Rattle.realm_actor.specs.Settle.{Sweeps}
-use Rattle.realm_actor.specs.ReceivedAhead.{NoneBehindStop, TakesNext}
-use Rattle.realm_actor.proofs.ReceivedAhead.{in_order_append}
 use Rattle.realm_actor.specs.Run.{EndsInStop, Handles, Runs, none, one_more, Ran, left, stopped, is_stop, stands_at, IsNextOf, SameAtSeats}
 use Rattle.realm_actor.specs.HistoryGrowth.{said_of}
 
@@ -36,74 +34,55 @@ module _ {S : Type 0} where
       ∙ sym (at_seat_snoc k got p)
       ∙ ap (λ t. at_seat k t) (sym g)
 
-  -- from the actor `start`, where `front` was received: the actor now, what is received now, and what of that was received ahead
-  pub record Progress (start now : Acting S) (front got ahead : List (Post S)) : Type 0 where
+  -- from the actor `start`, where `front` was received: the actor now, and what is received now
+  pub record Progress (start now : Acting S) (front got : List (Post S)) : Type 0 where
     pub came : List (Post S)
     pub runs : Runs start came now
-    pub more : got ≡ front ++ (came ++ ahead)
-    pub same : SameAtSeats now.handled (front ++ came)
-    pub in_order : InOrder front (came ++ ahead)
-    pub last : NoneBehindStop ahead
+    pub more : got ≡ front ++ came
+    pub same : SameAtSeats now.handled got
+    pub in_order : InOrder front came
 
-  pub progress_none : (start : Acting S) (front ahead : List (Post S)) → SameAtSeats start.handled front → ahead ≡ [] → Progress start start front front ahead
-  progress_none start front ahead same is = subst (λ t. Progress start start front front t) (sym is) (record {
-    came = [];
-    runs = none;
-    more = sym (append-nil front);
-    same = subst (λ t. SameAtSeats start.handled t) (sym (append-nil front)) same;
-    in_order = tt;
-    last = tt;
-  })
+  pub progress_none : (start : Acting S) (front : List (Post S)) → SameAtSeats start.handled front → Progress start start front front
+  progress_none start front same = record { came = []; runs = none; more = sym (append-nil front); same = same; in_order = tt }
 
-  -- what came, what was ahead, and what the inbox gave besides
-  next_came : (came ahead more later : List (Post S)) (p : Post S) → ahead ++ more ≡ p ∷ later → (came ++ ahead) ++ more ≡ (came ++ p ∷ []) ++ later
-  next_came came ahead more later p is = append_assoc came ahead more ∙ ap (λ t. came ++ t) is ∙ sym (append_assoc came (p ∷ []) later)
+  module _ (start b : Acting S) (front got got' : List (Post S)) (p : Post S) (g : Progress start b front got) (given : got' ≡ got ++ p ∷ []) (next : IsNext got p) where
+    now_received : got' ≡ front ++ (g.came ++ p ∷ [])
+    now_received = given ∙ ap (λ x. x ++ p ∷ []) g.more ∙ append_assoc front g.came (p ∷ [])
 
-  module _ (start b : Acting S) (front got got' ahead later : List (Post S)) (p : Post S) (g : Progress start b front got ahead) (t : TakesNext got got' ahead later p) where
-    all_came : (g.came ++ ahead) ++ t.more ≡ (g.came ++ p ∷ []) ++ later
-    all_came = next_came g.came ahead t.more later p t.waited
+    now_in_order : InOrder front (g.came ++ p ∷ [])
+    now_in_order = in_order_snoc front g.came p g.in_order (subst (λ x. IsNext x p) g.more next)
 
-    pub now_received : got' ≡ front ++ ((g.came ++ p ∷ []) ++ later)
-    now_received = t.given ∙ ap (λ x. x ++ t.more) g.more ∙ append_assoc front (g.came ++ ahead) t.more ∙ ap (λ x. front ++ x) all_came
-
-    pub now_in_order : InOrder front ((g.came ++ p ∷ []) ++ later)
-    now_in_order = subst (λ x. InOrder front x) all_came (in_order_append front (g.came ++ ahead) t.more g.in_order (subst (λ x. InOrder x t.more) g.more t.in_turn))
-
-  pub progress_on : (start b c d : Acting S) (front got got' ahead later : List (Post S)) (result : Outcome) (p : Post S) → is_stop p ≡ false → Progress start b front got ahead → Sweeps b c
-      → TakesNext got got' ahead later p → Handles result p c d → Progress start d front got' later
-  progress_on start b c d front got got' ahead later result (Stop halt) other g s t handles = absurd (true≢false other)
-  progress_on start b c d front got got' ahead later result (Act l) other g s t handles = record {
+  pub progress_on : (start b c d : Acting S) (front got got' : List (Post S)) (result : Outcome) (p : Post S) → is_stop p ≡ false → Progress start b front got → Sweeps b c
+      → got' ≡ got ++ p ∷ [] → IsNext got p → Handles result p c d → Progress start d front got'
+  progress_on start b c d front got got' result (Stop halt) other g s given next handles = absurd (true≢false other)
+  progress_on start b c d front got got' result (Act l) other g s given next handles = record {
     came = g.came ++ Act l ∷ [];
     runs = one_more l g.runs s handles;
-    more = now_received start b front got got' ahead later (Act l) g t;
-    same = same_grown b.handled d.handled (front ++ g.came) (front ++ (g.came ++ Act l ∷ [])) (Act l) g.same (handles.handled ∙ ap (λ x. x ++ said l ∷ []) s.handled) (sym (append_assoc front g.came (Act l ∷ [])));
-    in_order = now_in_order start b front got got' ahead later (Act l) g t;
-    last = t.last g.last;
+    more = now_received start b front got got' (Act l) g given next;
+    same = same_grown b.handled d.handled got got' (Act l) g.same (handles.handled ∙ ap (λ x. x ++ said l ∷ []) s.handled) given;
+    in_order = now_in_order start b front got got' (Act l) g given next;
   }
 
   -- what a run promises
   abbrev pub Ends : Acting S → Acting S → List (Post S) → List (Post S) → Type 0
   Ends start now front got = (came : List (Post S)) × (got ≡ front ++ came) × InOrder front came × Ran start came now
 
-  pub ends_left : (start b c : Acting S) (front got got' ahead : List (Post S)) → Progress start b front got ahead → Sweeps b c → got' ≡ got → ahead ≡ [] → Ends start c front got'
-  ends_left start b c front got got' ahead g s is none_ahead =
-      let all : g.came ++ ahead ≡ g.came = ap (λ x. g.came ++ x) none_ahead ∙ append-nil g.came in
-      (g.came, is ∙ g.more ∙ ap (λ x. front ++ x) all, subst (λ x. InOrder front x) all g.in_order, left g.runs s)
+  pub ends_left : (start b c : Acting S) (front got got' : List (Post S)) → Progress start b front got → Sweeps b c → got' ≡ got → Ends start c front got'
+  ends_left start b c front got got' g s is = (g.came, is ∙ g.more, g.in_order, left g.runs s)
 
   -- and where its last post is a stop
   abbrev pub EndsByStop : Acting S → Acting S → List (Post S) → List (Post S) → Type 0
   EndsByStop start now front got = (ends : Ends start now front got) × EndsInStop ends.0
 
-  pub ends_stopped : (start b c d : Acting S) (front got got' ahead later : List (Post S)) (result : Outcome) (p : Post S) → is_stop p ≡ true → Progress start b front got ahead → Sweeps b c
-      → TakesNext got got' ahead later p → Handles result p c d → EndsByStop start d front got'
-  ends_stopped start b c d front got got' ahead later result (Act l) other g s t handles = absurd (true≢false (sym other))
-  ends_stopped start b c d front got got' ahead later result (Stop halt) other g s t handles =
-      let all : (g.came ++ Stop halt ∷ []) ++ later ≡ g.came ++ Stop halt ∷ [] = ap (λ x. (g.came ++ Stop halt ∷ []) ++ x) (t.last g.last) ∙ append-nil (g.came ++ Stop halt ∷ []) in (
-        (
-          g.came ++ Stop halt ∷ [],
-          now_received start b front got got' ahead later (Stop halt) g t ∙ ap (λ x. front ++ x) all,
-          subst (λ x. InOrder front x) all (now_in_order start b front got got' ahead later (Stop halt) g t),
-          stopped halt g.runs s handles,
-        ),
-        (g.came, halt, refl),
-      )
+  pub ends_stopped : (start b c d : Acting S) (front got got' : List (Post S)) (result : Outcome) (p : Post S) → is_stop p ≡ true → Progress start b front got → Sweeps b c
+      → got' ≡ got ++ p ∷ [] → IsNext got p → Handles result p c d → EndsByStop start d front got'
+  ends_stopped start b c d front got got' result (Act l) other g s given next handles = absurd (true≢false (sym other))
+  ends_stopped start b c d front got got' result (Stop halt) other g s given next handles = (
+    (
+      g.came ++ Stop halt ∷ [],
+      now_received start b front got got' (Stop halt) g given next,
+      now_in_order start b front got got' (Stop halt) g given next,
+      stopped halt g.runs s handles,
+    ),
+    (g.came, halt, refl),
+  )

@@ -9,6 +9,7 @@ use Rattle.realm.specs.History.{History, ◌▷◌}
 use Rattle.realm.specs.Sessions.{live, conn_of}
 use Rattle.realm.proofs.Lemmas.{clash, live-elsewhere}
 use Rattle.realm_actor.specs.declared.row.Row.{Row}
+use Rattle.realm_actor.specs.declared.state.ActorState.{ActorState}
 use Rattle.realm_actor.specs.declared.table.Table.{Table}
 use Rattle.realm_actor.specs.OutboxHistory.{Box}
 use Rattle.realm_actor.specs.Rows.{Rose, box_in, Each, NoneRose, Ascending}
@@ -20,7 +21,7 @@ use Rattle.realm_actor.specs.Settle.{EmptiesOne}
 use Rattle.outbox_queue.specs.Ends.{Taking}
 use Rattle.outbox_queue.specs.Tied.{Kept}
 use Rattle.wamp_messages.specs.declared.item.Item.{Item}
-use Rattle.realm_actor.specs.Invariant.{Knows}
+use Rattle.realm_actor.specs.Invariant.{KeepsRest, KeepsTable, Knows}
 use Rattle.realm_actor.proofs.RowPlaces.{same_place, below_or, one_place, beside, each_set, insert_all, pairs_set}
 use Rattle.realm_actor.proofs.MarkedRows.{unmarked_after}
 use Rattle.realm_actor.proofs.RowRemoval.{source}
@@ -36,6 +37,17 @@ full_before (Some o) (Some p) w n f =
     (omega (arith, more, same), false_from_ne_true o.is_closed (λ is. clash p.is_closed (w.shut is) f.1))
 
 module _ {S : Type 0} where
+  -- nothing changed
+  pub keeps_none : (t : Table S) → KeepsTable t t
+  keeps_none t = record { chronicle = refl; knows = λ k. k }
+
+  -- one change after another
+  pub keeps_on : {a b c : Table S} → KeepsTable a b → KeepsTable b c → KeepsTable a c
+  keeps_on first second = record { chronicle = second.chronicle ∙ first.chronicle; knows = λ k. second.knows (first.knows k) }
+
+  pub keeps_rest : {W : Type 0} → (s : ActorState S W) → KeepsRest s s
+  keeps_rest s = record { handled = refl; table = keeps_none s.table }
+
   -- where no row was found full, none is full that wasn't
   pub still_none : (olds news : List (Row S)) → EachWent olds news → NoneRose olds news → NoneFull olds → NoneFull news
   still_none olds news w none full k p e is =

@@ -7,6 +7,7 @@ use Rattle.ghost_state.specs.GhostList.{items_of}
 use Rattle.realm_inbox.specs.Seats.{said}
 use Rattle.realm_actor.specs.declared.row.Row.{Row}
 use Rattle.realm_actor.specs.declared.state.ActorState.{ActorState}
+use Rattle.realm_actor.specs.declared.table.Table.{Table}
 use Rattle.realm_actor.specs.Tables.{Standing}
 
 -- which chronicle the realm's history is told to, the history, the rows of its sessions, the words that were drawn, whom the last post found full, or cut, and the acts
@@ -36,6 +37,10 @@ module _ {S : Type 0} where
 abbrev pub acting : {S W : Type 0} → List ℕ → ActorState S W → Acting S
 acting words s = record { chronicle = s.table.chronicle.chronicle; history = s.table.realm; rows = s.table.rows.items; words = words; last_cut = s.last_cut.items; handled = map said (items_of s.handled) }
 
--- what the handling of a post works on, of the same fields
+-- what the handling of a post works on: of a table, where these words were drawn
+abbrev pub working_on : {S : Type 0} → List ℕ → Table S → Working S
+working_on words t = record { history = t.realm; rows = t.rows.items; words = words }
+
+-- the same of an actor's fields
 abbrev pub working : {S W : Type 0} → List ℕ → ActorState S W → Working S
-working words s = record { history = s.table.realm; rows = s.table.rows.items; words = words }
+working words s = working_on words s.table

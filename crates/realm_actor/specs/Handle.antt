@@ -94,6 +94,23 @@ module _ {S : Type 0} where
         → Accepted (record { history = old.history; rows = marked }) e drawn (standing_in new)
         → new.words ≡ (old.words ++ lost) ++ word ∷ drawn → Loses c act old new
 
+  -- the entry e enters, and then who is found full is cut; the words before, and those of the Cuts
+  abbrev pub TakesEntry : Entry → Working S → Working S → Type 0
+  TakesEntry e old new = (drawn : List ℕ) × Accepted (standing_in old) e drawn (standing_in new) × (new.words ≡ old.words ++ drawn)
+
+  -- the session of c is marked as lost and cut instead, and then who is found full; the words before, and those of the Cuts
+  abbrev pub CutsInstead : ℕ → Working S → Working S → Type 0
+  CutsInstead c old new =
+      (word : ℕ) × (drawn : List ℕ) × (e : Entry) × (marked : List (Row S))
+      × IsCutOf c word e
+      × EachMarked c old.rows marked
+      × Accepted (record (standing_in old) { rows = marked }) e drawn (standing_in new)
+      × (new.words ≡ old.words ++ word ∷ drawn)
+
+  -- an entry e of c, whose session is live, is taken in, by its outcome
+  abbrev pub TakesIn : Outcome → ℕ → Entry → Working S → Working S → Type 0
+  TakesIn result c e old new = MatchOutcome result (TakesEntry e old new) ⊥ (CutsInstead c old new)
+
   -- nothing changed
   abbrev pub Stays : Working S → Working S → Type 0
   Stays old new = (new.history ≡ old.history) × (new.rows ≡ old.rows) × (new.words ≡ old.words)

@@ -31,3 +31,17 @@ WasMade s = IsMade s.table.realm (map said (items_of s.handled))
 pub record Knows {S : Type 0} (t : Table S) : Type 0 where
   pub marks : t.has_marks ≡ false → NoMarks t.rows.items
   pub ended : t.has_ended ≡ false → Each (λ r. live t.realm r.conn ≡ true) t.rows.items
+
+-- a table's rows are in step with its history
+abbrev pub IsSound : {S : Type 0} → Table S → Type 0
+IsSound t = Sound t.realm t.rows.items
+
+-- what stays of a table while entries enter: the chronicle that its history is told to, and that its flags are right
+pub record KeepsTable {S : Type 0} (old new : Table S) : Type 0 where
+  pub chronicle : new.chronicle.chronicle ≡ old.chronicle.chronicle
+  pub knows : Knows old → Knows new
+
+-- what stays of an actor's fields while a post is handled: what was handled before it, and what stays of the table
+pub record KeepsRest {S W : Type 0} (old new : ActorState S W) : Type 0 where
+  pub handled : new.handled ≡ old.handled
+  pub table : KeepsTable old.table new.table

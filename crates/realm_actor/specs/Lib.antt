@@ -9,6 +9,5 @@ pub mod Invariant
 pub mod ActorView
 pub mod Settle
 pub mod HistoryGrowth
-pub mod ReceivedAhead
 pub mod Run
 pub mod PostedOrder

@@ -1,5 +1,6 @@
 -- What an actor does with a post, and in a run.
-use Rattle.std.specs.Prelude.{◌≡◌, ◌==◌, ◌⊎◌, ℕ, Bool, true, false, List, [], ◌∷◌, ◌++◌, filter, None, is_some}
+use Rattle.std.specs.Prelude.{◌≡◌, ◌==◌, ◌⊎◌, ℕ, Bool, true, false, List, [], ◌∷◌, ◌++◌, filter, Option, None, Some, is_some}
+use Rattle.atomic_table.specs.Seated.{TableId}
 use Rattle.realm.specs.History.{History}
 use Rattle.realm.specs.Sessions.{live}
 use Rattle.realm_inbox.specs.declared.letter.Halt.{Halt}
@@ -17,6 +18,10 @@ use Rattle.realm_actor.specs.Stop.{Stops}
 use Rattle.realm_actor.specs.Settle.{Sweeps}
 use Rattle.realm_actor.specs.LastCut.{outbox_of}
 use Rattle.realm_actor.specs.HistoryGrowth.{was_closed, said_of}
+
+-- where a chronicle is picked for an inbox, it is this one
+abbrev pub IsAt : TableId → Option TableId → Type 0
+IsAt own home = (picked : TableId) → home ≡ Some picked → own ≡ picked
 
 module _ {S : Type 0} where
   -- a post is dropped where its act is; a stop never is

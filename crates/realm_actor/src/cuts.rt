@@ -1,12 +1,13 @@
 //! Sessions that were found full are cut.
-ghost use Rattle.std.specs.Prelude.{◌≡◌, ◌<◌, true, false, [], ◌∷◌, ◌++◌, List, ℕ, MatchOption, OnOk, OnErr};
+ghost use Rattle.std.specs.Prelude.{◌≡◌, true, false, ◌++◌, List, ℕ, MatchOption, OnOk, OnErr};
 ghost use Rattle.realm.specs.History.{◌▷◌};
 ghost use Rattle.realm.specs.Sessions.{conn_of, live, may_come};
 ghost use Rattle.realm_actor.specs.Rows.{Ascending, box_in};
-ghost use Rattle.realm_actor.specs.Tables.{standing, EachMarked, EachWent, Ready, Sound};
-ghost use Rattle.realm_actor.specs.Cuts.{Accepted, Cuts, IsCutOf, IsFull, IsLeastFull, NoneFull};
-ghost use Rattle.realm_actor.specs.Invariant.{Knows};
-ghost use Rattle.realm_actor.specs.declared.row.Row.{Row as ARow};
+ghost use Rattle.realm_actor.specs.ActorView.{working_on};
+ghost use Rattle.realm_actor.specs.Handle.{CutsInstead, TakesEntry};
+ghost use Rattle.realm_actor.specs.Tables.{standing, EachMarked, EachWent, Ready};
+ghost use Rattle.realm_actor.specs.Cuts.{Cuts, IsCutOf, IsFull, IsLeastFull, NoneFull};
+ghost use Rattle.realm_actor.specs.Invariant.{IsSound, KeepsTable};
 ghost use Rattle.realm.specs.declared.entry.Entry.{Entry as AnEntry};
 ghost use Rattle.realm.specs.declared.entry.Entry.TheVariants.{Cut};
 
@@ -80,8 +81,7 @@ impl<S: Shut> Table<S> {
         requires { Ascending self.old.rows.items }
         ensures realm { self.new.realm ≡ self.old.realm }
         ensures rows { EachMarked conn self.old.rows.items self.new.rows.items }
-        ensures knows { Knows self.old → Knows self.new }
-        ensures chronicle { self.new.chronicle.chronicle ≡ self.old.chronicle.chronicle }
+        ensures keeps { KeepsTable self.old self.new }
     {
         self.has_marks = true;
         mark_in(&mut self.rows, conn);
@@ -89,14 +89,13 @@ impl<S: Shut> Table<S> {
 
     // A Cut of the session enters, and its items are added. It is silent only where memory is refused.
     fn cut<R: Wait>(&mut self, rt: &R, alloc: Global, conn: Conn, word: u64)
-        requires sound { Sound self.old.realm self.old.rows.items }
+        requires sound { IsSound self.old }
         requires live { live self.old.realm conn ≡ true }
         ensures history { (e : AnEntry) × IsCutOf conn word e
             × (self.new.realm ≡ self.old.realm ▷ e) }
         ensures rows { EachWent self.old.rows.items self.new.rows.items }
-        ensures sound { Sound self.new.realm self.new.rows.items }
-        ensures knows { Knows self.old → Knows self.new }
-        ensures chronicle { self.new.chronicle.chronicle ≡ self.old.chronicle.chronicle }
+        ensures sound { IsSound self.new }
+        ensures keeps { KeepsTable self.old self.new }
     {
         let told = Entry::Cut {
             conn,
@@ -109,13 +108,12 @@ impl<S: Shut> Table<S> {
 
     // A Cut without a word, which takes no memory.
     fn cut_silently<R: Wait>(&mut self, rt: &R, alloc: Global, conn: Conn)
-        requires sound { Sound self.old.realm self.old.rows.items }
+        requires sound { IsSound self.old }
         requires live { live self.old.realm conn ≡ true }
         ensures history { self.new.realm ≡ self.old.realm ▷ Cut conn None }
         ensures rows { EachWent self.old.rows.items self.new.rows.items }
-        ensures sound { Sound self.new.realm self.new.rows.items }
-        ensures knows { Knows self.old → Knows self.new }
-        ensures chronicle { self.new.chronicle.chronicle ≡ self.old.chronicle.chronicle }
+        ensures sound { IsSound self.new }
+        ensures keeps { KeepsTable self.old self.new }
     {
         let silent = Entry::Cut { conn, word: None };
         match self.enter(rt, alloc, silent, conn) {
@@ -127,13 +125,12 @@ impl<S: Shut> Table<S> {
     /// Cuts each live session that was found full, the least first, until there is none: also those that are found full by
     /// what the Cuts give.
     pub fn cut_full<W: IdSource, R: Wait>(&mut self, rt: &R, alloc: Global, words: &mut W)
-        requires { Sound self.old.realm self.old.rows.items }
+        requires { IsSound self.old }
         ensures cuts { (drawn : List ℕ) × Cuts (standing self.old) drawn (standing self.new)
             × (W.given words.new ≡ W.given words.old ++ drawn) }
         ensures none { NoneFull self.new.rows.items }
-        ensures sound { Sound self.new.realm self.new.rows.items }
-        ensures knows { Knows self.old → Knows self.new }
-        ensures chronicle { self.new.chronicle.chronicle ≡ self.old.chronicle.chronicle }
+        ensures sound { IsSound self.new }
+        ensures keeps { KeepsTable self.old self.new }
     {
         for _ in rt.forever() {
             let Some(conn) = least_full(self.rows.as_slice()) else {
@@ -154,14 +151,13 @@ impl<S: Shut> Table<S> {
         words: &mut W,
         is_full: bool,
     )
-        requires sound { Sound self.old.realm self.old.rows.items }
+        requires sound { IsSound self.old }
         requires none { is_full ≡ false → NoneFull self.old.rows.items }
         ensures cuts { (drawn : List ℕ) × Cuts (standing self.old) drawn (standing self.new)
             × (W.given words.new ≡ W.given words.old ++ drawn) }
         ensures none { NoneFull self.new.rows.items }
-        ensures sound { Sound self.new.realm self.new.rows.items }
-        ensures knows { Knows self.old → Knows self.new }
-        ensures chronicle { self.new.chronicle.chronicle ≡ self.old.chronicle.chronicle }
+        ensures sound { IsSound self.new }
+        ensures keeps { KeepsTable self.old self.new }
     {
         if is_full {
             self.cut_full(rt, alloc, words);
@@ -181,12 +177,10 @@ impl<S: Shut> Table<S> {
         requires none { NoneFull self.old.rows.items }
         requires comes { may_come self.old.realm entry ≡ true }
         requires own { conn_of entry ≡ conn }
-        ensures ok { OnOk result ((drawn : List ℕ)
-            × Accepted (standing self.old) entry drawn (standing self.new)
-            × (W.given words.new ≡ W.given words.old ++ drawn)) }
-        ensures sound { OnOk result (Sound self.new.realm self.new.rows.items) }
-        ensures knows { OnOk result (Knows self.old → Knows self.new) }
-        ensures chronicle { self.new.chronicle.chronicle ≡ self.old.chronicle.chronicle }
+        ensures ok { OnOk result (TakesEntry entry (working_on (W.given words.old) self.old)
+            (working_on (W.given words.new) self.new)) }
+        ensures sound { OnOk result (IsSound self.new) }
+        ensures keeps { KeepsTable self.old self.new }
         ensures err { OnErr result (self.new ≡ self.old) }
         ensures words { OnErr result (words.new ≡ words.old) }
     {
@@ -197,15 +191,12 @@ impl<S: Shut> Table<S> {
 
     /// The session is cut for want of memory, and then who was found full.
     pub fn lose<W: IdSource, R: Wait>(&mut self, rt: &R, alloc: Global, words: &mut W, conn: Conn)
-        requires sound { Sound self.old.realm self.old.rows.items }
+        requires sound { IsSound self.old }
         requires live { live self.old.realm conn ≡ true }
-        ensures lost { (word : ℕ) × (drawn : List ℕ) × (e : AnEntry) × (marked : List (ARow _))
-            × IsCutOf conn word e × EachMarked conn self.old.rows.items marked
-            × Accepted (record (standing self.old) { rows = marked }) e drawn (standing self.new)
-            × (W.given words.new ≡ W.given words.old ++ word ∷ drawn) }
-        ensures sound { Sound self.new.realm self.new.rows.items }
-        ensures knows { Knows self.old → Knows self.new }
-        ensures chronicle { self.new.chronicle.chronicle ≡ self.old.chronicle.chronicle }
+        ensures lost { CutsInstead conn (working_on (W.given words.old) self.old)
+            (working_on (W.given words.new) self.new) }
+        ensures sound { IsSound self.new }
+        ensures keeps { KeepsTable self.old self.new }
     {
         self.mark_lost(conn);
         let word = words.next_word();

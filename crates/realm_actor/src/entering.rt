@@ -1,15 +1,15 @@
 //! An entry enters: what it gives is added to the outboxes of the rows.
-ghost use Rattle.std.specs.Prelude.{◌≡◌, true, false, [], OnOk, OnErr, IfOk, IfErr, IsOk, List, Some, ℕ, ◌<◌, ◌≤◌, vec_len, vec_capacity};
+ghost use Rattle.std.specs.Prelude.{◌≡◌, ◌||◌, true, false, not, [], OnOk, OnErr, IfOk, IfErr, IsOk, List, Some, ℕ, ◌<◌, ◌≤◌, vec_len, vec_capacity};
 ghost use Rattle.std.specs.List.{insert};
 ghost use Rattle.chronicle.specs.Recorded.{Reaches};
 ghost use Rattle.realm.specs.History.{◌▷◌, Begins};
 ghost use Rattle.realm.specs.Words.{is_silent};
-ghost use Rattle.realm.specs.Sessions.{may_come, may_join, conn_of};
+ghost use Rattle.realm.specs.Sessions.{live, may_come, may_join, conn_of};
 ghost use Rattle.realm_actor.specs.declared.row.Row.{Row as ARow};
 ghost use Rattle.realm_actor.specs.Rows.{Ascending, EachDue, EachGoes, EachHome, NoneRose, RowHome};
-ghost use Rattle.realm_actor.specs.Tables.{EachEnds, EachWent, IsNewRow, Ready, Sound};
+ghost use Rattle.realm_actor.specs.Tables.{EachEnds, EachWent, IsNewRow, Ready};
 ghost use Rattle.realm_actor.specs.Cuts.{NoneFull};
-ghost use Rattle.realm_actor.specs.Invariant.{Knows};
+ghost use Rattle.realm_actor.specs.Invariant.{IsSound, KeepsTable};
 
 use crate::delivery::{either, offer_all};
 use crate::row::Row;
@@ -89,31 +89,16 @@ impl<S: Shut> Table<S> {
         requires own { conn_of entry ≡ conn }
         ensures history { OnOk result (self.new.realm ≡ self.old.realm ▷ entry) }
         ensures rows { OnOk result (EachWent self.old.rows.items self.new.rows.items) }
-        ensures sound { OnOk result (Sound self.new.realm self.new.rows.items) }
+        ensures sound { OnOk result (IsSound self.new) }
         ensures none { IfOk result (λ is_full. is_full ≡ false → NoneFull self.old.rows.items
             → NoneFull self.new.rows.items) }
-        ensures knows { OnOk result (Knows self.old → Knows self.new) }
         ensures err { OnErr result (self.new ≡ self.old) }
-        ensures chronicle { self.new.chronicle.chronicle ≡ self.old.chronicle.chronicle }
+        ensures keeps { KeepsTable self.old self.new }
         ensures silent { is_silent entry ≡ true → IsOk result }
     {
-        let mut given = self.realm.apply(alloc, entry)?;
+        let given = self.realm.apply(alloc, entry)?;
         tell(&mut self.chronicle, &self.realm);
-        let is_live = self.realm.is_live(conn);
-        let is_full = deliver(
-            rt,
-            &mut self.rows,
-            &mut self.guesses,
-            &mut given,
-            &self.realm,
-            &mut self.chronicle,
-            conn,
-            is_live,
-        );
-        self.realm.give_back(given);
-        self.has_marks = either(self.has_marks, is_full);
-        self.has_ended = either(self.has_ended, !is_live);
-        Ok(is_full)
+        Ok(self.hand_out(rt, given, conn))
     }
 
     /// The Join enters with the row of its connection, and what it gives is added. True where an outbox was found full. Where
@@ -126,7 +111,7 @@ impl<S: Shut> Table<S> {
         conn: Conn,
         row: Row<S>,
     ) -> Result<bool, Row<S>>
-        requires sound { Sound self.old.realm self.old.rows.items }
+        requires sound { IsSound self.old }
         requires may { may_join self.old.realm conn ≡ true }
         requires comes { may_come self.old.realm entry ≡ true }
         requires own { conn_of entry ≡ conn }
@@ -136,21 +121,38 @@ impl<S: Shut> Table<S> {
         ensures history { OnOk result (self.new.realm ≡ self.old.realm ▷ entry) }
         ensures rows { OnOk result ((place : ℕ)
             × EachWent (insert self.old.rows.items place row) self.new.rows.items) }
-        ensures sound { OnOk result (Sound self.new.realm self.new.rows.items) }
+        ensures sound { OnOk result (IsSound self.new) }
         ensures none { IfOk result (λ is_full. is_full ≡ false → NoneFull self.old.rows.items
             → NoneFull self.new.rows.items) }
-        ensures knows { OnOk result (Knows self.old → Knows self.new) }
         ensures err { OnErr result (self.new ≡ self.old) }
-        ensures chronicle { self.new.chronicle.chronicle ≡ self.old.chronicle.chronicle }
+        ensures keeps { KeepsTable self.old self.new }
         ensures back { IfErr result (λ r. r ≡ row) }
     {
-        let Ok(mut given) = self.realm.apply(alloc, entry) else {
+        let Ok(given) = self.realm.apply(alloc, entry) else {
             return Err(row);
         };
         tell(&mut self.chronicle, &self.realm);
-        let is_live = self.realm.is_live(conn);
         let place = place_in(self.rows.as_slice(), conn);
         put(&mut self.rows, place, row);
+        Ok(self.hand_out(rt, given, conn))
+    }
+
+    // Adds what an entry of the connection gave, closes its outbox where its session isn't live any more, and notes both. True
+    // where an outbox was found full.
+    fn hand_out<R: Wait>(&mut self, rt: &R, mut given: Vec<(Conn, Item)>, conn: Conn) -> bool
+        requires ascending { Ascending self.old.rows.items }
+        requires due { EachDue self.old.realm given.items self.old.rows.items }
+        ensures rows { (mid : List (ARow _)) × EachGoes self.old.rows.items mid
+            × EachDue self.old.realm [] mid
+            × EachEnds conn (live self.old.realm conn) mid self.new.rows.items }
+        ensures none { result ≡ false → NoneRose self.old.rows.items self.new.rows.items }
+        ensures realm { self.new.realm ≡ self.old.realm }
+        ensures chronicle { self.new.chronicle.chronicle ≡ self.old.chronicle.chronicle }
+        ensures marks { self.new.has_marks ≡ self.old.has_marks || result }
+        ensures ended { self.new.has_ended ≡ self.old.has_ended
+            || not (live self.old.realm conn) }
+    {
+        let is_live = self.realm.is_live(conn);
         let is_full = deliver(
             rt,
             &mut self.rows,
@@ -164,7 +166,7 @@ impl<S: Shut> Table<S> {
         self.realm.give_back(given);
         self.has_marks = either(self.has_marks, is_full);
         self.has_ended = either(self.has_ended, !is_live);
-        Ok(is_full)
+        is_full
     }
 }
 

@@ -5,8 +5,7 @@ ghost use Rattle.realm_inbox.specs.declared.act.Act.TheVariants.{Join as AJoin};
 ghost use Rattle.realm_inbox.specs.Joins.{is_join};
 ghost use Rattle.realm_actor.specs.declared.outcome.Outcome.TheVariants.{Dropped};
 ghost use Rattle.realm_actor.specs.OutboxHistory.{IsHome};
-ghost use Rattle.realm_actor.specs.Tables.{Sound};
-ghost use Rattle.realm_actor.specs.Invariant.{IsRoomy, Knows};
+ghost use Rattle.realm_actor.specs.Invariant.{IsRoomy, IsSound, KeepsRest};
 ghost use Rattle.realm_actor.specs.ActorView.{working};
 ghost use Rattle.realm_actor.specs.Cuts.{NoneFull};
 ghost use Rattle.realm_actor.specs.Handle.{Acts, EntersAs, is_dropped};
@@ -62,7 +61,7 @@ impl<S: Shut, W: IdSource> ActorState<S, W> {
         act: Act<S>,
     ) -> Outcome
         requires other { is_join act ≡ false }
-        requires sound { Sound self.old.table.realm self.old.table.rows.items }
+        requires sound { IsSound self.old.table }
         requires none { NoneFull self.old.table.rows.items }
         ensures outcome { Acts result conn act (working (W.given self.old.words) self.old)
             (working (W.given self.new.words) self.new) }
@@ -70,11 +69,8 @@ impl<S: Shut, W: IdSource> ActorState<S, W> {
         ensures exact { is_dropped self.old.table.realm conn act ≡ true → result ≡ Dropped }
         ensures last_cut { self.new.last_cut ≡ self.old.last_cut }
         ensures room { IsRoomy self.old → IsRoomy self.new }
-        ensures handled { self.new.handled ≡ self.old.handled }
-        ensures chronicle { self.new.table.chronicle.chronicle
-            ≡ self.old.table.chronicle.chronicle }
-        ensures sound { Sound self.new.table.realm self.new.table.rows.items }
-        ensures knows { Knows self.old.table → Knows self.new.table }
+        ensures sound { IsSound self.new.table }
+        ensures keeps { KeepsRest self.old self.new }
     {
         if !self.table.realm.is_live(conn) {
             return Outcome::Dropped;
@@ -91,7 +87,7 @@ impl<S: Shut, W: IdSource> ActorState<S, W> {
         conn: Conn,
         joining: Joining<S>,
     ) -> Outcome
-        requires sound { Sound self.old.table.realm self.old.table.rows.items }
+        requires sound { IsSound self.old.table }
         requires none { NoneFull self.old.table.rows.items }
         requires own { joining.outbox.conn ≡ conn }
         requires home { IsHome self.old.table.chronicle.chronicle joining.outbox }
@@ -102,11 +98,8 @@ impl<S: Shut, W: IdSource> ActorState<S, W> {
         ensures exact { may_join self.old.table.realm conn ≡ false → result ≡ Dropped }
         ensures last_cut { self.new.last_cut.items ≡ self.old.last_cut.items }
         ensures room { IsRoomy self.old → IsRoomy self.new }
-        ensures handled { self.new.handled ≡ self.old.handled }
-        ensures chronicle { self.new.table.chronicle.chronicle
-            ≡ self.old.table.chronicle.chronicle }
-        ensures sound { Sound self.new.table.realm self.new.table.rows.items }
-        ensures knows { Knows self.old.table → Knows self.new.table }
+        ensures sound { IsSound self.new.table }
+        ensures keeps { KeepsRest self.old self.new }
     {
         let Joining {
             authid,
@@ -142,10 +135,7 @@ impl<S: Shut, W: IdSource> ActorState<S, W> {
         ensures realm { self.new.table.realm ≡ self.old.table.realm }
         ensures rows { self.new.table.rows.items ≡ self.old.table.rows.items }
         ensures words { self.new.words ≡ self.old.words }
-        ensures handled { self.new.handled ≡ self.old.handled }
-        ensures chronicle { self.new.table.chronicle.chronicle
-            ≡ self.old.table.chronicle.chronicle }
-        ensures knows { Knows self.old.table → Knows self.new.table }
+        ensures keeps { KeepsRest self.old self.new }
         ensures last_cut { self.new.last_cut.items ≡ self.old.last_cut.items }
         ensures row { OnOk result (vec_len self.new.table.rows < vec_capacity self.new.table.rows) }
         ensures room { OnOk result (length self.new.table.rows.items + 1 ≤ vec_capacity

@@ -1,12 +1,11 @@
 //! A post is handled.
 ghost use Rattle.std.specs.Prelude.{◌≡◌, Some, true};
 ghost use Rattle.realm_actor.specs.declared.outcome.Outcome.TheVariants.{Dropped};
-ghost use Rattle.realm_actor.specs.Tables.{Sound};
 ghost use Rattle.realm_actor.specs.Cuts.{NoneFull};
 ghost use Rattle.realm_actor.specs.Handle.{is_dropped, Acts, Does};
 ghost use Rattle.realm_actor.specs.ActorView.{acting, working};
 ghost use Rattle.realm_actor.specs.Run.{Handles};
-ghost use Rattle.realm_actor.specs.Invariant.{IsRoomy, Knows, Stands};
+ghost use Rattle.realm_actor.specs.Invariant.{IsRoomy, IsSound, KeepsRest, KeepsTable, Knows, Stands};
 ghost use Rattle.realm_inbox.specs.Seats.{conn_of_letter, act_of_letter, BringsHome, IsHomed};
 
 use crate::id_source::IdSource;
@@ -23,7 +22,7 @@ use wamp_ids::Conn;
 impl<S: Shut, W: IdSource> ActorState<S, W> {
     // An act of a connection enters the history, or it is dropped, or for want of memory the session is cut.
     fn act<R: Wait>(&mut self, rt: &R, alloc: Global, letter: Letter<S>) -> Outcome
-        requires sound { Sound self.old.table.realm self.old.table.rows.items }
+        requires sound { IsSound self.old.table }
         requires none { NoneFull self.old.table.rows.items }
         requires home { BringsHome (Some self.old.table.chronicle.chronicle)
             (act_of_letter letter) }
@@ -33,13 +32,10 @@ impl<S: Shut, W: IdSource> ActorState<S, W> {
         ensures same { result ≡ Dropped → self.new ≡ self.old }
         ensures exact { is_dropped self.old.table.realm (conn_of_letter letter)
             (act_of_letter letter) ≡ true → result ≡ Dropped }
-        ensures sound { Sound self.new.table.realm self.new.table.rows.items }
-        ensures knows { Knows self.old.table → Knows self.new.table }
+        ensures sound { IsSound self.new.table }
         ensures last_cut { self.new.last_cut.items ≡ self.old.last_cut.items }
-        ensures handled { self.new.handled ≡ self.old.handled }
-        ensures chronicle { self.new.table.chronicle.chronicle
-            ≡ self.old.table.chronicle.chronicle }
         ensures room { IsRoomy self.old → IsRoomy self.new }
+        ensures keeps { KeepsRest self.old self.new }
     {
         let (conn, act, _weight) = letter.into_parts();
         match act {
@@ -59,12 +55,9 @@ impl<S: Shut, W: IdSource> ActorState<S, W> {
             (working (W.given self.new.words) self.new) self.new.last_cut.items }
         ensures exact { is_dropped self.old.table.realm (conn_of_letter letter)
             (act_of_letter letter) ≡ true → result ≡ Dropped }
-        ensures handled { self.new.handled ≡ self.old.handled }
-        ensures chronicle { self.new.table.chronicle.chronicle
-            ≡ self.old.table.chronicle.chronicle }
         ensures stands { Stands self.new.table.realm self.new.table.rows.items }
-        ensures knows { Knows self.new.table }
         ensures room { IsRoomy self.new }
+        ensures keeps { KeepsRest self.old self.new }
     {
         self.last_cut.clear();
         let outcome = self.act(rt, alloc, letter);
@@ -86,10 +79,8 @@ impl<S: Shut, W: IdSource> ActorState<S, W> {
         ensures handles { Handles result post (acting (W.given self.old.words) self.old)
             (acting (W.given self.new.words) self.new) }
         ensures stands { Stands self.new.table.realm self.new.table.rows.items }
-        ensures knows { Knows self.new.table }
         ensures room { IsRoomy self.new }
-        ensures chronicle { self.new.table.chronicle.chronicle
-            ≡ self.old.table.chronicle.chronicle }
+        ensures keeps { KeepsTable self.old.table self.new.table }
     {
         match post {
             Post::Act(letter) => {

@@ -2,7 +2,7 @@
 ghost use Rattle.std.specs.Prelude.{◌≡◌, ◌≤◌, ◌<◌, [], ◌∷◌, ◌++◌, cond, length, vec_capacity};
 ghost use Rattle.realm_actor.specs.Handle.{EachUnmarked, Unmarked};
 ghost use Rattle.realm_actor.specs.LastCut.{is_named, named_conns};
-ghost use Rattle.realm_actor.specs.Invariant.{Knows};
+ghost use Rattle.realm_actor.specs.Invariant.{KeepsTable, Knows};
 
 use crate::row::Row;
 use crate::table::Table;
@@ -69,9 +69,8 @@ impl<S: Shut> Table<S> {
         requires empty { last_cut.old.items ≡ [] }
         ensures named { last_cut.new.items ≡ named_conns self.old.rows.items }
         ensures realm { self.new.realm ≡ self.old.realm }
-        ensures chronicle { self.new.chronicle.chronicle ≡ self.old.chronicle.chronicle }
         ensures rows { EachUnmarked self.old.rows.items self.new.rows.items }
-        ensures knows { Knows self.new }
+        ensures keeps { KeepsTable self.old self.new }
         ensures capacity { vec_capacity last_cut.new ≡ vec_capacity last_cut.old }
     {
         if !self.has_marks {

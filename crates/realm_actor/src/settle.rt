@@ -7,7 +7,7 @@ ghost use Rattle.realm_actor.specs.Rows.{Ascending, EachHome, RowDue, RowHome, b
 ghost use Rattle.realm_actor.specs.Tables.{Sound, has_joined};
 ghost use Rattle.realm_actor.specs.LastCut.{outbox_of};
 ghost use Rattle.realm_actor.specs.Settle.{EachParted, Emptied, EmptiesOne, IsOther, Parted};
-ghost use Rattle.realm_actor.specs.Invariant.{IsRoomy, Knows, Stands};
+ghost use Rattle.realm_actor.specs.Invariant.{IsSound, KeepsRest, Knows};
 
 use crate::id_source::IdSource;
 use crate::row::{HeldOutbox, Row};
@@ -121,29 +121,23 @@ impl<S: Shut, W: IdSource> ActorState<S, W> {
         ensures err { IfErr result (λ back. (self.new.table.rows.items ≡ self.old.table.rows.items)
             × (back.1 ≡ drain)) }
         ensures realm { self.new.table.realm ≡ self.old.table.realm }
-        ensures chronicle { self.new.table.chronicle.chronicle
-            ≡ self.old.table.chronicle.chronicle }
-        ensures knows { Knows self.old.table → Knows self.new.table }
         ensures words { self.new.words ≡ self.old.words }
         ensures last_cut { self.new.last_cut ≡ self.old.last_cut }
-        ensures handled { self.new.handled ≡ self.old.handled }
+        ensures keeps { KeepsRest self.old self.new }
     {
         settle_row(rt, alloc, &mut self.table.rows, drain)
     }
 
     /// Forgets each session that isn't live. Its outbox is handed over to its writer, if it is held.
     pub fn sweep(&mut self)
-        requires sound { Sound self.old.table.realm self.old.table.rows.items }
+        requires sound { IsSound self.old.table }
         requires knows { Knows self.old.table }
         ensures rows { self.new.table.rows.items ≡ filter (λ r. live self.old.table.realm r.conn)
             self.old.table.rows.items }
         ensures realm { self.new.table.realm ≡ self.old.table.realm }
-        ensures chronicle { self.new.table.chronicle.chronicle
-            ≡ self.old.table.chronicle.chronicle }
-        ensures knows { Knows self.old.table → Knows self.new.table }
         ensures words { self.new.words ≡ self.old.words }
         ensures last_cut { self.new.last_cut ≡ self.old.last_cut }
-        ensures handled { self.new.handled ≡ self.old.handled }
+        ensures keeps { KeepsRest self.old self.new }
     {
         let Table {
             realm,

@@ -1,14 +1,12 @@
 //! What an actor keeps.
-ghost use Rattle.std.specs.Prelude.{◌≡◌, [], ◌∷◌, ◌++◌, true, false, List, ℕ, None};
+ghost use Rattle.std.specs.Prelude.{◌≡◌, [], true, None};
 ghost use Rattle.realm.specs.Publications.{is_retained_full};
 ghost use Rattle.realm.specs.Sessions.{conn_of, live, may_come};
-ghost use Rattle.realm.specs.declared.entry.Entry.{Entry as AnEntry};
 ghost use Rattle.ghost_state.specs.GhostList.{items_of};
-ghost use Rattle.realm_actor.specs.declared.row.Row.{Row as ARow};
-ghost use Rattle.realm_actor.specs.Tables.{standing, EachMarked, Sound};
-ghost use Rattle.realm_actor.specs.Cuts.{Accepted, IsCutOf, NoneFull};
-ghost use Rattle.realm_actor.specs.Handle.{MatchOutcome};
-ghost use Rattle.realm_actor.specs.Invariant.{Knows};
+ghost use Rattle.realm_actor.specs.ActorView.{working};
+ghost use Rattle.realm_actor.specs.Cuts.{NoneFull};
+ghost use Rattle.realm_actor.specs.Handle.{TakesIn};
+ghost use Rattle.realm_actor.specs.Invariant.{IsSound, KeepsRest, Knows};
 
 use crate::delivery::wake_all;
 use crate::entering::tell;
@@ -99,27 +97,16 @@ impl<S: Shut, W: IdSource> ActorState<S, W> {
         entry: Entry,
         conn: Conn,
     ) -> Outcome
-        requires sound { Sound self.old.table.realm self.old.table.rows.items }
+        requires sound { IsSound self.old.table }
         requires none { NoneFull self.old.table.rows.items }
         requires own { conn_of entry ≡ conn }
         requires comes { may_come self.old.table.realm entry ≡ true }
         requires live { live self.old.table.realm conn ≡ true }
-        ensures outcome { MatchOutcome result
-            ((drawn : List ℕ)
-            × Accepted (standing self.old.table) entry drawn (standing self.new.table)
-            × (W.given self.new.words ≡ W.given self.old.words ++ drawn))
-            ⊥
-            ((word : ℕ) × (drawn : List ℕ) × (e : AnEntry) × (marked : List (ARow _))
-            × IsCutOf conn word e × EachMarked conn self.old.table.rows.items marked
-            × Accepted (record (standing self.old.table) { rows = marked }) e drawn
-            (standing self.new.table)
-            × (W.given self.new.words ≡ W.given self.old.words ++ word ∷ drawn)) }
+        ensures outcome { TakesIn result conn entry (working (W.given self.old.words) self.old)
+            (working (W.given self.new.words) self.new) }
         ensures last_cut { self.new.last_cut ≡ self.old.last_cut }
-        ensures handled { self.new.handled ≡ self.old.handled }
-        ensures chronicle { self.new.table.chronicle.chronicle
-            ≡ self.old.table.chronicle.chronicle }
-        ensures sound { Sound self.new.table.realm self.new.table.rows.items }
-        ensures knows { Knows self.old.table → Knows self.new.table }
+        ensures sound { IsSound self.new.table }
+        ensures keeps { KeepsRest self.old self.new }
     {
         let ActorState { table, words, .. } = self;
         match table.accept(rt, alloc, words, entry, conn) {

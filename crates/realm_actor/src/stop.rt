@@ -1,10 +1,10 @@
 //! A stop closes each live session.
 ghost use Rattle.std.specs.Prelude.{◌≡◌, ◌&&◌, ◌++◌, ◌<◌, List, ℕ, length};
 ghost use Rattle.realm_actor.specs.ActorView.{working};
-ghost use Rattle.realm_actor.specs.Tables.{standing, Sound};
+ghost use Rattle.realm_actor.specs.Tables.{standing};
 ghost use Rattle.realm_actor.specs.Cuts.{NoneFull};
 ghost use Rattle.realm_actor.specs.Stop.{Closes, ClosesOne, Stops, is_nil};
-ghost use Rattle.realm_actor.specs.Invariant.{IsRoomy, Knows, Stands};
+ghost use Rattle.realm_actor.specs.Invariant.{IsRoomy, IsSound, KeepsRest, KeepsTable, Knows, Stands};
 
 use crate::id_source::IdSource;
 use crate::outcome::Outcome;
@@ -24,17 +24,16 @@ impl<S: Shut> Table<S> {
         words: &mut W,
         place: usize,
     ) -> bool
-        requires sound { Sound self.old.realm self.old.rows.items }
+        requires sound { IsSound self.old }
         requires none { NoneFull self.old.rows.items }
         requires inside { place < length self.old.rows.items }
         ensures closes { (drawn : List ℕ) × (lost : List ℕ)
             × ClosesOne place (standing self.old) drawn lost (standing self.new)
             × (W.given words.new ≡ W.given words.old ++ drawn)
             × (result ≡ is_nil lost) }
-        ensures sound { Sound self.new.realm self.new.rows.items }
+        ensures sound { IsSound self.new }
         ensures none { NoneFull self.new.rows.items }
-        ensures knows { Knows self.old → Knows self.new }
-        ensures chronicle { self.new.chronicle.chronicle ≡ self.old.chronicle.chronicle }
+        ensures keeps { KeepsTable self.old self.new }
     {
         let conn = self.rows[place].conn;
         if !self.realm.is_live(conn) {
@@ -52,16 +51,15 @@ impl<S: Shut> Table<S> {
 
     // Closes each live session, ascending. False where one was cut for want of memory.
     fn close_all<W: IdSource, R: Wait>(&mut self, rt: &R, alloc: Global, words: &mut W) -> bool
-        requires sound { Sound self.old.realm self.old.rows.items }
+        requires sound { IsSound self.old }
         requires none { NoneFull self.old.rows.items }
         ensures closes { (drawn : List ℕ) × (lost : List ℕ)
             × Closes (standing self.old) (length self.old.rows.items) drawn lost
             (standing self.new) × (W.given words.new ≡ W.given words.old ++ drawn)
             × (result ≡ is_nil lost) }
-        ensures sound { Sound self.new.realm self.new.rows.items }
+        ensures sound { IsSound self.new }
         ensures none { NoneFull self.new.rows.items }
-        ensures knows { Knows self.old → Knows self.new }
-        ensures chronicle { self.new.chronicle.chronicle ≡ self.old.chronicle.chronicle }
+        ensures keeps { KeepsTable self.old self.new }
     {
         let mut all_closed = true;
         for place in 0..self.rows.len() {
@@ -86,12 +84,9 @@ impl<S: Shut, W: IdSource> ActorState<S, W> {
         requires room { IsRoomy self.old }
         ensures stops { Stops result (working (W.given self.old.words) self.old)
             (working (W.given self.new.words) self.new) self.new.last_cut.items }
-        ensures handled { self.new.handled ≡ self.old.handled }
-        ensures chronicle { self.new.table.chronicle.chronicle
-            ≡ self.old.table.chronicle.chronicle }
         ensures stands { Stands self.new.table.realm self.new.table.rows.items }
-        ensures knows { Knows self.new.table }
         ensures room { IsRoomy self.new }
+        ensures keeps { KeepsRest self.old self.new }
     {
         self.last_cut.clear();
         let ActorState {

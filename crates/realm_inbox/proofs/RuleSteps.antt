@@ -70,11 +70,11 @@ module _ {S : Type 0} where
   adds_elsewhere : (k : ℕ) (l : Letter S) → seat_of l.conn ≢ k → adds_at k (Act l) ≡ []
   adds_elsewhere k l n = ap (λ b. cond b (said l ∷ []) []) (ne_eqb (seat_of l.conn) k n)
 
-  in_order_snoc : (front ps : List (Post S)) (p : Post S) → InOrder front ps → IsNext (front ++ ps) p → InOrder front (ps ++ p ∷ [])
+  pub in_order_snoc : (front ps : List (Post S)) (p : Post S) → InOrder front ps → IsNext (front ++ ps) p → InOrder front (ps ++ p ∷ [])
   in_order_snoc front [] p o h = (subst (λ t. IsNext t p) (append-nil front) h, tt)
   in_order_snoc front (x ∷ ps) p o h = (o.0, in_order_snoc (front ++ x ∷ []) ps p o.1 (subst (λ t. IsNext t p) (sym (append_assoc front (x ∷ []) ps)) h))
 
-  homed_snoc : (home : Option TableId) (ps : List (Post S)) (p : Post S) → EachHomed home ps → IsHomed home p → EachHomed home (ps ++ p ∷ [])
+  pub homed_snoc : (home : Option TableId) (ps : List (Post S)) (p : Post S) → EachHomed home ps → IsHomed home p → EachHomed home (ps ++ p ∷ [])
   homed_snoc home [] p all one = (one, tt)
   homed_snoc home (x ∷ ps) p all one = (all.0, homed_snoc home ps p all.1 one)
 

@@ -10,6 +10,7 @@ use Rattle.std.specs.contracts.impls.GlobalAllocator.TheImpl as global
 use Rattle.std.specs.contracts.option.Option as Option
 use Rattle.std.specs.contracts.sync.Arc as Arc
 use Rattle.std.specs.contracts.vec.Vec as Vec
+use Rattle.std.specs.contracts.collections.VecDeque as Deque
 use Rattle.atomic_table.proofs.badge.Badge.TheSendSync as badge
 use Rattle.atomic_table.proofs.shared.Seat.TheSendSync as ticket
 use Rattle.atomic_table.specs.contracts.badge.Badge as Badge
@@ -47,7 +48,7 @@ use Rattle.realm_inbox.specs.contracts.act.Act as Act
 use Rattle.realm_inbox.specs.contracts.backlog.Backlog as Backlog
 use Rattle.realm_inbox.specs.contracts.backlog.GivenBack as Held
 use Rattle.realm_inbox.specs.contracts.backlog.Weight as Weight
-use Rattle.realm_inbox.specs.contracts.ends.Door as Door
+use Rattle.realm_inbox.specs.contracts.door.Door as Door
 use Rattle.realm_inbox.specs.contracts.ends.Inbox as Inbox
 use Rattle.realm_inbox.specs.contracts.ends.Poster as Poster
 use Rattle.realm_inbox.specs.contracts.ends.Seat as Seat
@@ -56,11 +57,16 @@ use Rattle.realm_inbox.specs.contracts.history.RealmMomentOwedItem.TheImpl as mo
 use Rattle.realm_inbox.specs.contracts.joining.Joining as Joining
 use Rattle.realm_inbox.specs.contracts.letter.Letter as Letter
 use Rattle.realm_inbox.specs.contracts.letter.Post as Post
+use Rattle.realm_inbox.specs.contracts.line.Line as Line
 use Rattle.realm_inbox.specs.contracts.room_bell.RoomBell as RoomBell
 use Rattle.realm_inbox.specs.contracts.rule.InTurn as InTurn
 use Rattle.realm_inbox.specs.contracts.rule.InTurnProtocolPostInboxView.TheImpl as in_turn
 use Rattle.realm_inbox.specs.contracts.rule.InboxView as InboxView
 use Rattle.realm_inbox.specs.contracts.bells.Bells as Bells
+use Rattle.realm_inbox.specs.contracts.schedule.Schedule as Schedule
+use Rattle.realm_inbox.specs.contracts.schedule.Share as Share
+use Rattle.realm_inbox.specs.contracts.seat_lines.SeatLines as SeatLines
+use Rattle.realm_inbox.specs.contracts.seat_turns.SeatTurns as SeatTurns
 use Rattle.realm_inbox.specs.declared.transport.Shut.{Ghosts}
 
 option_send : (R : RattleType) → IsSend R → IsSend (Option.the_row R)
@@ -96,6 +102,17 @@ weight_send = declared_send Weight.the_type (held_send, tt)
 
 bells_send : IsSend Bells.the_row
 bells_send = declared_send Bells.the_type (as_row_send (Arc.the_field RoomBell.the_row Global.the_row global.ghosts) room_send, (search (unparker.the_field_send, unparker.the_send, crosses, heap.send, heap.sync, heap.frees, sendable) depth 60, tt))
+
+-- whose turn it is
+share_send : IsSend Share.the_row
+share_send = search (crosses, sendable) depth 60
+
+schedule_send : IsSend Schedule.the_row
+schedule_send = declared_send Schedule.the_type (as_row_send (Vec.the_field Share.the_row Global.the_row global.ghosts) (heap.Vec-send _ share_send), search sendable)
+
+turns_send : IsSend SeatTurns.the_row
+turns_send = declared_send SeatTurns.the_type
+    (schedule_send, (as_row_send (Arc.the_field RoomBell.the_row Global.the_row global.ghosts) room_send, (as_row_send (Vec.the_field shared Global.the_row global.ghosts) (heap.Vec-send _ shared_send), search sendable)))
 
 -- a realm's history, as its chronicle recorded it, and what it owes
 abbrev pub history : RattleType
@@ -133,6 +150,13 @@ module _ (S : RattleType) where
   post_send : IsSend S → IsSend (Post.the_row S)
   post_send s = variants_send (Post.enum S) ((letter_send s, tt), ((search (crosses, sendable) depth 60, tt), tt))
 
+  line_send : IsSend S → IsSend (Line.the_row S)
+  line_send s = declared_send (Line.the_type S) (as_row_send (Deque.the_field (Post.the_row S) Global.the_row global.ghosts) (heap.Deque-send _ (post_send s)), tt)
+
+  lines_send : IsSend S → IsSend (SeatLines.the_row S)
+  lines_send s = declared_send (SeatLines.the_type S)
+      (as_row_send (Vec.the_field (Line.the_row S) Global.the_row global.ghosts) (heap.Vec-send _ (line_send s)), (option_send (Post.the_row S) (post_send s), search sendable))
+
 module _ (S : RattleType) (shut : Ghosts S.Denot) where
   abbrev post : RattleType
   post = Post.the_row S
@@ -162,10 +186,10 @@ module _ (S : RattleType) (shut : Ghosts S.Denot) where
   sending_send s = sending.the_send _ _ global.ghosts (channel_send s) heap.send (channel_sync s) heap.sync heap.frees
 
   pub inbox_send : IsSend S → IsSend (Inbox.the_row S shut)
-  inbox_send s = declared_send (Inbox.the_type S shut) (search sendable, (receiving_send s, (as_row_send (Arc.the_field RoomBell.the_row Global.the_row global.ghosts) room_send, (as_row_send (Vec.the_field shared Global.the_row global.ghosts) (heap.Vec-send _ shared_send), (search (parker.the_field_send, parker.the_send, crosses, heap.send, heap.sync, heap.frees, sendable) depth 60, (ticket.the_send _ _ key_send, tt))))))
+  inbox_send s = declared_send (Inbox.the_type S shut) (search sendable, (receiving_send s, (lines_send S s, (search (crosses, sendable) depth 60, (turns_send, (search (parker.the_field_send, parker.the_send, crosses, heap.send, heap.sync, heap.frees, sendable) depth 60, (ticket.the_send _ _ key_send, tt)))))))
 
   pub seat_send : IsSend S → IsSend (Seat.the_row S shut)
-  seat_send s = declared_send (Seat.the_type S shut) (search sendable, (search (crosses, sendable) depth 60, (as_row_send (Arc.the_field Backlog.the_row Global.the_row global.ghosts) shared_send, (sending_send s, (search (bells_send, crosses, sendable) depth 60, (ticket.the_send _ _ key_send, tt))))))
+  seat_send s = declared_send (Seat.the_type S shut) (search sendable, (search (crosses, sendable) depth 60, (as_row_send (Arc.the_field Backlog.the_row Global.the_row global.ghosts) shared_send, (search (crosses, sendable) depth 60, (sending_send s, (search (bells_send, crosses, sendable) depth 60, (ticket.the_send _ _ key_send, tt)))))))
 
   pub poster_send : IsSend S → IsSend (Poster.the_row S shut)
   poster_send s = declared_send (Poster.the_type S shut) (search (crosses, sendable) depth 60, (seat_send s, tt))

@@ -5,17 +5,18 @@ use Rattle.crossbeam_channel.specs.Claims.{view}
 use Rattle.crossbeam_channel.specs.Ends.{receives_on, ruled_capacity}
 use Rattle.realm_inbox.specs.declared.act.Act.{Act}
 use Rattle.realm_inbox.specs.declared.letter.Post.{Post}
-use Rattle.realm_inbox.specs.declared.ends.Door.{Door}
+use Rattle.realm_inbox.specs.declared.door.Door.{Door}
 use Rattle.realm_inbox.specs.declared.ends.Inbox.{Inbox}
 use Rattle.realm_inbox.specs.declared.ends.Seat.{Seat}
 use Rattle.realm_inbox.specs.declared.ends.Poster.{Poster}
-use Rattle.realm_inbox.specs.Ends.{home_in, Place, place_of, posted_in, received_in, stops_in}
+use Rattle.ghost_state.specs.GhostList.{items_of}
+use Rattle.realm_inbox.specs.Ends.{home_in, Place, place_of, posted_in, stops_in}
 use Rattle.realm_inbox.specs.Posted.{Posted}
 
 module _ {S : Type 0} where
   -- what the inbox gave so far, the oldest first
   abbrev pub received : Inbox S → List (Post S)
-  received i = received_in (view i.pass)
+  received i = items_of i.given
 
   -- how many posts may wait in it
   abbrev pub capacity : Inbox S → ℕ

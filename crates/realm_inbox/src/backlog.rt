@@ -14,6 +14,12 @@ const RESUMED: u64 = 2_097_152;
 /// capacity of what they wait in.
 const LEAST_COUNTED: usize = 256;
 
+/// So many posts of one seat wait at most, however few octets they are.
+pub const MOST_POSTS_WAITING: u64 = 256;
+
+/// Who waits for that goes on once so many wait, or fewer.
+const RESUMED_POSTS: u64 = 128;
+
 /// The octets of one client that wait for another thread. One thread takes them on, and others give them back.
 ///
 /// Nothing is promised of it, as another thread may change it at any time. It is there to bound what one client can make the broker
@@ -21,6 +27,8 @@ const LEAST_COUNTED: usize = 256;
 #[derive(Drop)]
 pub struct Backlog {
     waiting: AtomicU64,
+    // How many posts were given to who receives, as far as it was told.
+    given: AtomicU64,
     is_closed: AtomicBool,
     bell: RoomBell,
 }
@@ -30,6 +38,7 @@ impl Backlog {
     pub fn new() -> Backlog {
         Backlog {
             waiting: AtomicU64::new(0),
+            given: AtomicU64::new(0),
             is_closed: AtomicBool::new(false),
             bell: RoomBell::new(),
         }
@@ -73,10 +82,62 @@ impl Backlog {
         }
     }
 
+    /// How many posts were given, as far as it was told; waits before while too many of those that were posted weren't. Once it is
+    /// closed nobody waits.
+    fn await_given<R: Wait>(&self, rt: &R, posted: u64) -> u64 {
+        for _ in rt.forever() {
+            let heard = self.bell.listen();
+            if self.is_closed.load(Ordering::SeqCst) {
+                return posted;
+            }
+            let given = self.given.load(Ordering::SeqCst);
+            if posted.wrapping_sub(given) <= RESUMED_POSTS {
+                return given;
+            }
+            self.bell.wait(rt, heard);
+        }
+        unreachable!()
+    }
+
+    /// So many posts more were given.
+    pub(crate) fn tell_given(&self, more: u64) {
+        self.given.fetch_add(more, Ordering::SeqCst);
+        self.bell.ring();
+    }
+
     /// Nobody gives anything back any more, and nobody waits any more: who waits goes on.
     pub fn close(&self) {
         self.is_closed.store(true, Ordering::SeqCst);
         self.bell.ring();
+    }
+}
+
+/// How many acts were posted at a seat, and how many of them were given, as far as the seat knows.
+#[derive(Drop)]
+pub(crate) struct PostCount {
+    posted: u64,
+    given: u64,
+}
+
+impl PostCount {
+    pub(crate) fn new() -> PostCount {
+        PostCount {
+            posted: 0,
+            given: 0,
+        }
+    }
+
+    /// Counts one post more, and waits before while [`MOST_POSTS_WAITING`] of the seat aren't given.
+    ///
+    /// It looks at its own two numbers first: what others tell is read once in 128 posts.
+    pub(crate) fn count_one<R: Wait>(&mut self, rt: &R, backlog: &Backlog) {
+        if self.posted.wrapping_sub(self.given) >= MOST_POSTS_WAITING {
+            self.given = backlog.given.load(Ordering::SeqCst);
+        }
+        if self.posted.wrapping_sub(self.given) >= MOST_POSTS_WAITING {
+            self.given = backlog.await_given(rt, self.posted);
+        }
+        self.posted = self.posted.wrapping_add(1);
     }
 }
 

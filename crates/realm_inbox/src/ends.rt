@@ -1,24 +1,25 @@
-//! The ends of an inbox.
-ghost use Rattle.std.specs.Prelude.{◌≡◌, ◌≢◌, ◌≤◌, ◌+◌, [], ◌∷◌, ◌++◌, true, if◌then◌else◌, IfSome, IfOk, IfErr, MatchOption, MatchResult};
+//! The ends of an inbox: seats with their posters, and the receiving end.
+ghost use Rattle.std.specs.Prelude.{◌≡◌, ◌≢◌, ◌≤◌, [], ◌∷◌, ◌++◌, true, IfSome, IfOk, IfErr, MatchOption, MatchResult};
 ghost use Rattle.crossbeam_channel.specs.Claims.{view, IsSeatAt};
 ghost use Rattle.crossbeam_channel.specs.Ends.{sends_on, receives_on};
 ghost use Rattle.wamp_ids.specs.Numbers.{seat_of};
 ghost use Rattle.ghost_state.specs.GhostList.{items_of};
 ghost use mathlib.Core.List.{IsPrefix};
 ghost use Rattle.realm_inbox.specs.Seats.{IsNext, IsHomed, BringsHome, BringsOwn, at_seat};
-ghost use Rattle.realm_inbox.specs.Ends.{place_of, posted_in, received_in, number_in, is_seat, is_reader, is_door, reads_any, posts_any};
+ghost use Rattle.realm_inbox.specs.SeatLines.{IsDealt, waiting};
+ghost use Rattle.realm_inbox.specs.Ends.{home_in, place_of as place_in, posted_in, received_in, number_in, is_seat, is_reader, reads_any, posts_any};
 
 use crate::act::Act;
-use crate::backlog::{Backlog, Weight};
+use crate::backlog::{Backlog, PostCount, Weight};
 use crate::bells::{Bells, send};
-use crate::letter::{Halt, Letter, Post};
-use crate::room_bell::RoomBell;
-use crate::rule::{Beside, InTurn, InboxView, Posts, Receives, Stops};
+use crate::letter::{Letter, Post};
+use crate::rule::{Beside, InTurn, InboxView, Posts, Receives};
+use crate::seat_lines::{SeatLines, place_of};
+use crate::seat_turns::SeatTurns;
 use crate::transport::Shut;
 use crossbeam_channel::{Pass, RuledReceiver, RuledSender, TryRecvError};
 use crossbeam_utils::sync::Parker;
 use ghost_state::GhostList;
-use std::alloc::{AllocError, Global};
 use std::snapshot::Snapshot;
 use std::sync::{Arc, Wait};
 use wamp_ids::{Conn, seat};
@@ -29,17 +30,6 @@ pub(crate) type Receiving<S> = RuledReceiver<Post<S>, InboxView<S>, InTurn>;
 
 pub(crate) type Ticket<S> = Pass<Post<S>, InboxView<S>>;
 
-/// Makes posters, and posts stops. While it lives the inbox has a sender.
-///
-/// Contracts see how many stops it has posted, and which inbox it is of.
-pub struct Door<S: Shut> {
-    pub(crate) sender: Sending<S>,
-    pub(crate) bells: Bells,
-    pub(crate) pass: Ticket<S>,
-    ghost at: { IsSeatAt (sends_on sender) pass },
-    ghost sits: { is_door (view pass) ≡ true },
-}
-
 /// The right to post at one seat, for one poster at a time. While it lives the inbox has a sender, also where no poster uses it.
 ///
 /// Contracts see its number, what was posted there, each act with its connection, and which inbox it is of.
@@ -48,6 +38,7 @@ pub struct Seat<S: Shut> {
     pub(crate) past: GhostList<(Conn, Act<S>)>,
     // What was posted here and isn't handled yet.
     pub(crate) backlog: Arc<Backlog>,
+    pub(crate) count: PostCount,
     pub(crate) sender: Sending<S>,
     pub(crate) bells: Bells,
     pub(crate) pass: Ticket<S>,
@@ -67,27 +58,35 @@ pub struct Poster<S: Shut> {
     ghost own: { seat_of conn ≡ seat.number },
 }
 
+// How many posts are taken from the channel at once.
+const MOST_TAKEN: u32 = 4096;
+
 /// The receiving end. Once it is gone, posts come back.
 ///
-/// Contracts see what was received, the oldest first, how many posts may wait, and which inbox it is.
+/// It gives posts as they come while none takes long. Behind a dear one it takes all that the channel has into a line for each seat,
+/// and gives by turns: so what one client asks for, it waits for itself.
+///
+/// Contracts see what was given, the oldest first, how many posts may wait, and which inbox it is.
 pub struct Inbox<S: Shut> {
     pub(crate) next: u64,
     pub(crate) receiver: Receiving<S>,
-    pub(crate) room: Arc<RoomBell>,
-    // Of each seat.
-    pub(crate) backlogs: Vec<Arc<Backlog>>,
+    pub(crate) lines: SeatLines<S>,
+    pub(crate) given: GhostList<Post<S>>,
+    pub(crate) turns: SeatTurns,
     pub(crate) parker: Parker,
     pub(crate) pass: Ticket<S>,
     ghost at: { IsSeatAt (receives_on receiver) pass },
     ghost reads: { is_reader next (view pass) ≡ true },
+    ghost dealt: { ∥ IsDealt (home_in (view pass)) (received_in (view pass)) (items_of given) (waiting lines) ∥₁ },
 }
 
 impl<S: Shut> Inbox<S> {
     ghost use Rattle.realm_inbox.specs.EndViews.{received, capacity, posted, poster_conn, home_of, inbox_of, inbox_of_poster};
 
     /// Waits for a post. It is the next of its seat: what had been posted there before it is exactly what was received of the seat.
-    /// A Join brings an outbox of the inbox's chronicle, or one for which none is picked. `None` once each sender is gone: the door, each poster and each seat. It wakes who waits for room: with each post that it
-    /// gives, and before it waits itself.
+    /// A Join brings an outbox of the inbox's chronicle, or one for which none is picked. `None` once each sender is gone: the door,
+    /// each poster and each seat, and nothing waits. It wakes who waits for room: with each post that it gives, and before it waits
+    /// itself.
     ///
     /// No post is missed, nor that the last sender is gone: each turn looks first, and then sleeps; a sender posts, or goes, and then
     /// wakes it; and a wake that comes before the sleep ends it at once.
@@ -108,15 +107,15 @@ impl<S: Shut> Inbox<S> {
                 Err(TryRecvError::Disconnected) => return None,
                 Err(TryRecvError::Empty) => {}
             }
-            self.room.ring();
+            self.turns.ring();
             self.parker.park(rt);
         }
         unreachable!()
     }
 
     /// A post, if one is found at once, as [`Inbox::receive`] gives it. `None` says only that nothing was received: the inbox was
-    /// empty at one moment of the call, a post may wait all the same, and each sender may be gone. It wakes nobody who waits for
-    /// room: see [`Inbox::wake`].
+    /// empty at one moment of the call, a post may wait all the same, and each sender may be gone. It wakes who waits for room once in
+    /// 256 posts: see [`Inbox::wake`].
     pub fn try_receive<R: Wait>(&mut self, rt: &R) -> Option<Post<S>>
         ensures given { MatchOption result (received self.new ≡ received self.old)
             (λ p. received self.new ≡ received self.old ++ p ∷ []) }
@@ -137,7 +136,116 @@ impl<S: Shut> Inbox<S> {
         ensures same { (inbox_of self.new ≡ inbox_of self.old)
             × (capacity self.new ≡ capacity self.old) }
     {
-        self.receiver.try_recv_as::<Receives, R>(rt, &mut self.pass)
+        if self.gives_as_they_come() {
+            return self.give_as_it_comes(rt);
+        }
+        let why = self.take_in(rt);
+        self.deal(why)
+    }
+
+    // Whether posts are given as they come, and not by turns.
+    fn gives_as_they_come(&self) -> bool
+        ensures { result ≡ true → self.now.lines.aside ≡ None }
+    {
+        self.turns.is_calm(&self.lines) && self.lines.is_open()
+    }
+
+    // The next post of the channel, if nothing of its seat waits.
+    fn give_as_it_comes<R: Wait>(&mut self, rt: &R) -> Result<Post<S>, TryRecvError>
+        requires open { self.old.lines.aside ≡ None }
+        ensures given { MatchResult result (λ p. received self.new ≡ received self.old ++ p ∷ [])
+            (λ _. received self.new ≡ received self.old) }
+        ensures in_turn { IfOk result (λ p. IsNext (received self.old) p) }
+        ensures home { IfOk result (λ p. IsHomed (home_of self.old) p) }
+        ensures same { (inbox_of self.new ≡ inbox_of self.old)
+            × (capacity self.new ≡ capacity self.old) }
+    {
+        let post = match self.receiver.try_recv_as::<Receives, R>(rt, &mut self.pass) {
+            Ok(post) => post,
+            Err(why) => return Err(why),
+        };
+        let place = place_of(&post);
+        if !self.lines.is_free(place) {
+            self.lines.add(post);
+            return self.deal(TryRecvError::Empty);
+        }
+        self.turns.note_given(place);
+        self.given.add(Snapshot::of(&post));
+        Ok(post)
+    }
+
+    // Takes what the channel has into the lines, nothing behind a stop, and wakes who waits for room. Why it has no more.
+    fn take_in<R: Wait>(&mut self, rt: &R) -> TryRecvError
+        ensures none { received self.new ≡ received self.old }
+        ensures same { (inbox_of self.new ≡ inbox_of self.old)
+            × (capacity self.new ≡ capacity self.old) }
+    {
+        for _ in 0..MOST_TAKEN {
+            if !self.lines.is_open() || self.lines.waits_at(0) {
+                break;
+            }
+            if let Err(why) = self.take_one(rt) {
+                self.wake();
+                return why;
+            }
+        }
+        self.wake();
+        TryRecvError::Empty
+    }
+
+    // Takes a post into its line.
+    fn take_one<R: Wait>(&mut self, rt: &R) -> Result<(), TryRecvError>
+        requires open { self.old.lines.aside ≡ None }
+        ensures none { received self.new ≡ received self.old }
+        ensures same { (inbox_of self.new ≡ inbox_of self.old)
+            × (capacity self.new ≡ capacity self.old) }
+    {
+        let taken = match self.receiver.try_recv_as::<Receives, R>(rt, &mut self.pass) {
+            Ok(taken) => taken,
+            Err(why) => return Err(why),
+        };
+        self.lines.add(taken);
+        Ok(())
+    }
+
+    // The post whose turn it is, of those that wait. Where none waits, why none came.
+    fn deal(&mut self, why: TryRecvError) -> Result<Post<S>, TryRecvError>
+        ensures given { MatchResult result (λ p. received self.new ≡ received self.old ++ p ∷ [])
+            (λ _. received self.new ≡ received self.old) }
+        ensures in_turn { IfOk result (λ p. IsNext (received self.old) p) }
+        ensures home { IfOk result (λ p. IsHomed (home_of self.old) p) }
+        ensures same { (inbox_of self.new ≡ inbox_of self.old)
+            × (capacity self.new ≡ capacity self.old) }
+    {
+        let place = self.turns.next_place(&self.lines);
+        let Some(first) = self.lines.pop(place) else {
+            self.turns.schedule.calm_down();
+            return Err(why);
+        };
+        self.turns.note_given(place);
+        self.given.add(Snapshot::of(&first));
+        Ok(first)
+    }
+
+    /// Whether [`Inbox::note_time`] is to be told how long the posts took that it gave.
+    pub fn is_due(&self) -> bool {
+        self.turns.schedule.is_due()
+    }
+
+    /// Whether the post that it gave last is of a seat whose posts are dear.
+    pub fn is_dear(&self) -> bool {
+        self.turns.schedule.is_dear()
+    }
+
+    /// Is told how many nanoseconds the posts took that it gave since it was last told, or since it waited. Tells whether that was dear:
+    /// from then on it gives by turns, until nothing waits.
+    pub fn note_time(&mut self, nanos: u64) -> bool
+        ensures none { received self.new ≡ received self.old }
+        ensures home { home_of self.new ≡ home_of self.old }
+        ensures same { (inbox_of self.new ≡ inbox_of self.old)
+            × (capacity self.new ≡ capacity self.old) }
+    {
+        self.turns.schedule.note_time(nanos)
     }
 
     /// Tells what was received of a poster's seat: it begins what was posted there. The two are of one inbox, and neither changes;
@@ -159,7 +267,7 @@ impl<S: Shut> Inbox<S> {
     /// Wakes the posters that wait for room. Who receives several posts by [`Inbox::try_receive`] wakes once, after the last; until
     /// then they may sleep on. Where nobody waits it is no system call.
     pub fn wake(&self) {
-        self.room.ring();
+        self.turns.ring();
     }
 }
 
@@ -190,16 +298,15 @@ impl<S: Shut> Drop for Inbox<S> {
         let Self {
             next: _,
             receiver,
-            room,
-            backlogs,
+            lines,
+            given: _,
+            turns,
             parker: _,
             pass: _,
         } = self;
         drop(receiver);
-        room.ring();
-        for backlog in &backlogs {
-            backlog.close();
-        }
+        drop(lines);
+        turns.close();
     }
 }
 
@@ -235,11 +342,11 @@ impl<S: Shut> Seat<S> {
 
     // Tells what the reader's pass, which is of its inbox, and its own know together.
     fn compare(&mut self, reading: &mut Ticket<S>)
-        requires place { place_of reading.old ≡ inbox_of_seat self.old }
+        requires place { place_in reading.old ≡ inbox_of_seat self.old }
         requires reads { (reading.old.me.1 ≡ []) × (reads_any (view reading.old) ≡ true) }
         ensures begins { IsPrefix (at_seat (seat_number self.new) (received_in (view reading.old)))
             (posted_at self.new) }
-        ensures reading { (place_of reading.new ≡ place_of reading.old)
+        ensures reading { (place_in reading.new ≡ place_in reading.old)
             × (reading.new.me.1 ≡ []) × (view reading.new ≡ view reading.old) }
         ensures same { (seat_number self.new ≡ seat_number self.old)
             × (posted_at self.new ≡ posted_at self.old)
@@ -265,6 +372,7 @@ impl<S: Shut> Seat<S> {
         ensures same { (seat_number self.new ≡ seat_number self.old)
             × (inbox_of_seat self.new ≡ inbox_of_seat self.old) }
     {
+        self.count.count_one(rt, &self.backlog);
         let weight = Weight::of(rt, &self.backlog, octets);
         let before = Snapshot::of(&self.past);
         let said = (conn, act);
@@ -295,6 +403,7 @@ impl<S: Shut> Drop for Seat<S> {
             number: _,
             past: _,
             backlog: _,
+            count: _,
             sender,
             bells,
             pass: _,
@@ -310,11 +419,14 @@ impl<S: Shut> Poster<S> {
     /// Posts an act of its connection, which was read from so many octets of the client's, or from none. A Join brings an outbox of
     /// this connection, and of the chronicle of its inbox, if one is picked for the outbox.
     ///
-    /// It waits while the inbox is full; and, where the octets are 256 or more, while [`MOST_WAITING`](crate::MOST_WAITING) of its
-    /// seat wait that weren't handled yet: once it waits, until fewer than half of them do. Who ends that wait is who drops the
-    /// [`Weight`]s of these posts: the actor with each post that it has handled, and who turns away what is posted behind a stop; or
-    /// the inbox, when it goes. Each of them rings, and no ring is missed ([`Backlog`]). A poster that waits has posts in the
-    /// inbox, or ahead of it with the actor, so there is always one that is still to be handled.
+    /// It waits while the inbox is full, and while [`MOST_POSTS_WAITING`](crate::MOST_POSTS_WAITING) posts of its seat weren't given
+    /// yet, until half of them were: the inbox tells of each 64 that it gives.
+    ///
+    /// Where the octets are 256 or more it waits while [`MOST_WAITING`](crate::MOST_WAITING) of its seat wait that weren't handled
+    /// yet: once it waits, until fewer than half of them do. Who ends that wait is who drops the [`Weight`]s of these posts: the actor
+    /// with each post that it has handled, and who turns away what is posted behind a stop; or the inbox, when it goes. Each of them
+    /// rings, and no ring is missed ([`Backlog`]). A poster that waits has posts in the inbox, or one with the actor, so there is
+    /// always one that is still to be handled.
     ///
     /// # Errors
     /// The act, where the inbox is gone. Nothing was posted then.
@@ -345,55 +457,5 @@ impl<S: Shut> Poster<S> {
     {
         let Poster { conn: _, seat } = self;
         seat
-    }
-}
-
-impl<S: Shut> Door<S> {
-    ghost use Rattle.realm_inbox.specs.EndViews.{posted, posted_at, poster_conn, seat_number, stops, inbox_of_poster, inbox_of_seat, inbox_of_door};
-
-    /// A poster of the connection at its seat, whose number is [`wamp_ids::seat`] of it. The seat is one of this door's inbox. Where
-    /// the caller can't show this, [`Seat::into_poster`] makes one of the seat alone.
-    ///
-    /// # Errors
-    /// None: it takes no memory and is never refused.
-    pub fn poster(
-        &self,
-        _alloc: Global,
-        seat: Seat<S>,
-        conn: Conn,
-    ) -> Result<Poster<S>, (AllocError, Seat<S>)>
-        requires own { seat_of conn ≡ seat_number seat }
-        requires inbox { inbox_of_seat seat ≡ inbox_of_door self.now }
-        ensures conn { MatchResult result (λ p. poster_conn p ≡ conn) (λ _. ⊥) }
-        ensures posted { MatchResult result (λ p. posted p ≡ posted_at seat) (λ _. ⊥) }
-        ensures same { MatchResult result (λ p. inbox_of_poster p ≡ inbox_of_door self.now)
-            (λ _. ⊥) }
-    {
-        Ok(Poster { conn, seat })
-    }
-
-    /// Posts a stop, and waits while the inbox is full. False where the inbox is gone; nothing was posted then.
-    pub fn stop<R: Wait>(&mut self, rt: &R) -> bool
-        ensures posted { stops self.new ≡ (if result then stops self.old + 1 else stops self.old) }
-        ensures same { inbox_of_door self.new ≡ inbox_of_door self.old }
-    {
-        let stop = Post::Stop(Halt { of_door: () });
-        match send::<_, _, _, Stops, R>(rt, &self.sender, &self.bells, &mut self.pass, stop) {
-            Ok(()) => true,
-            Err(_) => false,
-        }
-    }
-}
-
-impl<S: Shut> Drop for Door<S> {
-    // Who receives looks again whether each sender is gone.
-    fn drop(self) {
-        let Self {
-            sender,
-            bells,
-            pass: _,
-        } = self;
-        drop(sender);
-        bells.receiver.unpark();
     }
 }

@@ -35,20 +35,26 @@
 mod act;
 mod backlog;
 mod bells;
+mod door;
 mod ends;
 mod history;
 mod joining;
 pub mod laws;
 mod letter;
+mod line;
 pub mod opening;
 mod posting;
 mod room_bell;
 mod rule;
+mod schedule;
+mod seat_lines;
+mod seat_turns;
 mod transport;
 
 pub use act::Act;
-pub use backlog::{Backlog, MOST_WAITING, Weight};
-pub use ends::{Door, Inbox, Poster, Seat};
+pub use backlog::{Backlog, MOST_POSTS_WAITING, MOST_WAITING, Weight};
+pub use door::Door;
+pub use ends::{Inbox, Poster, Seat};
 pub use ghost_state::GhostList;
 pub use history::{RealmChronicle, RealmHistory, RealmMoment};
 pub use joining::Joining;

@@ -6,13 +6,17 @@ ghost use Rattle.atomic_table.specs.Seated.{TableId};
 ghost use Rattle.realm_inbox.specs.Ends.{home_in, place_of, received_in, stops_in, is_reader, is_door};
 ghost use Rattle.realm_inbox.specs.EndViews.{home_of, received, capacity, stops, inbox_of, inbox_of_door, IsNewSeat, AreNewSeats};
 
-use crate::backlog::Backlog;
+use crate::backlog::{Backlog, PostCount};
 use crate::bells::Bells;
-use crate::ends::{Door, Inbox, Seat, Sending, Ticket};
+use crate::door::Door;
+use crate::ends::{Inbox, Seat, Sending, Ticket};
 use crate::history::RealmChronicle;
 use crate::letter::Post;
 use crate::room_bell::RoomBell;
 use crate::rule::{CutDoor, CutSeat, InTurn, InboxNaming, InboxView};
+use crate::schedule::Schedule;
+use crate::seat_lines::SeatLines;
+use crate::seat_turns::SeatTurns;
 use crate::transport::Shut;
 use crossbeam_channel::bounded_with;
 use crossbeam_utils::sync::Parker;
@@ -59,6 +63,7 @@ fn cut_seat<S: Shut>(
         number,
         past: GhostList::new(),
         backlog,
+        count: PostCount::new(),
         sender: own,
         bells,
         pass: cut,
@@ -88,6 +93,22 @@ fn cut_seats<S: Shut>(
         seats.push(seat)?;
     }
     Ok(seats)
+}
+
+// What the receiving end keeps of the seats.
+fn turns_of<S: Shut>(
+    alloc: Global,
+    room: Arc<RoomBell>,
+    seats: &[Seat<S>],
+) -> Result<SeatTurns, AllocError> {
+    let backlogs = backlogs_of(alloc, seats)?;
+    let schedule = Schedule::new(alloc)?;
+    Ok(SeatTurns {
+        schedule,
+        room,
+        backlogs,
+        unrung: 0,
+    })
 }
 
 // The backlog of each seat.
@@ -165,7 +186,8 @@ fn make<S: Shut>(
         receiver: parker.unparker().clone()?,
     };
     let seats = cut_seats(alloc, &sender, &bells, &mut pass, SEATS)?;
-    let backlogs = backlogs_of(alloc, &seats)?;
+    let turns = turns_of(alloc, room, &seats)?;
+    let lines = SeatLines::new(alloc)?;
     Ok((
         Door {
             sender,
@@ -176,8 +198,9 @@ fn make<S: Shut>(
         Inbox {
             next: SEATS + 1,
             receiver,
-            room,
-            backlogs,
+            lines,
+            given: GhostList::new(),
+            turns,
             parker,
             pass,
         },

@@ -44,6 +44,11 @@ impl RoomBell {
         }
     }
 
+    /// Whether somebody has listened since it was last rung.
+    pub(crate) fn is_awaited(&self) -> bool {
+        self.is_awaited.load(Ordering::SeqCst)
+    }
+
     /// Ends the waits of all who have listened.
     pub(crate) fn ring(&self) {
         if self.is_awaited.load(Ordering::SeqCst) && self.is_awaited.swap(false, Ordering::SeqCst) {

@@ -49,6 +49,11 @@ abbrev pub first : {X : Type 0} → (Data → Option X) → Items → Option (X 
 first kind no_items = None
 first kind (item d ds) = option_map (λ x. (x, ds)) (kind d)
 
+-- of the elements `old` the next one, where it is of the kind, is what was found, and `new` the rest
+abbrev pub IsNext : {X : Type 0} → (Data → Option X) → Items → Option X → Items → Type 0
+IsNext kind old (Some x) new = first kind old ≡ Some (x, new)
+IsNext kind old None new = first kind old ≡ None
+
 abbrev pub and_then : {X Y : Type 0} → Option (X × Items) → (X → Items → Option Y) → Option Y
 and_then None next = None
 and_then (Some p) next = next p.0 p.1

@@ -1,5 +1,5 @@
-//! The messages of WAMP sessions as trees and as the octets of frames, and the opening of a session. As types they are
-//! `wamp_messages`'.
+//! The octets of a session: its messages read from octets and written as frames, and how it opens, from the handshake
+//! to HELLO. Messages as types are `wamp_messages`', and the sessions that a realm has are `realm`'s.
 //!
 //! ```
 //! // as in cases_session/src/opening.rt: from the handshake to HELLO
@@ -30,6 +30,7 @@ mod wire;
 pub use fault::Fault;
 pub use messages::from_client::{read_payload, read_said};
 pub use messages::to_client::item_message;
+pub use messages::tree_elements::{TreeElements, id_among};
 pub use opening::first_message::{abort_reason, abort_uri, first};
 pub use opening::hello::First;
 pub use opening::open_session;

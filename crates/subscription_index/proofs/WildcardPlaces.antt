@@ -116,7 +116,7 @@ wildcards_same deep other_deep tree other e f q = ap (λ n. cond (is_deep q) n (
 
 -- only deep wildcards fit a deep topic, and no other topic
 deep_alike : (q topic : List ℕ) → fits (components q) (components topic) ≡ true → is_deep q ≡ is_deep topic
-deep_alike q topic h = ap (λ n. nat_lt 64 n) (as_long (components q) (components topic) h)
+deep_alike q topic h = ap (λ n. nat_lt 8 n) (as_long (components q) (components topic) h)
 
 pub adds_deep : (deep : Table) (tree : Node) (topic a b : List ℕ) → is_deep topic ≡ true → Adds (number_at deep) (λ q. fits (components q) (components topic)) a b → Adds (wildcard_number deep tree) (λ q. fits (components q) (components topic)) a b
 adds_deep deep tree topic a b is =

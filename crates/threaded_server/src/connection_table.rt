@@ -87,7 +87,8 @@ impl<
         ensures plan { IfOk result (λ t. t.roster.over.plan.value ≡ plan) }
         ensures realms { IfOk result (λ t. realms_of t.realms ≡ []) }
         ensures lent { IfOk result (λ t. items_of t.roster.lent ≡ []) }
-        ensures unused { IfOk result (λ t. IsUnused t.roster.entries.items (items_of t.roster.over.streams)) }
+        ensures unused { IfOk result (λ t.
+            IsUnused t.roster.entries.items (items_of t.roster.over.streams)) }
     {
         let realms = Realms::with_capacity(alloc, plan.realms.len())?;
         let plan = Arc::new(alloc, plan)?;

@@ -13,6 +13,7 @@ use std::alloc::{AllocError, Global};
 use std::snapshot::Snapshot;
 use std::sync::Wait;
 use std::thread::{PromisedHandle, Threads};
+use std::time::Clock;
 
 /// What the accepting thread has of a realm: the door of its inbox, its actor's thread, and what that tells.
 #[derive(Drop)]
@@ -36,7 +37,7 @@ impl<S: Shut + Send + 'static> RealmHandle<S> {
     ///
     /// # Errors
     /// Where a thread was refused.
-    pub fn start<R: Threads + Wait + Copy + Send + 'static>(
+    pub fn start<R: Threads + Wait + Clock + Copy + Send + 'static>(
         rt: R,
         alloc: Global,
         door: Door<S>,
@@ -133,7 +134,8 @@ fn push_seen<R: Wait>(rt: &R, all: &mut Vec<RealmHistory>, mut seen: RealmHistor
 fn check_all<R: Wait>(rt: &R, chronicle: &mut RealmChronicle, mut seen: Vec<RealmHistory>)
     requires { All (λ kept. kept.chronicle ≡ chronicle.old.chronicle) seen.items }
     ensures same { chronicle.new ≡ chronicle.old }
-    ensures begins { All (λ kept. Reaches Begins (Some kept.history) chronicle.old.history) seen.items }
+    ensures begins { All (λ kept. Reaches Begins (Some kept.history) chronicle.old.history)
+        seen.items }
 {
     for _ in rt.forever() {
         match seen.pop() {

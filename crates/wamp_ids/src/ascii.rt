@@ -7,7 +7,8 @@ ghost use Rattle.wamp_ids.specs.Uri.{is_plain};
 /// Whether a text is a topic; `None` where it is one unless it has white space beyond ASCII, and it
 /// isn't of ASCII.
 pub(crate) fn is_topic_so_far(octets: &[u8]) -> Option<bool>
-    ensures some { IfSome result (λ is. is ≡ passes true 46 octets.now && not (has_space 0 0 octets.now)) }
+    ensures some { IfSome result (λ is.
+        is ≡ passes true 46 octets.now && not (has_space 0 0 octets.now)) }
     ensures none { IfNone result (passes true 46 octets.now ≡ true) }
 {
     let mut wide = false;
@@ -25,7 +26,8 @@ pub(crate) fn is_topic_so_far(octets: &[u8]) -> Option<bool>
 /// Whether each component of a text is free of white space and `#`; `None` where it is unless it has
 /// white space beyond ASCII, and it isn't of ASCII.
 pub(crate) fn is_loose_so_far(octets: &[u8]) -> Option<bool>
-    ensures some { IfSome result (λ is. is ≡ passes false 0 octets.now && not (has_space 0 0 octets.now)) }
+    ensures some { IfSome result (λ is.
+        is ≡ passes false 0 octets.now && not (has_space 0 0 octets.now)) }
     ensures none { IfNone result (passes false 0 octets.now ≡ true) }
 {
     let mut wide = false;
@@ -46,7 +48,8 @@ fn answer(good: bool, wide: bool) -> Option<bool>
 
 /// 0 where an octet may stand behind the octet before, and ends no empty component.
 fn fault_behind(before: u8, octet: u8) -> u8
-    ensures { (result == 0) ≡ (nat_lt 127 octet || is_plain octet) && not (before == 46 && octet == 46) }
+    ensures { (result == 0)
+        ≡ (nat_lt 127 octet || is_plain octet) && not (before == 46 && octet == 46) }
 {
     fault_at(octet) | fault_of_dots(before, octet)
 }

@@ -1,17 +1,20 @@
 //! Why the program ends with a fault.
-ghost use Rattle.std.specs.Prelude.{◌≡◌, ◌≢◌, []};
+ghost use Rattle.std.specs.Prelude.{◌≡◌, ◌≢◌, [], false, true};
 ghost use Rattle.std.specs.IoError.{error_kind};
-ghost use Rattle.command_line.specs.declared.fault.Fault.TheVariants.{ConnectFault, ListenFault, NoMemory, Usage};
+ghost use Rattle.command_line.specs.declared.fault.Fault.TheVariants.{ConnectFault, LateAnswer, ListenFault, NoMemory, Usage};
 ghost use Rattle.command_line.specs.Commands.{fault_of_client};
 
 use broker_server::{Fault, explain, help, shown_line};
-use client_commands::LinkFault;
+use client_commands::{Contact, LinkFault};
 use std::alloc::{AllocError, Global};
 use std::io::{self, ErrorKind};
 
 /// What an argument of an event has to be.
 const ARGUMENTS: &str =
     "a number has to be whole, and lists and dictionaries nest no more than 98 levels";
+
+/// What a broker says that doesn't serve a realm.
+const NO_REALM: &str = "wamp.error.no_such_realm";
 
 /// What is wrong with a word that can't be read.
 const UNREADABLE: &str = "a word isn't UTF-8";
@@ -93,11 +96,22 @@ impl Failure {
         Failure::with_reason(alloc, Fault::ConnectFault, reason.ok())
     }
 
-    /// A client ended by this fault.
-    pub fn of_client(alloc: Global, of: client_commands::Fault) -> Failure
-        ensures { result.fault ≡ fault_of_client of }
+    /// A client of this broker ended by this fault, and perhaps since an answer came too late.
+    pub fn of_client(
+        alloc: Global,
+        of: client_commands::Fault,
+        contact: &Contact,
+        is_late: bool,
+    ) -> Failure
+        ensures in_time { is_late ≡ false → result.fault ≡ fault_of_client of }
+        ensures late { is_late ≡ true → result.fault ≡ LateAnswer }
     {
-        let reason = reason_of(alloc, &of);
+        if is_late {
+            let seconds = contact.timeout;
+            let reason = format!(in alloc; "the broker didn't answer within {seconds} s");
+            return Failure::with_reason(alloc, Fault::LateAnswer, reason.ok());
+        }
+        let reason = reason_of(alloc, &of, contact);
         Failure::with_reason(alloc, Fault::from(of), reason)
     }
 
@@ -136,8 +150,12 @@ fn told_of(alloc: Global, words: &[String]) -> Result<Vec<u8>, AllocError> {
 
 /// Why a client ended, for people: what the broker says, or how the connection failed. `None` where the fault's name tells all, or there is
 /// no memory.
-fn reason_of(alloc: Global, of: &client_commands::Fault) -> Option<String> {
+fn reason_of(alloc: Global, of: &client_commands::Fault, contact: &Contact) -> Option<String> {
     match of {
+        client_commands::Fault::Refused(uri) if uri.as_str() == NO_REALM => {
+            let realm = contact.realm.as_str();
+            format!(in alloc; "the broker has no realm {realm}, and says {NO_REALM}").ok()
+        }
         client_commands::Fault::Refused(uri) => {
             format!(in alloc; "the broker says {}", uri.as_str()).ok()
         }
@@ -167,8 +185,11 @@ fn reason_of(alloc: Global, of: &client_commands::Fault) -> Option<String> {
 /// What to do where a connection failed so, if there is something.
 fn advice_on(fault: &LinkFault) -> &'static str {
     match fault {
-        LinkFault::Refused(1) => "; try it with --msgpack, or without it",
+        LinkFault::Refused(1) => "; try it with --json, or without it",
         LinkFault::Refused(4) => "; try again when another client has gone",
+        LinkFault::Ended => {
+            "; it may have been cut, where more came at once than its outbox holds (serve --outbox)"
+        }
         _ => "",
     }
 }

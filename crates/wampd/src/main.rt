@@ -12,6 +12,7 @@ ghost use Rattle.command_line.specs.Commands.{IsServable, IsWritten, fault_line,
 
 mod clients;
 mod failure;
+mod patient_stream;
 mod places;
 
 use broker_server::{
@@ -86,7 +87,7 @@ where
                 None
             };
             let _places = fill_closed(host);
-            let place = Place {
+            let place = Address {
                 host: name.as_str(),
                 port,
             };
@@ -140,7 +141,7 @@ fn words_of(host: &HostRuntime) -> Result<Vec<String>, Failure> {
 
 /// Where it listens.
 #[derive(Clone, Copy, Drop)]
-struct Place<'a> {
+struct Address<'a> {
     host: &'a str,
     port: u16,
 }
@@ -151,7 +152,7 @@ fn serve<R, S: Sink, E: Sink + Drop + Send + 'static>(
     alloc: Global,
     output: &mut S,
     errors: Option<E>,
-    place: Place<'_>,
+    place: Address<'_>,
     config: &Config,
 ) -> Result<(), Failure>
 where
@@ -165,7 +166,7 @@ where
         + 'static,
     requires { IsServable config.now }
 {
-    let Place { host, port } = place;
+    let Address { host, port } = place;
     let listener = match TcpListener::bind(&rt, (host, port)) {
         Ok(listener) => listener,
         Err(error) => return Err(Failure::to_listen(alloc, host, port, &error)),
@@ -192,7 +193,7 @@ fn start_log<R: Threads + Wait + Copy + Send + 'static, E: Sink + Drop + Send + 
     rt: R,
     alloc: Global,
     errors: Option<E>,
-    place: Place<'_>,
+    place: Address<'_>,
 ) -> Result<(Option<Log>, Option<LogEnd>), AllocError> {
     let Some(errors) = errors else {
         return Ok((None, None));

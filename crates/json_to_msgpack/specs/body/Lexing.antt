@@ -11,33 +11,37 @@ use Rattle.json.specs.Lex as lexing
 use Rattle.json.specs.Cursor.{is_leaf}
 use Rattle.serde_json.specs.Data.{unsigned}
 use Rattle.serde_json.specs.Read.{number_of}
-use Rattle.json_to_msgpack.specs.declared.token.Token.{Token}
-use Rattle.json_to_msgpack.specs.declared.token.Token.TheVariants.{Null, Flag, Number, String}
-use Rattle.json_to_msgpack.specs.declared.token.Place.{Place}
-use Rattle.json_to_msgpack.specs.declared.token.Place.TheVariants.{Fresh, AfterValue, AfterComma}
+use Rattle.json_to_msgpack.specs.declared.token.JsonToken.{JsonToken}
+use Rattle.json_to_msgpack.specs.declared.token.JsonToken.TheVariants.{Null, Flag, Number, String}
+use Rattle.json_to_msgpack.specs.declared.token.LexPlace.{LexPlace}
+use Rattle.json_to_msgpack.specs.declared.token.LexPlace.TheVariants.{Fresh, AfterValue, AfterComma}
 
 -- the token that it is in the grammar
-abbrev pub token_of : Token → spec.Token
+abbrev pub token_of : JsonToken → spec.Token
 token_of Null = spec.null
 token_of (Flag b) = spec.boolean b
 token_of (Number s) = spec.number s.now
 token_of (String s) = spec.string (string_bytes s)
 
-abbrev pub place_of : Place → lexing.Place
+abbrev pub place_of : LexPlace → lexing.Place
 place_of Fresh = lexing.fresh
 place_of AfterValue = lexing.after_value
 place_of AfterComma = lexing.after_comma
 
 -- the tokens of a text, from such a place on
-abbrev pub tokens_left : Place → List ℕ → List spec.Token
+abbrev pub tokens_left : LexPlace → List ℕ → List spec.Token
 tokens_left place text = punctuate (place_of place) (lex between text)
 
 -- wherever a value may begin, the text gives this token, and then what is left
-abbrev pub Begins : List ℕ → spec.Token → Place → List ℕ → Type 0
+abbrev pub Begins : List ℕ → spec.Token → LexPlace → List ℕ → Type 0
 Begins text t place left = (p : lexing.Place) → may_begin p ≡ true → punctuate p (lex between text) ≡ t ∷ tokens_left place left
 
--- the same of a number, whatever digits spell it
-pub record BeginsNatural (text : List ℕ) (n : ℕ) (place : Place) (left : List ℕ) : Type 0 where
+-- the same at a place of a text; what is left stands at `next`
+abbrev pub BeginsAt : List ℕ → ℕ → spec.Token → LexPlace → ℕ → Type 0
+BeginsAt text at t place next = Begins (drop at text) t place (drop next text)
+
+-- wherever a value may begin, the text gives this number, whatever digits spell it
+pub record BeginsNatural (text : List ℕ) (n : ℕ) (place : LexPlace) (left : List ℕ) : Type 0 where
   pub digits : List ℕ
   pub is : number_of digits ≡ Some (unsigned n)
   pub begins : Begins text (spec.number digits) place left
@@ -57,7 +61,7 @@ abbrev pub closing : ℕ → spec.Token
 closing bracket = cond (bracket == 93) spec.end_array spec.end_object
 
 -- a value ends at `from`, and from `to` on the text goes on
-pub record IsAfterValue (text : List ℕ) (from : ℕ) (place : Place) (to : ℕ) : Type 0 where
+pub record IsAfterValue (text : List ℕ) (from : ℕ) (place : LexPlace) (to : ℕ) : Type 0 where
   pub rest : punctuate lexing.after_value (lex between (drop from text)) ≡ tokens_left place (drop to text)
   pub no_key : begins_colon (lex between (drop from text)) ≡ false
   pub ended : ends_word (drop from text) ≡ true

@@ -94,7 +94,7 @@ pub record IsEntryPut (value : List ℕ → Found tree.Data) (octets rest : List
   pub entry : (s : List ℕ) → key ≡ tree.text s → IsEntry s (kept meant) more
 
 -- the octets begin with the least spelling of a value with nothing inside
-pub record BeginsLeast (octets rest : List ℕ) : Type 0 where
+pub record BeginsCanonical (octets rest : List ℕ) : Type 0 where
   pub meant : tree.Data
   pub parts : octets ≡ short meant ++ rest
   pub spelled : Spells 0 (short meant) meant

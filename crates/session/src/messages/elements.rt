@@ -16,7 +16,7 @@ use wamp_ids::Id;
 use wamp_messages::{PublishOptions, SubscribeOptions};
 
 /// The elements of a message that aren't read yet.
-pub(crate) trait Elements: Drop {
+pub(crate) trait MessageElements: Drop {
     /// Their data.
     ghost items: { Self → Items };
 
@@ -25,30 +25,36 @@ pub(crate) trait Elements: Drop {
 
     /// The next element, a whole number that a serialization carries.
     fn number(&mut self) -> Result<i128, Fault>
-        ensures ok { IfOk result (λ z. first number_of (items self.old) ≡ Some (z, items self.new)) }
+        ensures ok { IfOk result (λ z.
+            first number_of (items self.old) ≡ Some (z, items self.new)) }
         ensures whole { OnOk result (is_whole self.new ≡ is_whole self.old) }
-        ensures bad { OnErr result (is_whole self.old ≡ true → first number_of (items self.old) ≡ None) }
+        ensures bad { OnErr result (is_whole self.old ≡ true
+            → first number_of (items self.old) ≡ None) }
         ensures fault { IfErr result (λ fault. fault ≡ Fault.Shape) };
 
     /// The next element, an id.
     fn id(&mut self) -> Result<Id, Fault>
         ensures ok { IfOk result (λ id. first id_of (items self.old) ≡ Some (id, items self.new)) }
         ensures whole { OnOk result (is_whole self.new ≡ is_whole self.old) }
-        ensures bad { OnErr result (is_whole self.old ≡ true → first id_of (items self.old) ≡ None) }
+        ensures bad { OnErr result (is_whole self.old ≡ true
+            → first id_of (items self.old) ≡ None) }
         ensures fault { IfErr result (λ fault. fault ≡ Fault.Shape) };
 
     /// The next element, a text.
     fn text(&mut self, alloc: Global) -> Result<Text, Fault>
         ensures ok { IfOk result (λ t. first text_of (items self.old) ≡ Some (t, items self.new)) }
         ensures whole { OnOk result (is_whole self.new ≡ is_whole self.old) }
-        ensures bad { result ≡ Err Fault.Shape → is_whole self.old ≡ true → first text_of (items self.old) ≡ None }
+        ensures bad { result ≡ Err Fault.Shape → is_whole self.old ≡ true
+            → first text_of (items self.old) ≡ None }
         ensures faults { IfErr result IsReadFault };
 
     /// The next element, a text that nobody asks for.
     fn pass_text(&mut self) -> Result<(), Fault>
-        ensures ok { OnOk result ((t : List ℕ) × (first text_of (items self.old) ≡ Some (t, items self.new))) }
+        ensures ok { OnOk result ((t : List ℕ)
+            × (first text_of (items self.old) ≡ Some (t, items self.new))) }
         ensures whole { OnOk result (is_whole self.new ≡ is_whole self.old) }
-        ensures bad { OnErr result (is_whole self.old ≡ true → first text_of (items self.old) ≡ None) }
+        ensures bad { OnErr result (is_whole self.old ≡ true
+            → first text_of (items self.old) ≡ None) }
         ensures fault { IfErr result (λ fault. fault ≡ Fault.Shape) };
 
     /// What the next element, a dictionary, asks for as the options of a PUBLISH.
@@ -71,9 +77,11 @@ pub(crate) trait Elements: Drop {
 
     /// The next element, a dictionary that nobody asks for.
     fn pass_dict(&mut self) -> Result<(), Fault>
-        ensures ok { OnOk result ((es : Entries) × (first dict_of (items self.old) ≡ Some (es, items self.new))) }
+        ensures ok { OnOk result ((es : Entries)
+            × (first dict_of (items self.old) ≡ Some (es, items self.new))) }
         ensures whole { OnOk result (is_whole self.new ≡ is_whole self.old) }
-        ensures bad { OnErr result (is_whole self.old ≡ true → first dict_of (items self.old) ≡ None) }
+        ensures bad { OnErr result (is_whole self.old ≡ true
+            → first dict_of (items self.old) ≡ None) }
         ensures fault { IfErr result (λ fault. fault ≡ Fault.Shape) };
 
     /// What the next element, a dictionary, has at `authid`: a text, null, or nothing.
@@ -82,8 +90,8 @@ pub(crate) trait Elements: Drop {
             × (first dict_of (items self.old) ≡ Some (es, items self.new))
             × (text_or_none (find_entry (codes "authid") es) ≡ Some t)) }
         ensures whole { OnOk result (is_whole self.new ≡ is_whole self.old) }
-        ensures bad { result ≡ Err Fault.Shape → is_whole self.old ≡ true → (es : Entries) (rest : Items)
-            → first dict_of (items self.old) ≡ Some (es, rest)
+        ensures bad { result ≡ Err Fault.Shape → is_whole self.old ≡ true
+            → (es : Entries) (rest : Items) → first dict_of (items self.old) ≡ Some (es, rest)
             → text_or_none (find_entry (codes "authid") es) ≡ None }
         ensures faults { IfErr result IsReadFault };
 
@@ -104,6 +112,7 @@ pub(crate) trait Elements: Drop {
     fn arguments(self, alloc: Global) -> Result<Args, Fault>
         ensures ok { IfOk result (λ a. arguments_of (items self) ≡ Some a) }
         ensures whole { OnOk result (is_whole self ≡ true) }
-        ensures bad { result ≡ Err Fault.Shape → is_whole self ≡ true → arguments_of (items self) ≡ None }
+        ensures bad { result ≡ Err Fault.Shape → is_whole self ≡ true
+            → arguments_of (items self) ≡ None }
         ensures faults { IfErr result IsReadFault };
 }

@@ -8,7 +8,7 @@ ghost use Rattle.session.specs.body.Octets.{IsFaultOf};
 ghost use Rattle.wamp_messages.specs.declared.said.Said.{Said};
 
 use crate::fault::Fault;
-use crate::messages::elements::Elements;
+use crate::messages::elements::MessageElements;
 use crate::messages::octet_elements::OctetElements;
 use crate::messages::tree_elements::TreeElements;
 use crate::wire::serializer::decode;
@@ -101,20 +101,22 @@ fn is_number(number: u64, kind: i128) -> bool
     kind >= 0 && kind as u128 == number as u128
 }
 
-fn read_elements<E: Elements>(alloc: Global, mut elements: E) -> Result<Said, Fault>
+fn read_elements<E: MessageElements>(alloc: Global, mut elements: E) -> Result<Said, Fault>
     ensures ok { IfOk result (λ said. said_in (E.items elements) ≡ Some said) }
     ensures whole { OnOk result (E.is_whole elements ≡ true) }
-    ensures bad { result ≡ Err Fault.Shape → E.is_whole elements ≡ true → said_in (E.items elements) ≡ None }
+    ensures bad { result ≡ Err Fault.Shape → E.is_whole elements ≡ true
+        → said_in (E.items elements) ≡ None }
     ensures faults { IfErr result IsReadFault }
 {
     let kind = elements.number()?;
     read_kind(alloc, kind, elements)
 }
 
-fn read_kind<E: Elements>(alloc: Global, kind: i128, elements: E) -> Result<Said, Fault>
+fn read_kind<E: MessageElements>(alloc: Global, kind: i128, elements: E) -> Result<Said, Fault>
     ensures ok { IfOk result (λ said. said_by kind (E.items elements) ≡ Some said) }
     ensures whole { OnOk result (E.is_whole elements ≡ true) }
-    ensures bad { result ≡ Err Fault.Shape → E.is_whole elements ≡ true → said_by kind (E.items elements) ≡ None }
+    ensures bad { result ≡ Err Fault.Shape → E.is_whole elements ≡ true
+        → said_by kind (E.items elements) ≡ None }
     ensures faults { IfErr result IsReadFault }
 {
     if is_number(1, kind) {
@@ -135,10 +137,11 @@ fn read_kind<E: Elements>(alloc: Global, kind: i128, elements: E) -> Result<Said
 }
 
 #[tactic(auto, unfolding(crate::specs::FromClient::hello))]
-fn hello<E: Elements>(alloc: Global, mut elements: E) -> Result<Said, Fault>
+fn hello<E: MessageElements>(alloc: Global, mut elements: E) -> Result<Said, Fault>
     ensures ok { IfOk result (λ said. hello (E.items elements) ≡ Some said) }
     ensures whole { OnOk result (E.is_whole elements ≡ true) }
-    ensures bad { result ≡ Err Fault.Shape → E.is_whole elements ≡ true → hello (E.items elements) ≡ None }
+    ensures bad { result ≡ Err Fault.Shape → E.is_whole elements ≡ true
+        → hello (E.items elements) ≡ None }
     ensures faults { IfErr result IsReadFault }
 {
     let realm = elements.text(alloc)?;
@@ -148,10 +151,11 @@ fn hello<E: Elements>(alloc: Global, mut elements: E) -> Result<Said, Fault>
 }
 
 #[tactic(auto, unfolding(crate::specs::FromClient::ending))]
-fn ending<E: Elements>(said: Said, mut elements: E) -> Result<Said, Fault>
+fn ending<E: MessageElements>(said: Said, mut elements: E) -> Result<Said, Fault>
     ensures ok { IfOk result (λ s. ending said (E.items elements) ≡ Some s) }
     ensures whole { OnOk result (E.is_whole elements ≡ true) }
-    ensures bad { result ≡ Err Fault.Shape → E.is_whole elements ≡ true → ending said (E.items elements) ≡ None }
+    ensures bad { result ≡ Err Fault.Shape → E.is_whole elements ≡ true
+        → ending said (E.items elements) ≡ None }
     ensures faults { IfErr result IsReadFault }
 {
     elements.pass_dict()?;
@@ -161,10 +165,11 @@ fn ending<E: Elements>(said: Said, mut elements: E) -> Result<Said, Fault>
 }
 
 #[tactic(auto, unfolding(crate::specs::FromClient::publish))]
-fn publish<E: Elements>(alloc: Global, mut elements: E) -> Result<Said, Fault>
+fn publish<E: MessageElements>(alloc: Global, mut elements: E) -> Result<Said, Fault>
     ensures ok { IfOk result (λ said. publish (E.items elements) ≡ Some said) }
     ensures whole { OnOk result (E.is_whole elements ≡ true) }
-    ensures bad { result ≡ Err Fault.Shape → E.is_whole elements ≡ true → publish (E.items elements) ≡ None }
+    ensures bad { result ≡ Err Fault.Shape → E.is_whole elements ≡ true
+        → publish (E.items elements) ≡ None }
     ensures faults { IfErr result IsReadFault }
 {
     let request = elements.id()?;
@@ -180,10 +185,11 @@ fn publish<E: Elements>(alloc: Global, mut elements: E) -> Result<Said, Fault>
 }
 
 #[tactic(auto, unfolding(crate::specs::FromClient::subscribe))]
-fn subscribe<E: Elements>(alloc: Global, mut elements: E) -> Result<Said, Fault>
+fn subscribe<E: MessageElements>(alloc: Global, mut elements: E) -> Result<Said, Fault>
     ensures ok { IfOk result (λ said. subscribe (E.items elements) ≡ Some said) }
     ensures whole { OnOk result (E.is_whole elements ≡ true) }
-    ensures bad { result ≡ Err Fault.Shape → E.is_whole elements ≡ true → subscribe (E.items elements) ≡ None }
+    ensures bad { result ≡ Err Fault.Shape → E.is_whole elements ≡ true
+        → subscribe (E.items elements) ≡ None }
     ensures faults { IfErr result IsReadFault }
 {
     let request = elements.id()?;
@@ -198,10 +204,11 @@ fn subscribe<E: Elements>(alloc: Global, mut elements: E) -> Result<Said, Fault>
 }
 
 #[tactic(auto, unfolding(crate::specs::FromClient::unsubscribe))]
-fn unsubscribe<E: Elements>(mut elements: E) -> Result<Said, Fault>
+fn unsubscribe<E: MessageElements>(mut elements: E) -> Result<Said, Fault>
     ensures ok { IfOk result (λ said. unsubscribe (E.items elements) ≡ Some said) }
     ensures whole { OnOk result (E.is_whole elements ≡ true) }
-    ensures bad { result ≡ Err Fault.Shape → E.is_whole elements ≡ true → unsubscribe (E.items elements) ≡ None }
+    ensures bad { result ≡ Err Fault.Shape → E.is_whole elements ≡ true
+        → unsubscribe (E.items elements) ≡ None }
     ensures faults { IfErr result IsReadFault }
 {
     let request = elements.id()?;

@@ -6,7 +6,7 @@ ghost use Rattle.eligibility.specs.Options.{text_of};
 ghost use Rattle.msgpack_cursor.specs.Seen.{data_of};
 
 use crate::fault::Fault;
-use crate::messages::elements::Elements;
+use crate::messages::elements::MessageElements;
 use crate::messages::tree_elements::id_among;
 use arguments::Args;
 use message_tree::Text;
@@ -114,7 +114,7 @@ fn authid_in(alloc: Global, value: &Value) -> Result<Option<Text>, Fault>
     }
 }
 
-impl<'a> Elements for OctetElements<'a> {
+impl<'a> MessageElements for OctetElements<'a> {
     ghost items = { λ e. e.items };
 
     ghost is_whole = { λ e. e.is_whole };
@@ -128,7 +128,7 @@ impl<'a> Elements for OctetElements<'a> {
 
     fn id(&mut self) -> Result<Id, Fault> {
         match self.rest.whole() {
-            Some(number) => id_among(number),
+            Some(number) => id_among(number).ok_or(Fault::Shape),
             None => Err(Fault::Shape),
         }
     }

@@ -1,9 +1,10 @@
 //! From what the broker tells to the message that says it.
 ghost use Rattle.std.specs.Prelude.{◌≡◌, ◌≤◌, IfOk, IfSome, Some, option_map, true};
-ghost use Rattle.message_tree.specs.Data.{text, dict, list, item, no_items, depth, items_depth, entries_depth, is_carried, items_carried, entries_carried};
-ghost use Rattle.message_tree.specs.View.{view, items_view, dict_view};
+ghost use Rattle.message_tree.specs.Data.{list, items_depth, is_carried, items_carried};
+ghost use Rattle.message_tree.specs.View.{items_view};
 ghost use Rattle.message_tree.specs.Meaning.{meaning};
-ghost use Rattle.session.specs.ToClient.{number, uri_of, type_of, triple, unsubscribed, farewell, error, welcome, event, message_of};
+ghost use Rattle.wamp_messages.specs.Arguments.{last_items};
+ghost use Rattle.session.specs.ToClient.{uri_of, type_of, triple, unsubscribed, farewell, error, welcome, event, message_of};
 
 use crate::messages::details::{dictionary, event_details, number, text, welcome_details};
 use eligibility::Who;
@@ -166,99 +167,28 @@ fn event(
     ensures carried { IfOk result (λ m. is_carried (meaning m) ≡ true) }
 {
     let details = event_details(alloc, made, with_topic, retained)?;
+    let mut arguments = last_elements(alloc, made)?;
+    let mut elements = vec![in alloc;
+        number(36),
+        number(subscription.value()),
+        number(made.id.value()),
+        dictionary(details),
+    ]?;
+    elements.append(&mut arguments)?;
+    Ok(message(elements))
+}
+
+/// The last elements of an EVENT: Arguments and ArgumentsKw, as far as they are there.
+fn last_elements(alloc: Global, made: &Publication) -> Result<Vec<Tree>, AllocError>
+    ensures ok { IfOk result
+        (λ ts. items_view ts.items ≡ last_items made.now.args.args made.now.args.kwargs) }
+    ensures bounded { IfOk result (λ ts. items_depth (items_view ts.items) ≤ 99) }
+    ensures carried { IfOk result (λ ts. items_carried (items_view ts.items) ≡ true) }
+{
     let payload = made.args.args().decoded(alloc)?;
     match (payload.args, payload.kwargs) {
-        (None, _) => event_without_arguments(alloc, subscription, made.id, details),
-        (Some(args), None) => {
-            event_with_arguments(alloc, subscription, made.id, details, args.into_tree())
-        }
-        (Some(args), Some(kwargs)) => event_with_both(
-            alloc,
-            subscription,
-            made.id,
-            details,
-            args.into_tree(),
-            kwargs.into_tree(),
-        ),
+        (None, _) => Ok(Vec::new(alloc)),
+        (Some(args), None) => Ok(vec![in alloc; args.into_tree()]?),
+        (Some(args), Some(kwargs)) => Ok(vec![in alloc; args.into_tree(), kwargs.into_tree()]?),
     }
-}
-
-/// [EVENT, Subscription, Publication, Details]
-fn event_without_arguments(
-    alloc: Global,
-    subscription: Id,
-    publication: Id,
-    details: Dict,
-) -> Result<Message, AllocError>
-    requires shallow { entries_depth (dict_view details) ≤ 98 }
-    requires writable { entries_carried (dict_view details) ≡ true }
-    ensures ok { IfOk result (λ m. meaning m ≡ list (item (number 36) (item (number subscription)
-        (item (number publication) (item (dict (dict_view details)) no_items))))) }
-    ensures carried { IfOk result (λ m. is_carried (meaning m) ≡ true) }
-{
-    let elements = vec![in alloc;
-        number(36),
-        number(subscription.value()),
-        number(publication.value()),
-        dictionary(details),
-    ]?;
-    Ok(message(elements))
-}
-
-/// [EVENT, Subscription, Publication, Details, Arguments]
-fn event_with_arguments(
-    alloc: Global,
-    subscription: Id,
-    publication: Id,
-    details: Dict,
-    args: Tree,
-) -> Result<Message, AllocError>
-    requires shallow { entries_depth (dict_view details) ≤ 98 }
-    requires writable { entries_carried (dict_view details) ≡ true }
-    requires args_shallow { depth (view args) ≤ 99 }
-    requires args_writable { is_carried (view args) ≡ true }
-    ensures ok { IfOk result (λ m. meaning m ≡ list (item (number 36) (item (number subscription)
-        (item (number publication) (item (dict (dict_view details))
-        (item (view args) no_items)))))) }
-    ensures carried { IfOk result (λ m. is_carried (meaning m) ≡ true) }
-{
-    let elements = vec![in alloc;
-        number(36),
-        number(subscription.value()),
-        number(publication.value()),
-        dictionary(details),
-        args,
-    ]?;
-    Ok(message(elements))
-}
-
-/// [EVENT, Subscription, Publication, Details, Arguments, ArgumentsKw]
-fn event_with_both(
-    alloc: Global,
-    subscription: Id,
-    publication: Id,
-    details: Dict,
-    args: Tree,
-    kwargs: Tree,
-) -> Result<Message, AllocError>
-    requires shallow { entries_depth (dict_view details) ≤ 98 }
-    requires writable { entries_carried (dict_view details) ≡ true }
-    requires args_shallow { depth (view args) ≤ 99 }
-    requires args_writable { is_carried (view args) ≡ true }
-    requires kwargs_shallow { depth (view kwargs) ≤ 99 }
-    requires kwargs_writable { is_carried (view kwargs) ≡ true }
-    ensures ok { IfOk result (λ m. meaning m ≡ list (item (number 36) (item (number subscription)
-        (item (number publication) (item (dict (dict_view details))
-        (item (view args) (item (view kwargs) no_items))))))) }
-    ensures carried { IfOk result (λ m. is_carried (meaning m) ≡ true) }
-{
-    let elements = vec![in alloc;
-        number(36),
-        number(subscription.value()),
-        number(publication.value()),
-        dictionary(details),
-        args,
-        kwargs,
-    ]?;
-    Ok(message(elements))
 }

@@ -1,25 +1,26 @@
-//! The elements of a client's message as trees.
+//! The elements of a message as trees.
 ghost use Rattle.std.specs.Prelude.{◌≡◌, ◌≤◌, IfOk, OnErr, IfErr, OnOk, IfSome, MatchOption, List, ℕ, None, Some, codes, true};
 ghost use Rattle.message_tree.specs.Data.{Items, Entries, item, no_items, depth, items_depth, find_entry};
 ghost use Rattle.message_tree.specs.View.{view, items_view};
 ghost use Rattle.eligibility.specs.Options.{number_of, text_of};
 ghost use Rattle.arguments.specs.Arguments.{is_args, is_kwargs};
-ghost use Rattle.arguments.specs.Reading.{args_of, kwargs_of};
-ghost use Rattle.session.specs.FromClient.{IsMore, IsReadFault, arguments_of, dict_of, first, id_of, id_among, publish_options_in, subscribe_options_in, text_or_none};
+ghost use Rattle.arguments.specs.Reading.{args_of, kwargs_of, with_args, with_both};
+ghost use Rattle.session.specs.FromClient.{IsMore, IsNext, IsReadFault, arguments_of, dict_of, first, id_of, id_among, publish_options_in, subscribe_options_in, text_or_none};
 
 use crate::fault::Fault;
-use crate::messages::elements::Elements;
+use crate::messages::elements::MessageElements;
 use arguments::Args;
 use message_tree::{Content, Dict, Options, Text, Tree};
-use std::alloc::Global;
+use std::alloc::{AllocError, Global};
 use std::collections::VecDeque;
 use std::marker::Model;
 use wamp_ids::Id;
 use wamp_messages::{PublishOptions, SubscribeOptions};
 
-/// The elements of a message that aren't read yet.
+/// The elements of a message that aren't read yet. A call takes the next element also where it is not of the kind that
+/// is asked for.
 #[derive(Drop)]
-pub(crate) struct TreeElements {
+pub struct TreeElements {
     rest: VecDeque<Tree>,
 }
 
@@ -50,43 +51,91 @@ impl TreeElements {
     }
 
     /// The next element.
-    fn next(&mut self) -> Option<Tree>
+    pub fn next(&mut self) -> Option<Tree>
         ensures first { MatchOption result (self.old ≡ no_items)
             (λ t. self.old ≡ item (view t) self.new) }
         ensures bounded { IfSome result (λ t. depth (view t) ≤ 99) }
     {
         self.rest.pop_front()
     }
+
+    /// The next element, a whole number that a serialization carries.
+    pub fn next_number(&mut self) -> Option<i128>
+        ensures { IsNext number_of self.old result self.new }
+    {
+        let tree = self.next()?;
+        let is_carried = tree.is_carried();
+        match tree {
+            Tree::Whole(number) if is_carried => Some(number),
+            _ => None,
+        }
+    }
+
+    /// The next element, an id.
+    pub fn next_id(&mut self) -> Option<Id>
+        ensures { IsNext id_of self.old result self.new }
+    {
+        match self.next() {
+            Some(Tree::Whole(number)) => id_among(number),
+            _ => None,
+        }
+    }
+
+    /// The next element, a text.
+    pub fn next_text(&mut self) -> Option<Text>
+        ensures { IsNext text_of self.old result self.new }
+    {
+        match self.next() {
+            Some(Tree::Text(text)) => Some(Text::from_string(text)),
+            _ => None,
+        }
+    }
+
+    /// The next element, a dictionary.
+    pub fn next_dict(&mut self) -> Option<Options>
+        ensures { IsNext dict_of self.old result self.new }
+    {
+        match self.next() {
+            Some(Tree::Dict(dict)) => Some(Options::of(dict)),
+            _ => None,
+        }
+    }
+
+    /// Arguments and ArgumentsKw, as far as they are there, as the last elements; `None` where others are left.
+    ///
+    /// # Errors
+    /// [`AllocError`] where a growth was refused.
+    pub fn last_arguments(mut self, alloc: Global) -> Result<Option<Args>, AllocError>
+        ensures { IfOk result (λ a. arguments_of self ≡ a) }
+    {
+        let Some(first) = self.next() else {
+            return Ok(Some(Args::none()));
+        };
+        let Some(second) = self.next() else {
+            return positional(alloc, first);
+        };
+        match self.next() {
+            None => both(alloc, first, second),
+            Some(_) => Ok(None),
+        }
+    }
 }
 
-impl Elements for TreeElements {
+impl MessageElements for TreeElements {
     ghost items = { λ e. e };
 
     ghost is_whole = { λ e. true };
 
     fn number(&mut self) -> Result<i128, Fault> {
-        let Some(tree) = self.next() else {
-            return Err(Fault::Shape);
-        };
-        let is_carried = tree.is_carried();
-        match tree {
-            Tree::Whole(number) if is_carried => Ok(number),
-            _ => Err(Fault::Shape),
-        }
+        self.next_number().ok_or(Fault::Shape)
     }
 
     fn id(&mut self) -> Result<Id, Fault> {
-        match self.next() {
-            Some(Tree::Whole(number)) => id_among(number),
-            _ => Err(Fault::Shape),
-        }
+        self.next_id().ok_or(Fault::Shape)
     }
 
     fn text(&mut self, _alloc: Global) -> Result<Text, Fault> {
-        match self.next() {
-            Some(Tree::Text(text)) => Ok(Text::from_string(text)),
-            _ => Err(Fault::Shape),
-        }
+        self.next_text().ok_or(Fault::Shape)
     }
 
     fn pass_text(&mut self) -> Result<(), Fault> {
@@ -135,33 +184,19 @@ impl Elements for TreeElements {
         Ok(())
     }
 
-    fn arguments(mut self, alloc: Global) -> Result<Args, Fault> {
-        let Some(first) = self.next() else {
-            return Ok(Args::none());
-        };
-        let Some(second) = self.next() else {
-            let args = args_of(alloc, first)?;
-            return Ok(Args::positional(alloc, args)?);
-        };
-        self.end()?;
-        let args = args_of(alloc, first)?;
-        let kwargs = kwargs_of(alloc, second)?;
-        Ok(Args::both(alloc, args, kwargs)?)
+    fn arguments(self, alloc: Global) -> Result<Args, Fault> {
+        self.last_arguments(alloc)?.ok_or(Fault::Shape)
     }
 }
 
-pub(crate) fn id_among(number: i128) -> Result<Id, Fault>
-    ensures ok { IfOk result (λ id. id_among number ≡ Some id) }
-    ensures err { OnErr result (id_among number ≡ None) }
-    ensures fault { IfErr result (λ fault. fault ≡ Fault.Shape) }
+/// The id of this number: from 1 to 2^53.
+pub fn id_among(number: i128) -> Option<Id>
+    ensures { result ≡ id_among number }
 {
     if number < 0 || number > u64::MAX as i128 {
-        return Err(Fault::Shape);
+        return None;
     }
-    match Id::new(number as u64) {
-        Ok(id) => Ok(id),
-        Err(_) => Err(Fault::Shape),
-    }
+    Id::new(number as u64).ok()
 }
 
 fn text_at(alloc: Global, details: &Options, key: &str) -> Result<Option<Text>, Fault>
@@ -177,34 +212,55 @@ fn text_at(alloc: Global, details: &Options, key: &str) -> Result<Option<Text>, 
     }
 }
 
-fn args_of(alloc: Global, tree: Tree) -> Result<Content, Fault>
-    requires { depth (view tree) ≤ 99 }
-    ensures ok { IfOk result (λ c. args_of (view tree) ≡ Some c) }
-    ensures bounded { IfOk result (λ c. depth c ≤ 99) }
-    ensures kind { IfOk result (λ c. is_args c ≡ true) }
-    ensures bad { OnErr result (args_of (view tree) ≡ None) }
-    ensures fault { IfErr result (λ fault. fault ≡ Fault.Shape) }
+/// Arguments alone.
+fn positional(alloc: Global, args: Tree) -> Result<Option<Args>, AllocError>
+    requires { depth (view args) ≤ 99 }
+    ensures { IfOk result (λ a. with_args (args_of (view args)) ≡ a) }
 {
-    match tree {
-        Tree::Null => Ok(Content::of(Tree::List(Vec::new(alloc)))),
-        Tree::List(items) => Ok(Content::of(Tree::List(items))),
-        Tree::Uncarried => Ok(Content::of(Tree::Uncarried)),
-        _ => Err(Fault::Shape),
+    match args_of(alloc, args) {
+        Some(args) => Ok(Some(Args::positional(alloc, args)?)),
+        None => Ok(None),
     }
 }
 
-fn kwargs_of(alloc: Global, tree: Tree) -> Result<Content, Fault>
+/// Arguments and ArgumentsKw.
+fn both(alloc: Global, args: Tree, kwargs: Tree) -> Result<Option<Args>, AllocError>
+    requires { (depth (view args) ≤ 99) × (depth (view kwargs) ≤ 99) }
+    ensures { IfOk result
+        (λ a. with_both (args_of (view args)) (kwargs_of (view kwargs)) ≡ a) }
+{
+    match (args_of(alloc, args), kwargs_of(alloc, kwargs)) {
+        (Some(args), Some(kwargs)) => Ok(Some(Args::both(alloc, args, kwargs)?)),
+        _ => Ok(None),
+    }
+}
+
+/// Arguments: a list, which null is too, or what isn't carried.
+fn args_of(alloc: Global, tree: Tree) -> Option<Content>
     requires { depth (view tree) ≤ 99 }
-    ensures ok { IfOk result (λ c. kwargs_of (view tree) ≡ Some c) }
-    ensures bounded { IfOk result (λ c. depth c ≤ 99) }
-    ensures kind { IfOk result (λ c. is_kwargs c ≡ true) }
-    ensures bad { OnErr result (kwargs_of (view tree) ≡ None) }
-    ensures fault { IfErr result (λ fault. fault ≡ Fault.Shape) }
+    ensures found { result ≡ args_of (view tree) }
+    ensures bounded { IfSome result (λ c. depth c ≤ 99) }
+    ensures kind { IfSome result (λ c. is_args c ≡ true) }
 {
     match tree {
-        Tree::Null => Ok(Content::of(Tree::Dict(Dict::new(alloc)))),
-        Tree::Dict(dict) => Ok(Content::of(Tree::Dict(dict))),
-        Tree::Uncarried => Ok(Content::of(Tree::Uncarried)),
-        _ => Err(Fault::Shape),
+        Tree::Null => Some(Content::of(Tree::List(Vec::new(alloc)))),
+        Tree::List(items) => Some(Content::of(Tree::List(items))),
+        Tree::Uncarried => Some(Content::of(Tree::Uncarried)),
+        _ => None,
+    }
+}
+
+/// ArgumentsKw: a dictionary, which null is too, or what isn't carried.
+fn kwargs_of(alloc: Global, tree: Tree) -> Option<Content>
+    requires { depth (view tree) ≤ 99 }
+    ensures found { result ≡ kwargs_of (view tree) }
+    ensures bounded { IfSome result (λ c. depth c ≤ 99) }
+    ensures kind { IfSome result (λ c. is_kwargs c ≡ true) }
+{
+    match tree {
+        Tree::Null => Some(Content::of(Tree::Dict(Dict::new(alloc)))),
+        Tree::Dict(dict) => Some(Content::of(Tree::Dict(dict))),
+        Tree::Uncarried => Some(Content::of(Tree::Uncarried)),
+        _ => None,
     }
 }

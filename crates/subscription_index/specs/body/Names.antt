@@ -11,7 +11,7 @@ use Rattle.subscription_index.specs.body.Nodes.{number_on}
 
 -- a text of more components than the tree is deep
 abbrev pub is_deep : List ℕ → Bool
-is_deep text = nat_lt 64 (length (components text))
+is_deep text = nat_lt 8 (length (components text))
 
 -- a wildcard's number: in the table where it is deep, else in the tree
 abbrev pub wildcard_number : Table → Node → List ℕ → Option ℕ

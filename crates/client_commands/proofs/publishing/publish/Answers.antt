@@ -2,7 +2,7 @@ use Rattle.std.proofs.Common.{◌≡◌, ap, inl, inr, refl, subst}
 use Rattle.std.proofs.lemmas.Result.{on_ok_weaker}
 use Rattle.rawsocket.proofs.Lemmas.{no_whole_steps, whole_fine}
 use Rattle.session.specs.Opened.{exchanged}
-use Rattle.client_messages.specs.declared.client_message.ClientMessage.TheVariants.{Goodbye}
+use Rattle.client_messages.specs.declared.client_message.ClientMessage.TheVariants.{GoodbyeAndOut}
 use Rattle.client_session.specs.Hearing.{Terms}
 use Rattle.client_session.specs.Saying.{saying}
 use Rattle.client_commands.specs.Acts.{Leaves, standing_of, terms_of}
@@ -43,7 +43,7 @@ returns-in-Ok-publish_all-clause-cause g c =
     let command = c.args.command.now in
     let published = standing_of c.publish_all.new.session (g.I.Source.seen c.publish_all.new.source) (g.O.Sink.seen c.publish_all.new.sink) in
     both-err c.leave.result _ _ _
-    (λ fault caused carried. λ is. inr (ends-leaving command.contact.serializer command.contact.realm command.contact.authid command.wishes command.topic command.arguments command.kwargs (exchanged (g.I.Source.seen c.args.source.now) (g.O.Sink.seen c.args.sink.now))
+    (λ fault caused carried. λ is. inr (ends-leaving command (exchanged (g.I.Source.seen c.args.source.now) (g.O.Sink.seen c.args.sink.now))
     c.in-Ok.session (g.I.Source.seen c.join.new.source).given (g.O.Sink.seen c.join.new.sink).taken (g.J.Source.seen c.args.input.now).given (g.J.Source.seen c.publish_all.new.input).given (g.J.Source.seen c.publish_all.new.input).is_ended (terms_of c.publish_all.new.session) published
     (exchanged (g.I.Source.seen c.leave.new.source) (g.O.Sink.seen c.leave.new.sink)) fault c.in-Ok.ensures.joined c.publish_all.ensures.terms (inl c.in-Ok-publish_all.ensures.published) (caused (by-message fault carried is))))
     c.leave.ensures.cause c.leave.ensures.carried
@@ -57,10 +57,10 @@ returns-in-Ok-leave-clause-cause g c =
     let joined = standing_of c.in-Ok.session (g.I.Source.seen c.join.new.source) (g.O.Sink.seen c.join.new.sink) in
     let published = standing_of c.publish_all.new.session (g.I.Source.seen c.publish_all.new.source) (g.O.Sink.seen c.publish_all.new.sink) in
     let bad : c.in-Err-BadLine.field-0 ≡ BadLine c.in-Err-BadLine.line = c.in-Err-BadLine.field-0-is in
-    λ _. inr (ends-publishing command.contact.serializer command.contact.realm command.contact.authid command.wishes command.topic command.arguments command.kwargs (exchanged (g.I.Source.seen c.args.source.now) (g.O.Sink.seen c.args.sink.now))
+    λ _. inr (ends-publishing command (exchanged (g.I.Source.seen c.args.source.now) (g.O.Sink.seen c.args.sink.now))
     c.in-Ok.session (g.I.Source.seen c.join.new.source).given (g.O.Sink.seen c.join.new.sink).taken given_before given_now over published
     (exchanged (g.I.Source.seen c.leave-in-Err-BadLine.new.source) (g.O.Sink.seen c.leave-in-Err-BadLine.new.sink)) (BadLine c.in-Err-BadLine.line) c.in-Ok.ensures.joined
-    (subst (λ (f : Fault). EndsInAll command.wishes command.topic command.kwargs command.arguments (terms_of c.in-Ok.session) joined published given_before given_now over f) bad (c.in-Err-BadLine.ensures.ends (ap is_blamed bad)))
+    (subst (λ (f : Fault). EndsInAll command (terms_of c.in-Ok.session) joined published given_before given_now over f) bad (c.in-Err-BadLine.ensures.ends (ap is_blamed bad)))
     c.leave-in-Err-BadLine.ensures.goes_on)
 
 pub returns-in-Err-BadLine-clause-cause : goal.returns-in-Err-BadLine-clause-cause
@@ -72,10 +72,10 @@ returns-in-Err-BadLine-clause-cause g c =
     let joined = standing_of c.in-Ok.session (g.I.Source.seen c.join.new.source) (g.O.Sink.seen c.join.new.sink) in
     let published = standing_of c.publish_all.new.session (g.I.Source.seen c.publish_all.new.source) (g.O.Sink.seen c.publish_all.new.sink) in
     let bad : c.in-Err-BadLine.field-0 ≡ BadLine c.in-Err-BadLine.line = c.in-Err-BadLine.field-0-is in
-    λ is. inr (ends-leaving command.contact.serializer command.contact.realm command.contact.authid command.wishes command.topic command.arguments command.kwargs (exchanged (g.I.Source.seen c.args.source.now) (g.O.Sink.seen c.args.sink.now))
+    λ is. inr (ends-leaving command (exchanged (g.I.Source.seen c.args.source.now) (g.O.Sink.seen c.args.sink.now))
     c.in-Ok.session (g.I.Source.seen c.join.new.source).given (g.O.Sink.seen c.join.new.sink).taken given_before given_now over (terms_of c.publish_all.new.session) published
     (exchanged (g.I.Source.seen c.leave-in-Err-BadLine.new.source) (g.O.Sink.seen c.leave-in-Err-BadLine.new.sink)) c.in-Err-leave.fault c.in-Ok.ensures.joined c.publish_all.ensures.terms
-    (inr (c.in-Err-BadLine.line, subst (λ (f : Fault). EndsInAll command.wishes command.topic command.kwargs command.arguments (terms_of c.in-Ok.session) joined published given_before given_now over f) bad (c.in-Err-BadLine.ensures.ends (ap is_blamed bad))))
+    (inr (c.in-Err-BadLine.line, subst (λ (f : Fault). EndsInAll command (terms_of c.in-Ok.session) joined published given_before given_now over f) bad (c.in-Err-BadLine.ensures.ends (ap is_blamed bad))))
     (c.in-Err-leave.ensures.cause (by-message c.in-Err-leave.fault c.in-Err-leave.ensures.carried is)))
 
 pub returns-in-Err-Closed-clause-cause : goal.returns-in-Err-Closed-clause-cause
@@ -90,10 +90,10 @@ returns-in-Err-Closed-clause-cause g c =
     let closed : c.in-Err-Closed.field-0 ≡ Closed c.in-Err-Closed.reason = c.in-Err-Closed.field-0-is in
     λ is.
     let told : c.answer_goodbye.result ≡ Closed c.in-Err-Closed.reason = c.answer_goodbye.ensures.closed (by-message c.answer_goodbye.result c.answer_goodbye.ensures.carried is) in
-    inr (ends-publishing command.contact.serializer command.contact.realm command.contact.authid command.wishes command.topic command.arguments command.kwargs (exchanged (g.I.Source.seen c.args.source.now) (g.O.Sink.seen c.args.sink.now))
+    inr (ends-publishing command (exchanged (g.I.Source.seen c.args.source.now) (g.O.Sink.seen c.args.sink.now))
     c.in-Ok.session (g.I.Source.seen c.join.new.source).given (g.O.Sink.seen c.join.new.sink).taken given_before given_now over published last c.answer_goodbye.result c.in-Ok.ensures.joined
-    (subst (λ (f : Fault). EndsInAll command.wishes command.topic command.kwargs command.arguments (terms_of c.in-Ok.session) joined published given_before given_now over f) (cc (closed, told)) (c.in-Err-Closed.ensures.ends (ap is_blamed closed)))
-    (continues-begun (g.I.Source.seen c.publish_all.new.source).given (g.O.Sink.seen c.publish_all.new.sink).taken (saying c.publish_all.new.session.line.serializer Goodbye) (g.O.Sink.seen c.answer_goodbye.new.sink).taken c.answer_goodbye.ensures.begun))
+    (subst (λ (f : Fault). EndsInAll command (terms_of c.in-Ok.session) joined published given_before given_now over f) (cc (closed, told)) (c.in-Err-Closed.ensures.ends (ap is_blamed closed)))
+    (continues-begun (g.I.Source.seen c.publish_all.new.source).given (g.O.Sink.seen c.publish_all.new.sink).taken (saying c.publish_all.new.session.line.serializer GoodbyeAndOut) (g.O.Sink.seen c.answer_goodbye.new.sink).taken c.answer_goodbye.ensures.begun))
 
 pub returns-clause-cause : goal.returns-clause-cause
 returns-clause-cause g c =
@@ -105,6 +105,6 @@ returns-clause-cause g c =
     let published = standing_of c.publish_all.new.session (g.I.Source.seen c.publish_all.new.source) (g.O.Sink.seen c.publish_all.new.sink) in
     let last = exchanged (g.I.Source.seen c.publish_all.new.source) (g.O.Sink.seen c.publish_all.new.sink) in
     λ is.
-    inr (ends-publishing command.contact.serializer command.contact.realm command.contact.authid command.wishes command.topic command.arguments command.kwargs (exchanged (g.I.Source.seen c.args.source.now) (g.O.Sink.seen c.args.sink.now))
+    inr (ends-publishing command (exchanged (g.I.Source.seen c.args.source.now) (g.O.Sink.seen c.args.sink.now))
     c.in-Ok.session (g.I.Source.seen c.join.new.source).given (g.O.Sink.seen c.join.new.sink).taken given_before given_now over published last c.in-Err-publish_all.fault c.in-Ok.ensures.joined
     (c.in-Err-publish_all.ensures.ends is) (continues-still last))

@@ -2,7 +2,7 @@ use Rattle.std.proofs.Common.{ap, subst, sym}
 use Rattle.std.proofs.lemmas.Result.{on_ok_weaker}
 use Rattle.rawsocket.specs.Steps.{failures_told}
 use Rattle.rawsocket.proofs.Lemmas.{no_whole_steps, whole_fine}
-use Rattle.client_commands.specs.Lines.{IsReadToEnd}
+use Rattle.client_commands.specs.Published.{IsReadToEnd}
 use Rattle.client_commands.specs.declared.command.Arguments.{Arguments}
 use Rattle.client_commands.proofs.FaultLemmas.{aside-input, aside-output}
 use Rattle.client_commands.proofs.publishing.publish_all.Goals as goal

@@ -1,7 +1,6 @@
 use Rattle.std.proofs.Common.{◌≡◌, ◌++◌, List, ℕ, length}
-use Rattle.client_session.specs.Hearing.{Ear}
 use Rattle.client_commands.specs.Acts.{standing_of, terms_of}
-use Rattle.client_commands.specs.Lines.{IsPublishedOf}
+use Rattle.client_commands.specs.Published.{IsPublishedOf, WherePublished}
 use Rattle.client_commands.proofs.publishing.publish_piece.Given as goal
 
 abbrev pub invariant-lines : goal.invariant-lines
@@ -9,9 +8,8 @@ invariant-lines g l = record {
   done : List ℕ;
   piece : l.piece ≡ done ++ l.left;
   published :
-      (before : Ear) (input : List ℕ)
-      → IsPublishedOf l.command.wishes l.command.topic l.command.kwargs (terms_of l.fn.session) before (standing_of l.fn.session (g.I.Source.seen l.fn.source) (g.O.Sink.seen l.fn.sink)) input l.fn.progress.rest.items l.fn.progress.count
-      → IsPublishedOf l.command.wishes l.command.topic l.command.kwargs (terms_of l.fn.session) before (standing_of l.session (g.I.Source.seen l.source) (g.O.Sink.seen l.sink)) (input ++ done) l.progress.rest.items l.progress.count;
+      WherePublished l.command (terms_of l.fn.session) (standing_of l.fn.session (g.I.Source.seen l.fn.source) (g.O.Sink.seen l.fn.sink)) l.fn.progress
+      (λ before input. IsPublishedOf l.command (terms_of l.fn.session) before (standing_of l.session (g.I.Source.seen l.source) (g.O.Sink.seen l.sink)) (input ++ done) l.progress.rest.items l.progress.count l.progress.answered);
   terms : terms_of l.session ≡ terms_of l.fn.session;
   reads : (g.I.Source.seen l.source).failures ≡ (g.I.Source.seen l.fn.source).failures;
   writes : (g.O.Sink.seen l.sink).failures ≡ (g.O.Sink.seen l.fn.sink).failures;

@@ -10,6 +10,9 @@ returns-in-Abort-clause-reads c = rw c.in-Abort.is (reads _ _ _ c.ending.ensures
 pub returns-in-Goodbye-clause-reads : goal.returns-in-Goodbye-clause-reads
 returns-in-Goodbye-clause-reads c = rw c.in-Goodbye.is (reads _ _ _ c.ending-in-Goodbye.ensures.message (said_of-goodbye _))
 
+pub returns-in-GoodbyeAndOut-clause-reads : goal.returns-in-GoodbyeAndOut-clause-reads
+returns-in-GoodbyeAndOut-clause-reads c = rw c.in-GoodbyeAndOut.is (reads _ _ _ c.ending-in-GoodbyeAndOut.ensures.message (said_of-goodbye _))
+
 pub returns-in-Publish-clause-reads : goal.returns-in-Publish-clause-reads
 returns-in-Publish-clause-reads c =
     let told = c.publish.ensures in

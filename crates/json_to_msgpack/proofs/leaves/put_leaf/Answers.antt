@@ -4,14 +4,14 @@ use Rattle.json_codec.specs.Decoder.{string_tree}
 use Rattle.serde_json.specs.Data.{null, boolean, string}
 use Rattle.serde_json.specs.Read.{number_of}
 use Rattle.json.specs.Token as grammar
-use Rattle.json_to_msgpack.specs.declared.token.Token.{Token}
+use Rattle.json_to_msgpack.specs.declared.token.JsonToken.{JsonToken}
 use Rattle.std.specs.String.{string_bytes}
 use Rattle.json_to_msgpack.specs.body.Lexing.{token_of}
 use Rattle.json_to_msgpack.specs.body.Values.{IsLeafAdded, IsTokenPut, IsNumberPut}
 use Rattle.json_to_msgpack.proofs.LeafSpellings.{number_added}
 use Rattle.json_to_msgpack.proofs.leaves.put_leaf.Goals as goal
 
-as_token : (fits : Bool) (token kind : Token) (before after : List ℕ) → token ≡ kind → IsTokenPut fits (token_of kind) before after → IsTokenPut fits (token_of token) before after
+as_token : (fits : Bool) (token kind : JsonToken) (before after : List ℕ) → token ≡ kind → IsTokenPut fits (token_of kind) before after → IsTokenPut fits (token_of token) before after
 as_token fits token kind before after e h = subst (λ t. IsTokenPut fits (token_of t) before after) (sym e) h
 
 -- a number that is put is a token that is

@@ -88,7 +88,7 @@ put_list-loop-init t c = record {
   many = refl;
   fit = c.in_ok-is_written.ensures.fits ∙ sym (and-true (ltb c.args.count 4294967296));
   written = λ is. c.in_ok-is_written.ensures.ok is ∙ ap (λ o. c.args.out.now.since ++ o) (sym (append-nil (list_head c.args.count)));
-  before = c.put_short_list_head.ensures.before;
+  before = c.put_fitting_list_head.ensures.before;
 }
 
 pub put_list-returns-in_default-clause-none : goal.put_list-returns-in_default-clause-none

@@ -25,7 +25,7 @@ invariant_of-self g c =
     let room = c.self.invariant.1 in
     let l = both.1 in
     let same = ap vec_capacity n.last_cut in
-    (subst (λ h. Stands h b.table.rows.items) (sym n.realm) both.0, omega (arith, room, l, same), n.knows c.self.invariant.2, made_kept a.table.realm b.table.realm _ _ n.realm (ap (λ (p : GhostList _). map said (items_of p)) n.handled) c.self.invariant.3)
+    (subst (λ h. Stands h b.table.rows.items) (sym n.realm) both.0, omega (arith, room, l, same), n.keeps.table.knows c.self.invariant.2, made_kept a.table.realm b.table.realm _ _ n.realm (ap (λ (p : GhostList _). map said (items_of p)) n.keeps.handled) c.self.invariant.3)
 
 pub returns-clause-ok : goal.returns-clause-ok
 returns-clause-ok g c =
@@ -36,5 +36,5 @@ returns-clause-ok g c =
     let new : Acting g.row.S.Denot = record { chronicle = b.table.chronicle.chronicle; history = b.table.realm; rows = b.table.rows.items; words = g.W.IdSource.given b.words; last_cut = b.last_cut.items; handled = map said (items_of b.handled) } in
     subst (λ (o : Acting g.row.S.Denot). IfOk c.settle.result (λ rest. Settles c.args.drain.conn c.args.drain rest.items.items o new)) c.self.view_is
     (IfOk-weaker c.settle.result _ _
-    (λ rest e. settles c.args.drain.conn c.args.drain rest.items.items old new c.self.invariant.0 e n.realm (ap (g.W.IdSource.given) n.words) (ap (λ v. v.items) n.last_cut) (ap (λ (p : GhostList _). map said (items_of p)) n.handled))
+    (λ rest e. settles c.args.drain.conn c.args.drain rest.items.items old new c.self.invariant.0 e n.realm (ap (g.W.IdSource.given) n.words) (ap (λ v. v.items) n.last_cut) (ap (λ (p : GhostList _). map said (items_of p)) n.keeps.handled))
     n.rows)

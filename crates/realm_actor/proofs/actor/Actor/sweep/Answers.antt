@@ -21,7 +21,7 @@ invariant_of-self g c =
     let less = fewer (λ r. live a.table.realm r.conn) a.table.rows.items in
     let l = ap length n.rows in
     let same = ap vec_capacity n.last_cut in
-    (subst (λ h. Stands h b.table.rows.items) (sym n.realm) (subst (λ x. Stands a.table.realm x) (sym n.rows) stands), omega (arith, room, less, l, same), n.knows c.self.invariant.2, made_kept a.table.realm b.table.realm _ _ n.realm (ap (λ (p : GhostList _). map said (items_of p)) n.handled) c.self.invariant.3)
+    (subst (λ h. Stands h b.table.rows.items) (sym n.realm) (subst (λ x. Stands a.table.realm x) (sym n.rows) stands), omega (arith, room, less, l, same), n.keeps.table.knows c.self.invariant.2, made_kept a.table.realm b.table.realm _ _ n.realm (ap (λ (p : GhostList _). map said (items_of p)) n.keeps.handled) c.self.invariant.3)
 
 pub returns-clause-sweeps : goal.returns-clause-sweeps
 returns-clause-sweeps g c =
@@ -31,4 +31,4 @@ returns-clause-sweeps g c =
     let old : Acting g.row.S.Denot = record { chronicle = a.table.chronicle.chronicle; history = a.table.realm; rows = a.table.rows.items; words = g.W.IdSource.given a.words; last_cut = a.last_cut.items; handled = map said (items_of a.handled) } in
     let new : Acting g.row.S.Denot = record { chronicle = b.table.chronicle.chronicle; history = b.table.realm; rows = b.table.rows.items; words = g.W.IdSource.given b.words; last_cut = b.last_cut.items; handled = map said (items_of b.handled) } in
     subst (λ (o : Acting g.row.S.Denot). Sweeps o new) c.self.view_is
-    (sweeps old new c.self.invariant.0 n.rows n.realm (ap (g.W.IdSource.given) n.words) (ap (λ v. v.items) n.last_cut) (ap (λ (p : GhostList _). map said (items_of p)) n.handled))
+    (sweeps old new c.self.invariant.0 n.rows n.realm (ap (g.W.IdSource.given) n.words) (ap (λ v. v.items) n.last_cut) (ap (λ (p : GhostList _). map said (items_of p)) n.keeps.handled))

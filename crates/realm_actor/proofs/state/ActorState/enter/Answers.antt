@@ -4,6 +4,7 @@ use Rattle.realm_actor.specs.ActorView.{working}
 use Rattle.realm_actor.specs.Handle.{draws}
 use Rattle.realm_actor.proofs.HandleLemmas.{as_many}
 use Rattle.realm_actor.proofs.AppliedActs.{by_outcome, not_dropped, applies_drawn, loses_by, few_drawn, no_joining}
+use Rattle.realm_actor.proofs.TableInvariant.{keeps_rest}
 use Rattle.realm_actor.proofs.state.ActorState.enter.Goals as goal
 
 pub returns-clause-outcome : goal.returns-clause-outcome
@@ -28,3 +29,9 @@ returns-clause-room g c = λ before.
     let l = as_many c.take_in.result c.args.conn c.args.act old new (no_joining c.args.act c.requires.other) (returns-clause-outcome g c) in
     let room = ap vec_capacity c.take_in.ensures.last_cut in
     omega (arith, before, l, room)
+
+pub returns-then-not-is_live-clause-keeps : goal.returns-then-not-is_live-clause-keeps
+returns-then-not-is_live-clause-keeps g c = keeps_rest c.args.self.now
+
+pub returns-clause-keeps : goal.returns-clause-keeps
+returns-clause-keeps g c = let kept = c.take_in.ensures.keeps in record { handled = kept.handled; table = kept.table }

@@ -3,6 +3,7 @@ use Rattle.realm_actor.specs.ActorView.{working}
 use Rattle.realm_actor.specs.Handle.{Does}
 use Rattle.realm_actor.specs.Invariant.{Stands}
 use Rattle.realm_actor.proofs.HandleLemmas.{does, stands_after, none_after}
+use Rattle.realm_actor.proofs.TableInvariant.{keeps_on}
 use Rattle.realm_actor.proofs.state.ActorState.handle_act.Goals as goal
 
 pub returns-clause-does : goal.returns-clause-does
@@ -24,3 +25,9 @@ returns-clause-stands g c =
     (stands_after acted.history acted.rows news c.act-outcome.ensures.sound
     (none_after c.act-outcome.result c.args.letter.conn c.args.letter.act old acted c.requires.stands.none_full c.act-outcome.ensures.outcome)
     c.name.ensures.rows)
+
+pub name-requires-clause-knows : goal.name-requires-clause-knows
+name-requires-clause-knows g c = c.act-outcome.ensures.keeps.table.knows c.requires.knows
+
+pub returns-clause-keeps : goal.returns-clause-keeps
+returns-clause-keeps g c = let kept = c.act-outcome.ensures.keeps in record { handled = kept.handled; table = keeps_on kept.table c.name.ensures.keeps }

@@ -9,6 +9,7 @@ use Rattle.realm_actor.specs.Tables.{standing, Sound}
 use Rattle.realm_actor.specs.Cuts.{NoneFull}
 use Rattle.realm_actor.proofs.AppliedActs.{loses_early, loses_join, applies_join}
 use Rattle.realm_actor.proofs.LastCutLemmas.{insert_length, length_all}
+use Rattle.realm_actor.proofs.TableInvariant.{keeps_rest, keeps_on}
 use Rattle.realm_actor.proofs.state.ActorState.join.Goals as goal
 
 pub admit-requires-clause-sound : goal.admit-requires-clause-sound
@@ -72,3 +73,14 @@ returns-in-Ok-clause-room g c = λ before.
 
 pub cut_found-requires-clause-none : goal.cut_found-requires-clause-none
 cut_found-requires-clause-none g c = λ quiet. c.in-Ok.ensures.none quiet (subst (λ l. NoneFull l) (sym c.make_room.ensures.rows) c.requires.none)
+
+pub returns-then-not-may_join-clause-keeps : goal.returns-then-not-may_join-clause-keeps
+returns-then-not-may_join-clause-keeps g c = keeps_rest c.args.self.now
+
+pub returns-in-Err-clause-keeps : goal.returns-in-Err-clause-keeps
+returns-in-Err-clause-keeps g c = let kept = c.make_room.ensures.keeps in record { handled = kept.handled; table = keeps_on kept.table c.admit.ensures.keeps }
+
+pub returns-in-Ok-clause-keeps : goal.returns-in-Ok-clause-keeps
+returns-in-Ok-clause-keeps g c =
+    let kept = c.make_room.ensures.keeps in
+    record { handled = kept.handled; table = keeps_on kept.table (keeps_on c.admit.ensures.keeps c.cut_found.ensures.keeps) }

@@ -1,9 +1,10 @@
-use Rattle.std.proofs.Common.{sym, ◌∙◌, subst, arith}
+use Rattle.std.proofs.Common.{refl, sym, ◌∙◌, subst, arith}
 use Rattle.realm_actor.specs.ActorView.{working}
 use Rattle.realm_actor.specs.Stop.{Stops}
 use Rattle.realm_actor.specs.Invariant.{Stands}
 use Rattle.realm_actor.proofs.StopLemmas.{stops, closes_moved, outcome_applied, outcome_refused}
 use Rattle.realm_actor.proofs.HandleLemmas.{stands_after}
+use Rattle.realm_actor.proofs.TableInvariant.{keeps_on}
 use Rattle.realm_actor.proofs.state.ActorState.stop.Goals as goal
 
 pub returns-then-all_closed-clause-stops : goal.returns-then-all_closed-clause-stops
@@ -70,3 +71,12 @@ returns-else-all_closed-clause-room g c =
     let same = c.clear.ensures.capacity in
     let kept = c.name.ensures.capacity in
     omega (arith, n, m, room, same, kept)
+
+pub name-requires-clause-knows : goal.name-requires-clause-knows
+name-requires-clause-knows g c = c.close_all-all_closed.ensures.keeps.knows c.requires.knows
+
+pub returns-then-all_closed-clause-keeps : goal.returns-then-all_closed-clause-keeps
+returns-then-all_closed-clause-keeps g c = record { handled = refl; table = keeps_on c.close_all-all_closed.ensures.keeps c.name.ensures.keeps }
+
+pub returns-else-all_closed-clause-keeps : goal.returns-else-all_closed-clause-keeps
+returns-else-all_closed-clause-keeps g c = record { handled = refl; table = keeps_on c.close_all-all_closed.ensures.keeps c.name.ensures.keeps }

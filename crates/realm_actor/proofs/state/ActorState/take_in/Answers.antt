@@ -1,7 +1,8 @@
-use Rattle.std.proofs.Common.{ap, ◌∙◌, subst, ◌++◌, ◌∷◌}
+use Rattle.std.proofs.Common.{refl, ap, ◌∙◌, subst, ◌++◌, ◌∷◌}
 use Rattle.realm_actor.specs.Tables.{standing, EachMarked}
 use Rattle.realm_actor.specs.Cuts.{Accepted}
 use Rattle.realm_actor.proofs.FoundFull.{ready_live}
+use Rattle.realm_actor.proofs.TableInvariant.{keeps_on}
 use Rattle.realm_actor.proofs.state.ActorState.take_in.Goals as goal
 
 pub accept-requires-clause-ready : goal.accept-requires-clause-ready
@@ -21,3 +22,9 @@ returns-in-Err-clause-outcome g c =
       subst (λ x. Accepted (record (standing x) { rows = t.3 }) t.2 t.1 (standing c.lose.new.self)) same t.6,
       t.7 ∙ ap (λ w. g.W.IdSource.given w ++ t.0 ∷ t.1) c.in-Err.ensures.words,
     )
+
+pub returns-in-Ok-clause-keeps : goal.returns-in-Ok-clause-keeps
+returns-in-Ok-clause-keeps g c = record { handled = refl; table = c.accept.ensures.keeps }
+
+pub returns-in-Err-clause-keeps : goal.returns-in-Err-clause-keeps
+returns-in-Err-clause-keeps g c = record { handled = refl; table = keeps_on c.accept.ensures.keeps c.lose.ensures.keeps }

@@ -1,6 +1,7 @@
 use Rattle.std.proofs.Common.{subst}
 use Rattle.realm_actor.specs.Tables.{standing, Sound}
 use Rattle.realm_actor.specs.Cuts.{Cuts}
+use Rattle.realm_actor.proofs.TableInvariant.{keeps_on}
 use Rattle.realm_actor.proofs.table.Table.accept.Goals as goal
 
 pub cut_found-requires-clause-none : goal.cut_found-requires-clause-none
@@ -21,3 +22,9 @@ returns-clause-ok g c =
       },
       cuts.2,
     )
+
+pub returns-clause-keeps : goal.returns-clause-keeps
+returns-clause-keeps g c = keeps_on c.enter.ensures.keeps c.cut_found.ensures.keeps
+
+pub returns-in_err-is_full-clause-keeps : goal.returns-in_err-is_full-clause-keeps
+returns-in_err-is_full-clause-keeps g c = c.enter.ensures.keeps

@@ -2,10 +2,11 @@ use Rattle.std.proofs.Common.{refl, sym, ap, ◌∙◌, subst, [], ◌++◌, app
 use Rattle.realm_actor.specs.Tables.{standing}
 use Rattle.realm_actor.specs.Stop.{Closes, first, one_more}
 use Rattle.realm_actor.proofs.StopLemmas.{nil_append, closes_moved}
+use Rattle.realm_actor.proofs.TableInvariant.{keeps_none, keeps_on}
 use Rattle.realm_actor.proofs.table.Table.close_all.Goals as goal
 
 pub loop-place-init : goal.loop-place-init
-loop-place-init g c = record { closes = ([], [], first, sym (append-nil (g.W.IdSource.given c.args.words.now)), refl); sound = c.requires.sound; none = c.requires.none; knows = λ k. k; chronicle = refl }
+loop-place-init g c = record { closes = ([], [], first, sym (append-nil (g.W.IdSource.given c.args.words.now)), refl); sound = c.requires.sound; none = c.requires.none; keeps = keeps_none c.args.self.now }
 
 pub close_at-is_closed-requires-clause-inside : goal.close_at-is_closed-requires-clause-inside
 close_at-is_closed-requires-clause-inside g c =
@@ -29,6 +30,5 @@ loop-place-preserved g c =
       );
       sound = c.close_at-is_closed.ensures.sound;
       none = c.close_at-is_closed.ensures.none;
-      knows = λ k. c.close_at-is_closed.ensures.knows (i.knows k);
-      chronicle = c.close_at-is_closed.ensures.chronicle ∙ i.chronicle;
+      keeps = keeps_on i.keeps c.close_at-is_closed.ensures.keeps;
     }

@@ -4,6 +4,7 @@ use Rattle.realm_actor.specs.Tables.{standing, EachMarked}
 use Rattle.realm_actor.specs.Cuts.{Accepted}
 use Rattle.realm_actor.specs.Stop.{passed, closed, refused}
 use Rattle.realm_actor.proofs.FoundFull.{ready_live}
+use Rattle.realm_actor.proofs.TableInvariant.{keeps_none, keeps_on}
 use Rattle.realm_actor.proofs.table.Table.close_at.Goals as goal
 
 pub returns-then-not-is_live-clause-closes : goal.returns-then-not-is_live-clause-closes
@@ -44,3 +45,9 @@ returns-in-Err-clause-closes g c =
       t.7 ∙ ap (λ w. g.W.IdSource.given w ++ t.0 ∷ t.1) c.in-Err.ensures.words ∙ ap (λ l. l ++ t.0 ∷ t.1) c.next_word-word.ensures ∙ append_assoc before (gone ∷ []) (t.0 ∷ t.1),
       refl,
     )
+
+pub returns-then-not-is_live-clause-keeps : goal.returns-then-not-is_live-clause-keeps
+returns-then-not-is_live-clause-keeps g c = keeps_none c.args.self.now
+
+pub returns-in-Err-clause-keeps : goal.returns-in-Err-clause-keeps
+returns-in-Err-clause-keeps g c = keeps_on c.accept.ensures.keeps c.lose.ensures.keeps

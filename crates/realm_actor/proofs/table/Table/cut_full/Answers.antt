@@ -1,11 +1,12 @@
-use Rattle.std.proofs.Common.{refl, sym, ap, ◌∙◌, subst, [], ◌∷◌, ◌++◌, append-nil, append_assoc}
+use Rattle.std.proofs.Common.{sym, ap, ◌∙◌, subst, [], ◌∷◌, ◌++◌, append-nil, append_assoc}
 use Rattle.realm_actor.specs.Rows.{Ascending}
 use Rattle.realm_actor.specs.Cuts.{none, one_more, IsLeastFull}
 use Rattle.realm_actor.proofs.FoundFull.{full_live}
+use Rattle.realm_actor.proofs.TableInvariant.{keeps_none, keeps_on}
 use Rattle.realm_actor.proofs.table.Table.cut_full.Goals as goal
 
 pub loop-init : goal.loop-init
-loop-init g c = ((tt, tt), ([], none, sym (append-nil (g.W.IdSource.given c.args.words.now))), c.requires, (λ k. k), refl)
+loop-init g c = ((tt, tt), ([], none, sym (append-nil (g.W.IdSource.given c.args.words.now))), c.requires, keeps_none c.args.self.now)
 
 pub loop-preserved : goal.loop-preserved
 loop-preserved g c =
@@ -22,8 +23,7 @@ loop-preserved g c =
         c.next_word-word.ensures ∙ ap (λ l. l ++ word ∷ []) so_far.2 ∙ append_assoc (g.W.IdSource.given c.args.words.now) so_far.0 (word ∷ []),
       ),
       c.cut.ensures.sound,
-      (λ k. c.cut.ensures.knows (i.3 k)),
-      c.cut.ensures.chronicle ∙ i.4,
+      keeps_on i.3 c.cut.ensures.keeps,
     )
 
 pub cut-requires-clause-live : goal.cut-requires-clause-live

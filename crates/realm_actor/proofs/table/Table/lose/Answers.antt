@@ -4,6 +4,7 @@ use Rattle.realm_actor.specs.Rows.{Ascending}
 use Rattle.realm_actor.specs.Tables.{standing, Sound}
 use Rattle.realm_actor.specs.Cuts.{Cuts}
 use Rattle.realm_actor.proofs.HandleLemmas.{sound_same, same_marked}
+use Rattle.realm_actor.proofs.TableInvariant.{keeps_on}
 use Rattle.realm_actor.proofs.table.Table.lose.Goals as goal
 
 pub cut-requires-clause-sound : goal.cut-requires-clause-sound
@@ -41,3 +42,6 @@ returns-clause-lost g c =
 
 pub shut_transport-requires : goal.shut_transport-requires
 shut_transport-requires g c = subst (λ l. Ascending l) (sym c.as_slice.ensures.value) c.cut.ensures.sound.ascending
+
+pub returns-clause-keeps : goal.returns-clause-keeps
+returns-clause-keeps g c = keeps_on c.mark_lost.ensures.keeps (keeps_on c.cut.ensures.keeps c.cut_full.ensures.keeps)

@@ -1,7 +1,7 @@
 use Rattle.std.proofs.Common.{refl, sym, ◌∙◌}
 use Rattle.realm_actor.proofs.Homes.{home_unmarked}
 use Rattle.realm_actor.proofs.MarkedRows.{unmarked_names, unmarked_same}
-use Rattle.realm_actor.proofs.TableInvariant.{knows_unmarked}
+use Rattle.realm_actor.proofs.TableInvariant.{keeps_none, knows_unmarked}
 use Rattle.realm_actor.proofs.table.Table.name.Goals as goal
 
 pub returns-then-not-self-clause-named : goal.returns-then-not-self-clause-named
@@ -10,8 +10,11 @@ returns-then-not-self-clause-named g c = c.requires.empty ∙ sym (unmarked_name
 pub returns-then-not-self-clause-rows : goal.returns-then-not-self-clause-rows
 returns-then-not-self-clause-rows g c = unmarked_same c.args.self.now.rows.items (c.requires.knows.marks c.if-not-self.true)
 
-pub returns-clause-knows : goal.returns-clause-knows
-returns-clause-knows g c = knows_unmarked c.args.self.now _ c.name_all.ensures.rows c.requires.knows refl refl
+pub returns-then-not-self-clause-keeps : goal.returns-then-not-self-clause-keeps
+returns-then-not-self-clause-keeps g c = keeps_none c.args.self.now
+
+pub returns-clause-keeps : goal.returns-clause-keeps
+returns-clause-keeps g c = record { chronicle = refl; knows = λ knows. knows_unmarked c.args.self.now _ c.name_all.ensures.rows knows refl refl }
 
 pub invariant_of-self : goal.invariant_of-self
 invariant_of-self g c =

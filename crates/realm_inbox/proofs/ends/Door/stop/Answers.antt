@@ -1,5 +1,0 @@
-use Rattle.realm_inbox.proofs.StepEffects.{stops_by}
-use Rattle.realm_inbox.proofs.ends.Door.stop.Goals as goal
-
-pub send-requires-clause-rule : goal.send-requires-clause-rule
-send-requires-clause-rule g c = stops_by _ _ _ _ c.args.self.now.sits

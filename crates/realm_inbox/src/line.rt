@@ -1,0 +1,51 @@
+//! Posts that wait one behind another.
+ghost use Rattle.std.specs.Prelude.{◌≡◌, ◌++◌, ◌∷◌, [], true, MatchOption};
+
+use crate::letter::Post;
+use crate::transport::Shut;
+use std::alloc::Global;
+use std::collections::VecDeque;
+
+/// A line of posts, the oldest first.
+#[derive(Drop)]
+pub(crate) struct Line<S: Shut> {
+    pub(crate) posts: VecDeque<Post<S>>,
+}
+
+impl<S: Shut> Line<S> {
+    /// Nobody waits. It takes no memory.
+    pub(crate) fn new(alloc: Global) -> Line<S>
+        ensures { result.posts.items ≡ [] }
+    {
+        Line {
+            posts: VecDeque::new(alloc),
+        }
+    }
+
+    /// Whether nobody waits.
+    pub(crate) fn is_empty(&self) -> bool
+        ensures { result ≡ true → self.now.posts.items ≡ [] }
+    {
+        self.posts.is_empty()
+    }
+
+    /// Puts a post behind the others. It comes back where there was no memory for that.
+    pub(crate) fn push(&mut self, post: Post<S>) -> Option<Post<S>>
+        ensures { MatchOption result (self.new.posts.items ≡ self.old.posts.items ++ post ∷ [])
+            (λ back. (back ≡ post) × (self.new.posts.items ≡ self.old.posts.items)) }
+    {
+        if self.posts.try_reserve(1).is_err() {
+            return Some(post);
+        }
+        self.posts.push_back_reserved(post);
+        None
+    }
+
+    /// The first post, which leaves.
+    pub(crate) fn pop(&mut self) -> Option<Post<S>>
+        ensures { MatchOption result ((self.old.posts.items ≡ []) × (self.new.posts.items ≡ []))
+            (λ p. self.old.posts.items ≡ p ∷ self.new.posts.items) }
+    {
+        self.posts.pop_front()
+    }
+}

@@ -1,0 +1,162 @@
+//! Whose turn it is.
+use std::alloc::{AllocError, Global};
+use wamp_ids::SEATS;
+
+/// Nanoseconds between two looks at the clock, or more, in which the post of a seat was dear.
+const DEAR: u64 = 200_000;
+
+/// A seat whose posts take less is looked at once in [`RARELY`] posts.
+const CHEAP: u64 = 20_000;
+
+/// How many posts are given between two looks at the clock, while they are cheap.
+const RARELY: u32 = 4;
+
+/// How many posts a turn has at most.
+const MOST_OF_TURN: u32 = 64;
+
+/// A seat is billed no more at once than so many times what it took before: so whoever is at work while the system doesn't let
+/// the thread run isn't taken for dear.
+const MOST_BILLED: u64 = 4;
+
+/// How many posts of a seat are given before that is told. It is less than what is left where who waits goes on
+/// (`RESUMED_POSTS`): so there is always a post that is still to be given, and then it is told.
+pub(crate) const TOLD_AT_ONCE: u32 = 64;
+
+/// What a seat took.
+#[derive(Clone, Copy, Drop)]
+struct Share {
+    // Nanoseconds, on top of the floor that there was when it began to take them.
+    spent: u64,
+    // By the last look.
+    last: u64,
+    // The most of late.
+    most: u64,
+    // How many of its posts were given and not told.
+    untold: u32,
+}
+
+/// Which seat is next, where several wait: the one that has taken the least time, counting what its next post will probably take.
+/// A seat that had nothing to do has no right to the time that it left to the others.
+///
+/// Nothing is promised of it: any order of the seats keeps each seat's own.
+#[derive(Drop)]
+pub(crate) struct Schedule {
+    // Of each place from 0 to 256.
+    shares: Vec<Share>,
+    // The least time that a seat is counted: what the one had taken that was billed last. It goes along while nobody waits, too, so
+    // that who was at work all day isn't behind who comes anew.
+    floor: u64,
+    // Whose post was given last.
+    place: u64,
+    // How many posts are left of its turn.
+    left: u32,
+    // How many were given since the last look at the clock.
+    unseen: u32,
+    // Whether no post was dear since nobody waited.
+    is_calm: bool,
+}
+
+impl Schedule {
+    pub(crate) fn new(alloc: Global) -> Result<Schedule, AllocError> {
+        let none = Share {
+            spent: 0,
+            last: 0,
+            most: 0,
+            untold: 0,
+        };
+        let shares = vec![in alloc; none; SEATS as usize + 1]?;
+        Ok(Schedule {
+            shares,
+            floor: 0,
+            place: 0,
+            left: 0,
+            unseen: 0,
+            is_calm: true,
+        })
+    }
+
+    /// Whether no post was dear since nobody waited.
+    pub(crate) fn is_calm(&self) -> bool {
+        self.is_calm
+    }
+
+    /// Nobody waits any more: posts are given as they come, until one is dear.
+    pub(crate) fn calm_down(&mut self) {
+        self.is_calm = true;
+    }
+
+    /// The place whose turn goes on, if one has a turn. A stop has none: it comes behind all that waits at seats.
+    pub(crate) fn turn(&self) -> Option<u64> {
+        if self.left == 0 || self.place == 0 {
+            None
+        } else {
+            Some(self.place)
+        }
+    }
+
+    /// When a place is due, by the time that it has taken.
+    pub(crate) fn due_of(&self, place: u64) -> u64 {
+        match self.shares.get(place as usize) {
+            Some(share) => share.spent.max(self.floor).saturating_add(share.last),
+            None => u64::MAX,
+        }
+    }
+
+    /// A place gets its turn.
+    pub(crate) fn begin_turn(&mut self, place: u64) {
+        self.place = place;
+        self.left = MOST_OF_TURN;
+    }
+
+    /// A post of a place is given. Tells whether it is time to tell the seat of [`TOLD_AT_ONCE`] posts.
+    pub(crate) fn note_given(&mut self, place: u64) -> bool {
+        self.place = place;
+        self.left = self.left.saturating_sub(1);
+        self.unseen = self.unseen.saturating_add(1);
+        let Some(share) = self.shares.get_mut(place as usize) else {
+            return false;
+        };
+        share.untold = share.untold.saturating_add(1);
+        if share.untold < TOLD_AT_ONCE {
+            return false;
+        }
+        share.untold = 0;
+        true
+    }
+
+    /// Whether it is to be told how long the posts took that were given.
+    pub(crate) fn is_due(&self) -> bool {
+        !self.is_calm || self.unseen >= RARELY || self.last_cost() >= CHEAP
+    }
+
+    /// Whether the post that was given last is of a seat whose posts are dear.
+    pub(crate) fn is_dear(&self) -> bool {
+        self.last_cost() >= DEAR
+    }
+
+    // What the seat took by its last look, whose post was given last.
+    fn last_cost(&self) -> u64 {
+        match self.shares.get(self.place as usize) {
+            Some(share) => share.last,
+            None => 0,
+        }
+    }
+
+    /// So many nanoseconds went by since the last look: the seat whose post was given last is billed for them. Tells whether that was dear.
+    pub(crate) fn note_time(&mut self, nanos: u64) -> bool {
+        self.unseen = 0;
+        if let Some(share) = self.shares.get_mut(self.place as usize) {
+            let billed = nanos.min(share.most.max(CHEAP).saturating_mul(MOST_BILLED));
+            self.floor = self.floor.max(share.spent);
+            share.spent = self.floor.saturating_add(billed);
+            share.last = billed;
+            share.most = billed.max(share.most - share.most / 8);
+        }
+        if nanos < DEAR {
+            return false;
+        }
+        self.is_calm = false;
+        self.left = 0;
+        true
+    }
+}

@@ -1,0 +1,193 @@
+//! Posts that were taken from the channel and aren't given yet, in a line for each seat.
+ghost use Rattle.std.specs.Prelude.{◌≡◌, ℕ, ◌++◌, ◌∷◌, [], None, Some, true, MatchOption, IfOk};
+ghost use Rattle.realm_inbox.specs.SeatLines.{first_part, line_at, own_part, place_of_post, waiting, waiting_in};
+
+use crate::letter::Post;
+use crate::line::Line;
+use crate::schedule::Schedule;
+use crate::transport::Shut;
+use std::alloc::{AllocError, Global};
+use wamp_ids::{SEATS, seat};
+
+/// Where a post waits: at its seat's number, and a stop, which stands at no seat, at 0.
+pub(crate) fn place_of<S: Shut>(post: &Post<S>) -> u64
+    ensures { result ≡ place_of_post post.now }
+{
+    match post {
+        Post::Act(letter) => seat(letter.conn),
+        Post::Stop(_) => 0,
+    }
+}
+
+/// The lines. Contracts see what waits at each place, the oldest first (`waiting`), and what of it stands aside.
+#[derive(Drop)]
+pub(crate) struct SeatLines<S: Shut> {
+    // Of each place from 0 to 256.
+    pub(crate) lines: Vec<Line<S>>,
+    // A post for which its line found no memory. It waits behind that line.
+    pub(crate) aside: Option<Post<S>>,
+    // How many wait.
+    pub(crate) count: u64,
+}
+
+impl<S: Shut> SeatLines<S> {
+    /// Nothing waits.
+    pub(crate) fn new(alloc: Global) -> Result<SeatLines<S>, AllocError>
+        ensures none { IfOk result (λ l. (k : ℕ) → waiting l k ≡ []) }
+        ensures aside { IfOk result (λ l. l.aside ≡ None) }
+    {
+        let lines = empty_lines(alloc)?;
+        Ok(SeatLines {
+            lines,
+            aside: None,
+            count: 0,
+        })
+    }
+
+    /// Whether nothing stands aside: else no more may be added.
+    pub(crate) fn is_open(&self) -> bool
+        ensures { result ≡ true → self.now.aside ≡ None }
+    {
+        self.aside.is_none()
+    }
+
+    /// Whether nothing waits at all.
+    pub(crate) fn is_idle(&self) -> bool {
+        self.count == 0
+    }
+
+    /// Whether nothing waits at this place.
+    pub(crate) fn is_free(&self, place: u64) -> bool
+        ensures { result ≡ true → waiting self.now place ≡ [] }
+    {
+        if !self.is_open() {
+            return false;
+        }
+        is_empty_at(&self.lines, place)
+    }
+
+    /// Adds a post at its place. For want of memory it stands aside.
+    pub(crate) fn add(&mut self, post: Post<S>)
+        requires { self.old.aside ≡ None }
+        ensures { (k : ℕ) → waiting self.new k ≡ waiting self.old k ++ own_part k post }
+    {
+        self.count = self.count.wrapping_add(1);
+        self.aside = into_line(&mut self.lines, post);
+    }
+
+    /// The first post that waits at a place, which leaves.
+    pub(crate) fn pop(&mut self, place: u64) -> Option<Post<S>>
+        ensures first { MatchOption result ((k : ℕ) → waiting self.new k ≡ waiting self.old k)
+            (λ p. (k : ℕ) → waiting self.old k ≡ first_part place k p ++ waiting self.new k) }
+        ensures aside { self.old.aside ≡ None → self.new.aside ≡ None }
+    {
+        let first = first_of(&mut self.lines, &mut self.aside, place);
+        if first.is_some() {
+            self.count = self.count.wrapping_sub(1);
+        }
+        first
+    }
+
+    /// The seat whose turn it is, if somebody waits: 0 where a stop alone does.
+    pub(crate) fn next_place(&self, schedule: &Schedule) -> u64 {
+        let mut best = 0;
+        let mut least = u64::MAX;
+        for place in 1..=SEATS {
+            if self.waits_at(place) && schedule.due_of(place) < least {
+                least = schedule.due_of(place);
+                best = place;
+            }
+        }
+        best
+    }
+
+    /// Whether somebody waits at a place, in its line or aside.
+    pub(crate) fn waits_at(&self, place: u64) -> bool {
+        let stands_aside = match &self.aside {
+            Some(post) => place_of(post) == place,
+            None => false,
+        };
+        let stands_in_line = match self.lines.get(place as usize) {
+            Some(line) => !line.is_empty(),
+            None => false,
+        };
+        stands_aside || stands_in_line
+    }
+}
+
+// A line for each place, with nobody in it.
+fn empty_lines<S: Shut>(alloc: Global) -> Result<Vec<Line<S>>, AllocError>
+    ensures { IfOk result (λ lines. (k : ℕ) → line_at lines.items k ≡ []) }
+{
+    let mut lines = Vec::with_capacity(alloc, SEATS as usize + 1)?;
+    for _place in 0..=SEATS {
+        lines.push(Line::new(alloc))?;
+    }
+    Ok(lines)
+}
+
+// Whether nobody waits in the line of a place.
+fn is_empty_at<S: Shut>(lines: &Vec<Line<S>>, place: u64) -> bool
+    ensures { result ≡ true → line_at lines.now.items place ≡ [] }
+{
+    let place = place as usize;
+    if lines.len() <= place {
+        return false;
+    }
+    lines[place].is_empty()
+}
+
+// The first post that waits at a place, which leaves: of its line, or the one that stands aside.
+fn first_of<S: Shut>(
+    lines: &mut Vec<Line<S>>,
+    aside: &mut Option<Post<S>>,
+    place: u64,
+) -> Option<Post<S>>
+    ensures first { MatchOption result
+        ((k : ℕ) → waiting_in lines.new.items aside.new k ≡ waiting_in lines.old.items aside.old k)
+        (λ p. (k : ℕ) → waiting_in lines.old.items aside.old k
+        ≡ first_part place k p ++ waiting_in lines.new.items aside.new k) }
+    ensures aside { aside.old ≡ None → aside.new ≡ None }
+{
+    if let Some(post) = out_of_line(lines, place) {
+        return Some(post);
+    }
+    out_of(aside, place)
+}
+
+// Puts a post behind its line. It comes back where there was no memory for that.
+fn into_line<S: Shut>(lines: &mut Vec<Line<S>>, post: Post<S>) -> Option<Post<S>>
+    ensures { MatchOption result
+        ((k : ℕ) → line_at lines.new.items k ≡ line_at lines.old.items k ++ own_part k post)
+        (λ back. (back ≡ post) × ((k : ℕ) → line_at lines.new.items k ≡ line_at lines.old.items k)) }
+{
+    let place = place_of(&post) as usize;
+    if lines.len() <= place {
+        return Some(post);
+    }
+    lines[place].push(post)
+}
+
+// The first post of a line, which leaves.
+fn out_of_line<S: Shut>(lines: &mut Vec<Line<S>>, place: u64) -> Option<Post<S>>
+    ensures { MatchOption result ((line_at lines.old.items place ≡ [])
+        × ((k : ℕ) → line_at lines.new.items k ≡ line_at lines.old.items k))
+        (λ p. (k : ℕ) → line_at lines.old.items k ≡ first_part place k p ++ line_at lines.new.items k) }
+{
+    let place = place as usize;
+    if lines.len() <= place {
+        return None;
+    }
+    lines[place].pop()
+}
+
+// The post that stands aside, if it waits at this place.
+fn out_of<S: Shut>(aside: &mut Option<Post<S>>, place: u64) -> Option<Post<S>>
+    ensures { MatchOption result (aside.new ≡ aside.old)
+        (λ p. (aside.old ≡ Some p) × (place_of_post p ≡ place) × (aside.new ≡ None)) }
+{
+    match aside {
+        Some(post) if place_of(post) == place => aside.take(),
+        _ => None,
+    }
+}

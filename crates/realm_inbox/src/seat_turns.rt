@@ -1,0 +1,75 @@
+//! What the receiving end tells the posters, and whose turn it is.
+use crate::backlog::Backlog;
+use crate::room_bell::RoomBell;
+use crate::schedule::{Schedule, TOLD_AT_ONCE};
+use crate::seat_lines::SeatLines;
+use crate::transport::Shut;
+use std::sync::Arc;
+
+/// How many posts are given before those who wait for room are woken: so that they find room for many at once.
+const UNRUNG: u32 = 256;
+
+/// What the receiving end keeps beside the posts. Nothing is promised of it.
+#[derive(Drop)]
+pub(crate) struct SeatTurns {
+    pub(crate) schedule: Schedule,
+    pub(crate) room: Arc<RoomBell>,
+    // Of each seat.
+    pub(crate) backlogs: Vec<Arc<Backlog>>,
+    // How many posts were given since who waits for room was woken.
+    pub(crate) unrung: u32,
+}
+
+impl SeatTurns {
+    /// Wakes who waits for room.
+    pub(crate) fn ring(&self) {
+        self.room.ring();
+    }
+
+    /// Whether posts are given as they come: none was dear of late, and nobody waits, in a line or for room.
+    pub(crate) fn is_calm<S: Shut>(&self, lines: &SeatLines<S>) -> bool {
+        self.schedule.is_calm() && lines.is_idle() && !self.room.is_awaited()
+    }
+
+    /// A post of a place is given: the seat is told in portions, and so is who waits for room.
+    pub(crate) fn note_given(&mut self, place: u64) {
+        if self.schedule.note_given(place) {
+            self.tell(place);
+        }
+        self.unrung = self.unrung.saturating_add(1);
+        if self.unrung >= UNRUNG {
+            self.unrung = 0;
+            self.room.ring();
+        }
+    }
+
+    // Tells a seat of posts that were given.
+    fn tell(&self, place: u64) {
+        if place == 0 {
+            return;
+        }
+        if let Some(backlog) = self.backlogs.get((place - 1) as usize) {
+            backlog.tell_given(u64::from(TOLD_AT_ONCE));
+        }
+    }
+
+    /// The place whose post is next: the one whose turn it is goes on, if it has another post.
+    pub(crate) fn next_place<S: Shut>(&mut self, lines: &SeatLines<S>) -> u64 {
+        if let Some(place) = self.schedule.turn() {
+            if lines.waits_at(place) {
+                return place;
+            }
+        }
+        let place = lines.next_place(&self.schedule);
+        self.schedule.begin_turn(place);
+        place
+    }
+
+    /// Nobody gives anything back any more, and there is no room for anybody: who waits goes on.
+    pub(crate) fn close(&self) {
+        self.ring();
+        for backlog in &self.backlogs {
+            backlog.close();
+        }
+    }
+}
