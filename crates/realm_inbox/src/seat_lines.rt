@@ -159,7 +159,8 @@ fn first_of<S: Shut>(
 fn into_line<S: Shut>(lines: &mut Vec<Line<S>>, post: Post<S>) -> Option<Post<S>>
     ensures { MatchOption result
         ((k : ℕ) → line_at lines.new.items k ≡ line_at lines.old.items k ++ own_part k post)
-        (λ back. (back ≡ post) × ((k : ℕ) → line_at lines.new.items k ≡ line_at lines.old.items k)) }
+        (λ back. (back ≡ post)
+        × ((k : ℕ) → line_at lines.new.items k ≡ line_at lines.old.items k)) }
 {
     let place = place_of(&post) as usize;
     if lines.len() <= place {
@@ -172,7 +173,8 @@ fn into_line<S: Shut>(lines: &mut Vec<Line<S>>, post: Post<S>) -> Option<Post<S>
 fn out_of_line<S: Shut>(lines: &mut Vec<Line<S>>, place: u64) -> Option<Post<S>>
     ensures { MatchOption result ((line_at lines.old.items place ≡ [])
         × ((k : ℕ) → line_at lines.new.items k ≡ line_at lines.old.items k))
-        (λ p. (k : ℕ) → line_at lines.old.items k ≡ first_part place k p ++ line_at lines.new.items k) }
+        (λ p. (k : ℕ) → line_at lines.old.items k
+        ≡ first_part place k p ++ line_at lines.new.items k) }
 {
     let place = place as usize;
     if lines.len() <= place {
