@@ -63,7 +63,7 @@ module _ (s : Serializer) (limit : ℕ) (realms : List (List ℕ)) where
     frames = so_far.frames ++ goes.frames;
     read = more ∙ (ap (λ g. g ++ piece) so_far.read ∙ append_assoc given_before so_far.octets piece);
     wrote = goes.wrote ∙ (ap (λ t. t ++ goes.out) so_far.wrote ∙ append_assoc taken_before so_far.written goes.out);
-    reads = pieces_join so_far.octets piece held new so_far.frames goes.frames so_far.reads goes.reads;
+    reads = pieces_join router_takes so_far.octets piece held new so_far.frames goes.frames so_far.reads goes.reads;
     leads = Leads-join (fault_of router_takes held) (fault_of router_takes new) so_far.frames goes.frames so_far.written goes.out v so_far.leads goes.leads;
   }
 

@@ -176,7 +176,7 @@ leads-once s limit realms fault (c ∷ frames) out told v w x y =
 -- octets are split in one way, and one rest is held
 reads-once : (octets : List ℕ) (frames others : List Content) (held left : List ℕ) → Reads router_takes octets frames held → Reads router_takes octets others left → (others ≡ frames) × (left ≡ held)
 reads-once octets frames others held left x y =
-    let same = one_split others frames octets y.rest x.rest y.splits x.splits in
+    let same = one_split router_takes others frames octets y.rest x.rest y.splits x.splits in
     (same.0, y.held_is ∙ (ap (kept router_takes) same.1 ∙ sym x.held_is))
 
 pub one-verdict : OneVerdict
