@@ -6,7 +6,7 @@ use case_devices::{FailsAt, OneByOne};
 use case_text::{Table, is_refused, line_of, number_of, octets_of};
 use client_commands::{
     Arguments, Contact, Fault, PublishCommand, PublishWishes, Serializer, SubscribeCommand,
-    SubscribeWishes, Timing, publish, subscribe, value_of,
+    SubscribeWishes, Timing, publish, subscribe, value_of, whole_input,
 };
 use message_tree::{Content, Text, Tree};
 use rawsocket::devices::{MemorySource, Sink, Source, WriteSink};
@@ -56,6 +56,8 @@ impl Failing {
 struct NoTime;
 
 impl Timing for NoTime {
+    fn awaits(&mut self) {}
+
     fn rest(&mut self) {}
 
     fn expects(&mut self, _is_due: bool) {}
@@ -77,6 +79,7 @@ pub struct Case {
     words: Vec<String>,
     kwargs: Option<String>,
     is_lines: bool,
+    is_file: bool,
     input: Vec<u8>,
     octets: Vec<u8>,
     is_slow: bool,
@@ -99,6 +102,7 @@ impl Case {
             words: Vec::new(alloc),
             kwargs: None,
             is_lines: false,
+            is_file: false,
             input: Vec::new(alloc),
             octets: Vec::new(alloc),
             is_slow: false,
@@ -185,6 +189,7 @@ impl Case {
             "acknowledge" => self.acknowledge = true,
             "retain" => self.retain = true,
             "lines" => self.is_lines = true,
+            "file" => self.is_file = true,
             "slowly" => self.is_slow = true,
             "faults" => return faults(alloc),
             "subscribe" => return self.run(alloc, word, self.failing)?.in_words(alloc),
@@ -267,30 +272,52 @@ impl Case {
         let mut output = FailsAt::new(output, failing.output);
         let mut notes = FailsAt::new(notes, failing.notes);
         let mut timing = NoTime;
-        let ran = match command {
+        let end = match command {
             "subscribe" => {
                 let command = self.subscribing(alloc)?;
-                subscribe(
+                end_of(
                     alloc,
-                    &command,
-                    source,
-                    sink,
-                    &mut output,
-                    &mut notes,
-                    &mut timing,
-                )
+                    subscribe(
+                        alloc,
+                        &command,
+                        source,
+                        sink,
+                        &mut output,
+                        &mut notes,
+                        &mut timing,
+                    ),
+                )?
             }
-            _ => {
-                let command = self.publishing(alloc)?;
-                publish(alloc, &command, source, sink, &mut input, &mut timing)
-            }
+            _ => self.run_publish(alloc, source, sink, &mut input)?,
         };
         Ok(Outcome {
             written: Vec::new(alloc),
             noted: notes.device.writer().as_slice().to_vec(alloc)?,
             printed: output.device.writer().as_slice().to_vec(alloc)?,
-            end: end_of(alloc, ran)?,
+            end,
         })
+    }
+
+    /// Publishes, and tells what came last. A file is read whole before.
+    fn run_publish<I: Source, O: Sink, J: Source>(
+        &self,
+        alloc: Global,
+        source: &mut I,
+        sink: &mut O,
+        input: &mut J,
+    ) -> io::Result<String> {
+        let mut command = self.publishing(alloc)?;
+        if self.is_file {
+            command.arguments = match whole_input(alloc, input) {
+                Ok(arguments) => arguments,
+                Err(fault) => return Ok(format!(in alloc; "{fault}")?),
+            };
+        }
+        let mut timing = NoTime;
+        end_of(
+            alloc,
+            publish(alloc, &command, source, sink, input, &mut timing),
+        )
     }
 
     fn contact(&self, alloc: Global) -> io::Result<Contact> {
@@ -326,7 +353,7 @@ impl Case {
         wishes.acknowledge = self.acknowledge;
         wishes.retain = self.retain;
         if !self.roles.is_empty() {
-            wishes.eligible_authrole = Some(texts(alloc, &self.roles)?);
+            wishes.eligible.authroles = Some(texts(alloc, &self.roles)?);
         }
         let topic = match self.topics.first() {
             Some(topic) => Text::of(alloc, topic.as_str())?,

@@ -5,8 +5,8 @@
 //! - `faults`: each fault as it is printed.
 //! - What a command is told: `realm TEXT`, `authid TEXT`, `msgpack`; of `subscribe` `match POLICY`, `get_retained`,
 //!   `count N` and `topic TEXT` for each topic; of `publish` `acknowledge`, `retain`, `eligible ROLE` for each role,
-//!   `kwargs JSON`, `topic TEXT`, `word TEXT` for each word, or `lines`, and `input TEXT` for the octets of the
-//!   standard input.
+//!   `kwargs JSON`, `topic TEXT`, `word TEXT` for each word, or `lines` or `file`, and `input TEXT` for the octets of
+//!   the standard input or of the file.
 //! - What the broker sends: `octets TEXT`, where `\7f` is an octet; `message TEXT`, `ping TEXT`, `pong TEXT`: a frame
 //!   of these octets; `first N`: only so many of the octets.
 //! - How devices behave: `slowly`, one octet at a time; `read N fails`, `write N fails` for the broker's stream,

@@ -7,3 +7,4 @@ pub mod Lines
 pub mod Pacing
 pub mod Published
 pub mod Ends
+pub mod WholeInput

@@ -9,6 +9,7 @@
 mod command;
 mod event_lines;
 mod fault;
+mod file_input;
 mod hearing;
 mod joining;
 mod leaving;
@@ -22,11 +23,12 @@ mod subscriptions;
 mod timing;
 mod value;
 
-pub use client_messages::{PublishWishes, SubscribeWishes};
+pub use client_messages::{PublishWishes, SessionLists, SubscribeWishes};
 pub use client_session::{Fault as LinkFault, Serializer};
 pub use command::{Arguments, Contact, PublishCommand, SubscribeCommand};
 pub use event_lines::event_line;
 pub use fault::Fault;
+pub use file_input::{InputFault, whole_input};
 pub use publishing::publish;
 pub use subscribing::subscribe;
 pub use timing::Timing;

@@ -4,13 +4,19 @@ ghost use Rattle.command_line.specs.declared.fault.Fault.TheVariants.{ConnectFau
 
 use crate::failure::Failure;
 use crate::patient_stream::{PatientStream, StreamTiming};
-use client_commands::{Contact, PublishCommand, SubscribeCommand, publish, subscribe};
+use client_commands::{
+    Arguments, Contact, PublishCommand, SubscribeCommand, publish, subscribe, whole_input,
+};
 use rawsocket::devices::{ReadSource, Sink, Source, Turns, WriteSink, send, write_all};
 use std::alloc::Global;
 use std::cell::Cell;
+use std::fs::File;
 use std::io;
 use std::net::{Net, TcpStream, ToSocketAddrs};
 use std::time::{Clock, Duration};
+
+/// The path that stands for standard input.
+const STANDARD_INPUT: &str = "-";
 
 /// Prints the events that are asked for, and tells `notes` which topics are subscribed to.
 pub fn run_subscribe<R: Net<Stream = TcpStream> + Clock, S: Sink, N: Sink>(
@@ -57,6 +63,38 @@ pub fn run_publish<R: Net<Stream = TcpStream> + Clock, J: Source>(
     match publish(alloc, command, &mut source, &mut sink, input, &mut timing) {
         Ok(()) => Ok(()),
         Err(fault) => Err(Failure::of_client(alloc, fault, &command.contact, is_late.get())),
+    }
+}
+
+/// Publishes the octets of a file as one argument. It is read to its end before the broker is connected to.
+pub fn run_publish_file<R: Net<Stream = TcpStream> + Clock>(
+    host: &HostRuntime,
+    rt: &R,
+    alloc: Global,
+    path: &str,
+    mut command: PublishCommand,
+) -> Result<(), Failure> {
+    command.arguments = octets_at(host, alloc, path)?;
+    let mut input = ReadSource::new(host.stdin());
+    run_publish(rt, alloc, &mut input, &command)
+}
+
+/// All octets of a file, or of standard input where the path is `-`, as one argument.
+fn octets_at(host: &HostRuntime, alloc: Global, path: &str) -> Result<Arguments, Failure> {
+    if path == STANDARD_INPUT {
+        let mut input = ReadSource::new(host.stdin());
+        return match whole_input(alloc, &mut input) {
+            Ok(arguments) => Ok(arguments),
+            Err(fault) => Err(Failure::to_read(alloc, "standard input", fault)),
+        };
+    }
+    let file = match File::open(host, path) {
+        Ok(file) => file,
+        Err(error) => return Err(Failure::to_open(alloc, path, &error)),
+    };
+    match whole_input(alloc, &mut ReadSource::new(file)) {
+        Ok(arguments) => Ok(arguments),
+        Err(fault) => Err(Failure::to_read(alloc, path, fault)),
     }
 }
 

@@ -19,7 +19,7 @@ use broker_server::{
     Command, Config, Fault, Log, LogEnd, TcpAcceptor, listening, read_command, replay,
     report_failure, serve_logged,
 };
-use clients::{run_publish, run_subscribe};
+use clients::{run_publish, run_publish_file, run_subscribe};
 use failure::Failure;
 use places::fill_closed;
 use rawsocket::devices::{ReadSource, Sink, Turns, WriteSink, send};
@@ -102,6 +102,10 @@ where
             let _places = fill_closed(host);
             let mut input = ReadSource::new(host.stdin());
             return run_publish(&rt, alloc, &mut input, &command);
+        }
+        Command::PublishFile { path, command } => {
+            let _places = fill_closed(host);
+            return run_publish_file(host, &rt, alloc, path.as_str(), command);
         }
     };
     match ran {
