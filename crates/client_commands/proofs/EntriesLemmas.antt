@@ -1,18 +1,12 @@
--- What is put among entries that have a spelling.
-use Rattle.std.proofs.Common.{◌≡◌, refl, ℕ, List, Bool, true, false, nat_cmp}
-use Rattle.std.specs.Prelude.{◌&&◌}
-use Rattle.std.specs.Cmp.Lexicographic.{slice_cmp}
-use Rattle.message_tree.specs.Data.{Data, is_carried, entries_carried, Entries, no_entries, entry, put}
-use Rattle.message_tree.proofs.Lemmas.{whichever}
+-- Entries one behind another, in JSON.
+use Rattle.std.proofs.Common.{◌≡◌, ◌++◌, ◌∙◌, ◌∷◌, [], true, ap, append_assoc, refl, sym}
+use Rattle.serde_json.specs.Written.{comma_if}
+use Rattle.message_tree.specs.Data.{Entries, no_entries, entry, joined, text}
+use Rattle.json_codec.specs.Encoder.{entries_text, json_text}
 
-both : (a b : Bool) → (a && b) ≡ true → (a ≡ true) × (b ≡ true)
-both true true h = (refl, refl)
-both true false h = absurd (cc)
-both false b h = absurd (cc)
-
-pub carried_put : (k : List ℕ) (d : Data) (es : Entries) → is_carried d ≡ true → entries_carried es ≡ true → entries_carried (put k d es) ≡ true
-carried_put k d no_entries new old = rw new refl
-carried_put k d (entry l e es) new old =
-    let parts : (is_carried e ≡ true) × (entries_carried es ≡ true) = both (is_carried e) (entries_carried es) old in
-    whichever (λ x. entries_carried x ≡ true) (slice_cmp nat_cmp k l) (entry k d (entry l e es)) (entry l d es) (entry l e (put k d es))
-    (rw (new, parts.0, parts.1) refl) (rw (new, parts.1) refl) (rw (parts.0, carried_put k d es new parts.1) refl)
+pub joined-text : (es fs : Entries) → entries_text true (joined es fs) ≡ entries_text true es ++ entries_text true fs
+joined-text no_entries fs = refl
+joined-text (entry k d es) fs =
+    let name = comma_if true ++ (json_text (text k) ++ 58 ∷ []) in
+    ap (λ o. name ++ (json_text d ++ o)) (joined-text es fs) ∙ ap (λ o. name ++ o) (sym (append_assoc (json_text d) (entries_text true es) (entries_text true fs)))
+    ∙ sym (append_assoc name (json_text d ++ entries_text true es) (entries_text true fs))

@@ -113,6 +113,7 @@ fault_of_client (client.Connection fault) = ConnectionFault
 fault_of_client client.Unexpected = ConnectionFault
 fault_of_client client.ForeignEvent = ConnectionFault
 fault_of_client (client.Closed uri) = ConnectionFault
+fault_of_client client.Unreachable = ConnectFault
 
 -- what a fault is called
 abbrev pub name_of : Fault → List ℕ

@@ -5,7 +5,7 @@ ghost use Rattle.command_line.specs.Commands.{IsReachable};
 use crate::refusal::{CommandRefusal, refused, refused_value};
 use clap::ArgMatches;
 use client_commands::{
-    Arguments, Contact, PublishCommand, PublishWishes, Serializer, SubscribeCommand,
+    Arguments, Contact, LineForm, PublishCommand, PublishWishes, Serializer, SubscribeCommand,
     SubscribeWishes, value_of,
 };
 use message_tree::{Content, Text, Tree};
@@ -60,8 +60,19 @@ pub fn read_subscribe(
         contact,
         wishes,
         count,
+        form: form_of(words),
+        reconnect: words.get_flag("reconnect"),
         topics,
     })
+}
+
+/// How events are printed.
+fn form_of(words: &ArgMatches<'_>) -> LineForm {
+    if words.get_flag("plain") {
+        LineForm::Plain
+    } else {
+        LineForm::Json
+    }
 }
 
 /// What the words behind `publish` ask for.

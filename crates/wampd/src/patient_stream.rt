@@ -23,7 +23,7 @@ impl<'a> PatientStream<'a> {
     }
 
     /// Tells whether this was the limit.
-    fn note(&self, error: &io::Error) {
+    pub fn note(&self, error: &io::Error) {
         if matches!(error.kind(), ErrorKind::WouldBlock | ErrorKind::TimedOut) {
             self.is_late.set(true);
         }
