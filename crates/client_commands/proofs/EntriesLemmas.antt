@@ -1,12 +1,37 @@
 -- Entries one behind another, in JSON.
-use Rattle.std.proofs.Common.{◌≡◌, ◌++◌, ◌∙◌, ◌∷◌, [], true, ap, append_assoc, refl, sym}
-use Rattle.serde_json.specs.Written.{comma_if}
-use Rattle.message_tree.specs.Data.{Entries, no_entries, entry, joined, text}
+use Rattle.std.proofs.Common.{◌≡◌, ◌++◌, ◌∙◌, ◌∷◌, ℕ, List, [], true, ap, append_assoc, refl, sym}
+use Rattle.message_tree.specs.Data.{Entries, no_entries, entry, joined, text, dict}
 use Rattle.json_codec.specs.Encoder.{entries_text, json_text}
+use Rattle.json_codec.proofs.Lemmas.{dict_text}
 
-pub joined-text : (es fs : Entries) → entries_text true (joined es fs) ≡ entries_text true es ++ entries_text true fs
-joined-text no_entries fs = refl
-joined-text (entry k d es) fs =
-    let name = comma_if true ++ (json_text (text k) ++ 58 ∷ []) in
-    ap (λ o. name ++ (json_text d ++ o)) (joined-text es fs) ∙ ap (λ o. name ++ o) (sym (append_assoc (json_text d) (entries_text true es) (entries_text true fs)))
-    ∙ sym (append_assoc name (json_text d ++ entries_text true es) (entries_text true fs))
+pub joined_text : (es fs : Entries) → entries_text true (joined es fs) ≡ entries_text true es ++ entries_text true fs
+joined_text no_entries fs = refl
+joined_text (entry k d es) fs =
+    ap (λ o. 44 ∷ ((json_text (text k) ++ 58 ∷ []) ++ (json_text d ++ o))) (joined_text es fs)
+    ∙ ap (λ o. 44 ∷ ((json_text (text k) ++ 58 ∷ []) ++ o)) (sym (append_assoc (json_text d) (entries_text true es) (entries_text true fs)))
+    ∙ ap (λ o. 44 ∷ o) (sym (append_assoc (json_text (text k) ++ 58 ∷ []) (json_text d ++ entries_text true es) (entries_text true fs)))
+
+-- some are put, and then others
+pub put_both : (a b c : List ℕ) (es fs : Entries) → b ≡ a ++ entries_text true es → c ≡ b ++ entries_text true fs → c ≡ a ++ entries_text true (joined es fs)
+put_both a b c es fs first last =
+    last ∙ ap (λ xs. xs ++ entries_text true fs) first ∙ append_assoc a (entries_text true es) (entries_text true fs) ∙ ap (λ xs. a ++ xs) (sym (joined_text es fs))
+
+grouped : (a name value rest : List ℕ) → (((((a ++ 123 ∷ []) ++ name) ++ 58 ∷ []) ++ value) ++ rest) ++ 125 ∷ [] ≡ a ++ (123 ∷ (((name ++ 58 ∷ []) ++ (value ++ rest)) ++ 125 ∷ []))
+grouped a name value rest =
+    append_assoc ((((a ++ 123 ∷ []) ++ name) ++ 58 ∷ []) ++ value) rest (125 ∷ [])
+    ∙ append_assoc (((a ++ 123 ∷ []) ++ name) ++ 58 ∷ []) value (rest ++ 125 ∷ [])
+    ∙ append_assoc ((a ++ 123 ∷ []) ++ name) (58 ∷ []) (value ++ (rest ++ 125 ∷ []))
+    ∙ append_assoc (a ++ 123 ∷ []) name (58 ∷ (value ++ (rest ++ 125 ∷ [])))
+    ∙ append_assoc a (123 ∷ []) (name ++ 58 ∷ (value ++ (rest ++ 125 ∷ [])))
+    ∙ ap (λ x. a ++ 123 ∷ x) (sym (
+      ap (λ y. y ++ 125 ∷ []) (append_assoc name (58 ∷ []) (value ++ rest))
+      ∙ append_assoc name (58 ∷ (value ++ rest)) (125 ∷ [])
+      ∙ ap (λ y. name ++ 58 ∷ y) (append_assoc value rest (125 ∷ []))))
+
+-- a dictionary, put as its first entry and the others
+pub put_dict : (a b c d e f g : List ℕ) (key first : List ℕ) (others : Entries) → b ≡ a ++ 123 ∷ [] → c ≡ b ++ json_text (text key) → d ≡ c ++ 58 ∷ [] → e ≡ d ++ json_text (text first)
+    → f ≡ e ++ entries_text true others → g ≡ f ++ 125 ∷ [] → g ≡ a ++ json_text (dict (entry key (text first) others))
+put_dict a b c d e f g key first others b_is c_is d_is e_is f_is g_is =
+    let name = json_text (text key) in let value = json_text (text first) in let rest = entries_text true others in
+    g_is ∙ ap (λ x. x ++ 125 ∷ []) (f_is ∙ ap (λ x. x ++ rest) (e_is ∙ ap (λ x. x ++ value) (d_is ∙ ap (λ x. x ++ 58 ∷ []) (c_is ∙ ap (λ x. x ++ name) b_is))))
+    ∙ grouped a name value rest ∙ ap (λ x. a ++ x) (sym (dict_text (entry key (text first) others)))

@@ -4,7 +4,7 @@ use Rattle.std.specs.declared.option.Option.{Option}
 use Rattle.json.specs.Print.{escape}
 use Rattle.message_tree.specs.Data.{Data, list, flag, text, dict, Items, no_items, item, Entries, no_entries, entry, joined}
 use Rattle.json_codec.specs.Encoder.{json_text}
-use Rattle.wamp_messages.specs.Arguments.{Arguments, is_all_carried}
+use Rattle.arguments.specs.Arguments.{Arguments, is_all_carried}
 use Rattle.session.specs.ToClient.{number}
 use Rattle.client_messages.specs.declared.heard.EventDetails.{EventDetails}
 use Rattle.client_commands.specs.Controls.{shown}
@@ -24,9 +24,13 @@ abbrev pub text_if_any : Option (List ℕ) → Option Data
 text_if_any None = None
 text_if_any (Some t) = Some (text t)
 
--- the arguments, each where it was published and JSON has a spelling for them
+-- the arguments, each where it was published
+abbrev pub given_entries : Arguments → Entries
+given_entries a = joined (entry_if_any (codes "args") a.args) (entry_if_any (codes "kwargs") a.kwargs)
+
+-- where JSON has a spelling for them
 unfoldable pub argument_entries : Arguments → Entries
-argument_entries a = if is_all_carried a then joined (entry_if_any (codes "args") a.args) (entry_if_any (codes "kwargs") a.kwargs) else no_entries
+argument_entries a = if is_all_carried a then given_entries a else no_entries
 
 -- what is told of the publisher, each where it is there
 unfoldable pub publisher_entries : EventDetails → Entries

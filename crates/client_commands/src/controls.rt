@@ -3,6 +3,7 @@ ghost use Rattle.std.specs.Prelude.{◌≡◌, ◌<◌, ◌++◌, ◌∷◌, ℕ
 ghost use Rattle.std.specs.Char.{digit_char};
 ghost use Rattle.client_commands.specs.Controls.{escape_of, shown, shown_from};
 
+use memchr::memchr2;
 use std::alloc::{AllocError, Global};
 
 /// DEL.
@@ -28,11 +29,10 @@ pub(crate) fn shown(alloc: Global, text: Vec<u8>) -> Result<Vec<u8>, AllocError>
 fn may_have_controls(text: &[u8]) -> bool
     ensures { result ≡ false → shown text.now ≡ text.now }
 {
-    let mut has = false;
-    'octets: for octet in text {
-        has |= *octet == DELETE || *octet == LEAD;
+    match memchr2(DELETE, LEAD, text) {
+        None => false,
+        Some(_) => true,
     }
-    has
 }
 
 fn escaped(alloc: Global, text: &[u8]) -> Result<Vec<u8>, AllocError>

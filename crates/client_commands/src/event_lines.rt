@@ -1,15 +1,16 @@
 //! Events as lines.
 ghost use Rattle.std.specs.Prelude.{◌≡◌, ◌++◌, ◌∷◌, [], IfOk, OnOk, true};
 ghost use Rattle.json.specs.Print.{escape};
-ghost use Rattle.message_tree.specs.Data.{text, entry, no_entries, is_carried, items_carried};
+ghost use Rattle.message_tree.specs.Data.{text, entry, flag, no_entries, is_carried, items_carried};
 ghost use Rattle.message_tree.specs.View.{view, items_view};
 ghost use Rattle.json_codec.specs.Encoder.{json_text, entries_text};
-ghost use Rattle.wamp_messages.specs.Arguments.{is_all_carried, is_carried_if_any};
-ghost use Rattle.client_commands.specs.EventLine.{argument_entries, bare_line, entry_if_any, event_entries, event_line, item_if_any, json_line, members, number_if_any, plain_arguments, plain_line, publisher_entries, spaced, text_if_any, uncarried_entries};
+ghost use Rattle.msgpack_codec.specs.Short.{item_count};
+ghost use Rattle.arguments.specs.Arguments.{is_all_carried, is_carried_if_any, last_items};
+ghost use Rattle.client_commands.specs.EventLine.{argument_entries, bare_line, entry_if_any, event_entries, event_line, given_entries, item_if_any, json_line, members, number_if_any, plain_arguments, plain_line, publisher_entries, spaced, text_if_any, uncarried_entries};
 
 use crate::command::LineForm;
 use crate::controls::shown;
-use client_session::{Args, EventDetails};
+use client_session::{Args, EventDetails, Serializer};
 use message_tree::{Appender, Content, Text, Tree};
 use std::alloc::{AllocError, Global};
 use wamp_ids::Id;
@@ -139,13 +140,13 @@ fn put_text(alloc: Global, out: &mut Appender, key: &str, text: &Text) -> Result
     json_codec::encode_text_into(alloc, text.as_str(), out)
 }
 
-fn put_flag(alloc: Global, out: &mut Appender, key: &str, flag: bool) -> Result<(), AllocError>
+fn put_flag(alloc: Global, out: &mut Appender, key: &str, value: bool) -> Result<(), AllocError>
     ensures put { OnOk result (out.new.since ≡ out.old.since
-        ++ entries_text true (entry key.now (flag flag) no_entries)) }
+        ++ entries_text true (entry key.now (flag value) no_entries)) }
     ensures before { out.new.before ≡ out.old.before }
 {
     put_key(alloc, out, key)?;
-    if flag {
+    if value {
         out.put_all(b"true")
     } else {
         out.put_all(b"false")
@@ -181,6 +182,36 @@ fn put_arguments(alloc: Global, out: &mut Appender, args: &Args) -> Result<(), A
     if !args.is_carried() {
         return Ok(());
     }
+    if args.count() == 1 {
+        put_args_alone(alloc, out, args)
+    } else {
+        put_given(alloc, out, args)
+    }
+}
+
+/// Puts arguments without keys, with no tree.
+fn put_args_alone(alloc: Global, out: &mut Appender, args: &Args) -> Result<(), AllocError>
+    requires carried { is_all_carried args.now ≡ true }
+    requires alone { item_count (last_items args.now.args args.now.kwargs) ≡ 1 }
+    ensures put { OnOk result (out.new.since ≡ out.old.since
+        ++ entries_text true (given_entries args.now)) }
+    ensures before { out.new.before ≡ out.old.before }
+{
+    let mut ending = Appender::new(Vec::with_capacity(alloc, ROOM)?);
+    if args.put(alloc, Serializer::Json, &mut ending).is_err() {
+        return Err(AllocError);
+    }
+    let ending = ending.into_vec();
+    put_key(alloc, out, "args")?;
+    out.put_all(&ending[1..])
+}
+
+fn put_given(alloc: Global, out: &mut Appender, args: &Args) -> Result<(), AllocError>
+    requires { is_all_carried args.now ≡ true }
+    ensures put { OnOk result (out.new.since ≡ out.old.since
+        ++ entries_text true (given_entries args.now)) }
+    ensures before { out.new.before ≡ out.old.before }
+{
     let arguments = args.decoded(alloc)?;
     put_content(alloc, out, "args", &arguments.args)?;
     put_content(alloc, out, "kwargs", &arguments.kwargs)
