@@ -16,22 +16,14 @@ pub put_both : (a b c : List ℕ) (es fs : Entries) → b ≡ a ++ entries_text 
 put_both a b c es fs first last =
     last ∙ ap (λ xs. xs ++ entries_text true fs) first ∙ append_assoc a (entries_text true es) (entries_text true fs) ∙ ap (λ xs. a ++ xs) (sym (joined_text es fs))
 
-grouped : (a name value rest : List ℕ) → (((((a ++ 123 ∷ []) ++ name) ++ 58 ∷ []) ++ value) ++ rest) ++ 125 ∷ [] ≡ a ++ (123 ∷ (((name ++ 58 ∷ []) ++ (value ++ rest)) ++ 125 ∷ []))
+grouped : (a name value rest : List ℕ) → (((a ++ 123 ∷ name) ++ value) ++ rest) ++ 125 ∷ [] ≡ a ++ (123 ∷ ((name ++ (value ++ rest)) ++ 125 ∷ []))
 grouped a name value rest =
-    append_assoc ((((a ++ 123 ∷ []) ++ name) ++ 58 ∷ []) ++ value) rest (125 ∷ [])
-    ∙ append_assoc (((a ++ 123 ∷ []) ++ name) ++ 58 ∷ []) value (rest ++ 125 ∷ [])
-    ∙ append_assoc ((a ++ 123 ∷ []) ++ name) (58 ∷ []) (value ++ (rest ++ 125 ∷ []))
-    ∙ append_assoc (a ++ 123 ∷ []) name (58 ∷ (value ++ (rest ++ 125 ∷ [])))
-    ∙ append_assoc a (123 ∷ []) (name ++ 58 ∷ (value ++ (rest ++ 125 ∷ [])))
-    ∙ ap (λ x. a ++ 123 ∷ x) (sym (
-      ap (λ y. y ++ 125 ∷ []) (append_assoc name (58 ∷ []) (value ++ rest))
-      ∙ append_assoc name (58 ∷ (value ++ rest)) (125 ∷ [])
-      ∙ ap (λ y. name ++ 58 ∷ y) (append_assoc value rest (125 ∷ []))))
+    append_assoc ((a ++ 123 ∷ name) ++ value) rest (125 ∷ []) ∙ append_assoc (a ++ 123 ∷ name) value (rest ++ 125 ∷ []) ∙ append_assoc a (123 ∷ name) (value ++ (rest ++ 125 ∷ []))
+    ∙ ap (λ x. a ++ 123 ∷ x) (sym (append_assoc name (value ++ rest) (125 ∷ []) ∙ ap (λ y. name ++ y) (append_assoc value rest (125 ∷ []))))
 
--- a dictionary, put as its first entry and the others
-pub put_dict : (a b c d e f g : List ℕ) (key first : List ℕ) (others : Entries) → b ≡ a ++ 123 ∷ [] → c ≡ b ++ json_text (text key) → d ≡ c ++ 58 ∷ [] → e ≡ d ++ json_text (text first)
-    → f ≡ e ++ entries_text true others → g ≡ f ++ 125 ∷ [] → g ≡ a ++ json_text (dict (entry key (text first) others))
-put_dict a b c d e f g key first others b_is c_is d_is e_is f_is g_is =
-    let name = json_text (text key) in let value = json_text (text first) in let rest = entries_text true others in
-    g_is ∙ ap (λ x. x ++ 125 ∷ []) (f_is ∙ ap (λ x. x ++ rest) (e_is ∙ ap (λ x. x ++ value) (d_is ∙ ap (λ x. x ++ 58 ∷ []) (c_is ∙ ap (λ x. x ++ name) b_is))))
-    ∙ grouped a name value rest ∙ ap (λ x. a ++ x) (sym (dict_text (entry key (text first) others)))
+-- a dictionary, put as the beginning of its first entry, that entry's value and the others
+pub put_dict : (a b c d e : List ℕ) (key first : List ℕ) (others : Entries) → b ≡ a ++ (123 ∷ (json_text (text key) ++ 58 ∷ [])) → c ≡ b ++ json_text (text first)
+    → d ≡ c ++ entries_text true others → e ≡ d ++ 125 ∷ [] → e ≡ a ++ json_text (dict (entry key (text first) others))
+put_dict a b c d e key first others b_is c_is d_is e_is =
+    let name = json_text (text key) ++ 58 ∷ [] in let value = json_text (text first) in let rest = entries_text true others in
+    e_is ∙ ap (λ x. x ++ 125 ∷ []) (d_is ∙ ap (λ x. x ++ rest) (c_is ∙ ap (λ x. x ++ value) b_is)) ∙ grouped a name value rest ∙ ap (λ x. a ++ x) (sym (dict_text (entry key (text first) others)))

@@ -11,6 +11,10 @@ use Rattle.client_commands.specs.Controls.{shown}
 use Rattle.client_commands.specs.declared.command.LineForm.{LineForm}
 use Rattle.client_commands.specs.declared.command.LineForm.TheVariants.{Json, Plain}
 
+-- a comma, a key and a colon
+abbrev pub name_of : List ℕ → List ℕ
+name_of key = 44 ∷ (json_text (text key) ++ 58 ∷ [])
+
 -- the entry of this key, where it has a value
 abbrev pub entry_if_any : List ℕ → Option Data → Entries
 entry_if_any k None = no_entries

@@ -6,7 +6,7 @@ ghost use Rattle.message_tree.specs.View.{view, items_view};
 ghost use Rattle.json_codec.specs.Encoder.{json_text, entries_text};
 ghost use Rattle.msgpack_codec.specs.Short.{item_count};
 ghost use Rattle.arguments.specs.Arguments.{is_all_carried, is_carried_if_any, last_items};
-ghost use Rattle.client_commands.specs.EventLine.{argument_entries, bare_line, entry_if_any, event_entries, event_line, given_entries, item_if_any, json_line, members, number_if_any, plain_arguments, plain_line, publisher_entries, spaced, text_if_any, uncarried_entries};
+ghost use Rattle.client_commands.specs.EventLine.{argument_entries, bare_line, entry_if_any, event_entries, event_line, given_entries, item_if_any, json_line, members, name_of, number_if_any, plain_arguments, plain_line, publisher_entries, spaced, text_if_any, uncarried_entries};
 
 use crate::command::LineForm;
 use crate::controls::shown;
@@ -84,15 +84,16 @@ fn put_json(
         ++ json_line topic.now publication details.now args.now) }
     ensures before { out.new.before ≡ out.old.before }
 {
-    out.put(b'{')?;
-    json_codec::encode_text_into(alloc, "topic", out)?;
-    out.put(b':')?;
+    out.put_all(b"{\"topic\":")?;
     json_codec::encode_text_into(alloc, topic, out)?;
     put_event(alloc, out, publication, details, args)?;
     out.put(b'}')
 }
 
-#[tactic(auto, unfolding(crate::specs::EventLine::event_entries))]
+#[tactic(
+    auto,
+    unfolding(crate::specs::EventLine::event_entries, json::specs::Print::escape_byte)
+)]
 fn put_event(
     alloc: Global,
     out: &mut Appender,
@@ -105,47 +106,65 @@ fn put_event(
     ensures before { out.new.before ≡ out.old.before }
 {
     put_arguments(alloc, out, args)?;
-    put_number(alloc, out, "publication", publication)?;
+    put_number(out, "publication", b",\"publication\":", publication)?;
     put_publisher(alloc, out, details)?;
-    put_flag(alloc, out, "retained", details.retained)?;
+    put_flag(out, "retained", b",\"retained\":", details.retained)?;
     put_uncarried(alloc, out, args)
 }
 
-/// Puts a comma, a key and a colon.
-fn put_key(alloc: Global, out: &mut Appender, key: &str) -> Result<(), AllocError>
-    ensures put { OnOk result (out.new.since ≡ out.old.since
-        ++ (44 ∷ (json_text (text key.now) ++ 58 ∷ []))) }
+/// Puts a comma, a key and a colon, spelt so.
+fn put_key(out: &mut Appender, key: &str, spelt: &[u8]) -> Result<(), AllocError>
+    requires { spelt.now ≡ name_of key.now }
+    ensures put { OnOk result (out.new.since ≡ out.old.since ++ name_of key.now) }
     ensures before { out.new.before ≡ out.old.before }
 {
-    out.put(b',')?;
-    json_codec::encode_text_into(alloc, key, out)?;
-    out.put(b':')
+    let _ = key;
+    out.put_all(spelt)
 }
 
-fn put_number(alloc: Global, out: &mut Appender, key: &str, id: Id) -> Result<(), AllocError>
+fn put_number(
+    out: &mut Appender,
+    key: &str,
+    spelt: &[u8],
+    id: Id,
+) -> Result<(), AllocError>
+    requires { spelt.now ≡ name_of key.now }
     ensures put { OnOk result (out.new.since ≡ out.old.since
         ++ entries_text true (entry_if_any key.now (number_if_any (Some id)))) }
     ensures before { out.new.before ≡ out.old.before }
 {
-    put_key(alloc, out, key)?;
+    put_key(out, key, spelt)?;
     json_codec::encode_number_into(id.value(), out)
 }
 
-fn put_text(alloc: Global, out: &mut Appender, key: &str, text: &Text) -> Result<(), AllocError>
+fn put_text(
+    alloc: Global,
+    out: &mut Appender,
+    key: &str,
+    spelt: &[u8],
+    text: &Text,
+) -> Result<(), AllocError>
+    requires { spelt.now ≡ name_of key.now }
     ensures put { OnOk result (out.new.since ≡ out.old.since
         ++ entries_text true (entry_if_any key.now (text_if_any (Some text.now)))) }
     ensures before { out.new.before ≡ out.old.before }
 {
-    put_key(alloc, out, key)?;
+    put_key(out, key, spelt)?;
     json_codec::encode_text_into(alloc, text.as_str(), out)
 }
 
-fn put_flag(alloc: Global, out: &mut Appender, key: &str, value: bool) -> Result<(), AllocError>
+fn put_flag(
+    out: &mut Appender,
+    key: &str,
+    spelt: &[u8],
+    value: bool,
+) -> Result<(), AllocError>
+    requires { spelt.now ≡ name_of key.now }
     ensures put { OnOk result (out.new.since ≡ out.old.since
         ++ entries_text true (entry key.now (flag value) no_entries)) }
     ensures before { out.new.before ≡ out.old.before }
 {
-    put_key(alloc, out, key)?;
+    put_key(out, key, spelt)?;
     if value {
         out.put_all(b"true")
     } else {
@@ -157,9 +176,11 @@ fn put_content(
     alloc: Global,
     out: &mut Appender,
     key: &str,
+    spelt: &[u8],
     content: &Option<Content>,
 ) -> Result<(), AllocError>
-    requires { is_carried_if_any content.now ≡ true }
+    requires spelt { spelt.now ≡ name_of key.now }
+    requires carried { is_carried_if_any content.now ≡ true }
     ensures put { OnOk result (out.new.since ≡ out.old.since
         ++ entries_text true (entry_if_any key.now content.now)) }
     ensures before { out.new.before ≡ out.old.before }
@@ -167,7 +188,7 @@ fn put_content(
     match content {
         None => Ok(()),
         Some(content) => {
-            put_key(alloc, out, key)?;
+            put_key(out, key, spelt)?;
             json_codec::encode_into(alloc, content.tree(), out)
         }
     }
@@ -190,6 +211,7 @@ fn put_arguments(alloc: Global, out: &mut Appender, args: &Args) -> Result<(), A
 }
 
 /// Puts arguments without keys, with no tree.
+#[tactic(auto, unfolding(json::specs::Print::escape_byte))]
 fn put_args_alone(alloc: Global, out: &mut Appender, args: &Args) -> Result<(), AllocError>
     requires carried { is_all_carried args.now ≡ true }
     requires alone { item_count (last_items args.now.args args.now.kwargs) ≡ 1 }
@@ -202,10 +224,11 @@ fn put_args_alone(alloc: Global, out: &mut Appender, args: &Args) -> Result<(), 
         return Err(AllocError);
     }
     let ending = ending.into_vec();
-    put_key(alloc, out, "args")?;
+    put_key(out, "args", b",\"args\":")?;
     out.put_all(&ending[1..])
 }
 
+#[tactic(auto, unfolding(json::specs::Print::escape_byte))]
 fn put_given(alloc: Global, out: &mut Appender, args: &Args) -> Result<(), AllocError>
     requires { is_all_carried args.now ≡ true }
     ensures put { OnOk result (out.new.since ≡ out.old.since
@@ -213,11 +236,14 @@ fn put_given(alloc: Global, out: &mut Appender, args: &Args) -> Result<(), Alloc
     ensures before { out.new.before ≡ out.old.before }
 {
     let arguments = args.decoded(alloc)?;
-    put_content(alloc, out, "args", &arguments.args)?;
-    put_content(alloc, out, "kwargs", &arguments.kwargs)
+    put_content(alloc, out, "args", b",\"args\":", &arguments.args)?;
+    put_content(alloc, out, "kwargs", b",\"kwargs\":", &arguments.kwargs)
 }
 
-#[tactic(auto, unfolding(crate::specs::EventLine::publisher_entries))]
+#[tactic(
+    auto,
+    unfolding(crate::specs::EventLine::publisher_entries, json::specs::Print::escape_byte)
+)]
 fn put_publisher(
     alloc: Global,
     out: &mut Appender,
@@ -227,29 +253,37 @@ fn put_publisher(
         ++ entries_text true (publisher_entries details.now)) }
     ensures before { out.new.before ≡ out.old.before }
 {
-    put_number_if_any(alloc, out, "publisher", details.publisher)?;
-    put_text_if_any(alloc, out, "publisher_authid", &details.publisher_authid)?;
+    put_number_if_any(out, "publisher", b",\"publisher\":", details.publisher)?;
+    put_text_if_any(
+        alloc,
+        out,
+        "publisher_authid",
+        b",\"publisher_authid\":",
+        &details.publisher_authid,
+    )?;
     put_text_if_any(
         alloc,
         out,
         "publisher_authrole",
+        b",\"publisher_authrole\":",
         &details.publisher_authrole,
     )
 }
 
 fn put_number_if_any(
-    alloc: Global,
     out: &mut Appender,
     key: &str,
+    spelt: &[u8],
     id: Option<Id>,
 ) -> Result<(), AllocError>
+    requires { spelt.now ≡ name_of key.now }
     ensures put { OnOk result (out.new.since ≡ out.old.since
         ++ entries_text true (entry_if_any key.now (number_if_any id))) }
     ensures before { out.new.before ≡ out.old.before }
 {
     match id {
         None => Ok(()),
-        Some(id) => put_number(alloc, out, key, id),
+        Some(id) => put_number(out, key, spelt, id),
     }
 }
 
@@ -257,19 +291,24 @@ fn put_text_if_any(
     alloc: Global,
     out: &mut Appender,
     key: &str,
+    spelt: &[u8],
     text: &Option<Text>,
 ) -> Result<(), AllocError>
+    requires { spelt.now ≡ name_of key.now }
     ensures put { OnOk result (out.new.since ≡ out.old.since
         ++ entries_text true (entry_if_any key.now (text_if_any text.now))) }
     ensures before { out.new.before ≡ out.old.before }
 {
     match text {
         None => Ok(()),
-        Some(text) => put_text(alloc, out, key, text),
+        Some(text) => put_text(alloc, out, key, spelt, text),
     }
 }
 
-#[tactic(auto, unfolding(crate::specs::EventLine::uncarried_entries))]
+#[tactic(
+    auto,
+    unfolding(crate::specs::EventLine::uncarried_entries, json::specs::Print::escape_byte)
+)]
 fn put_uncarried(alloc: Global, out: &mut Appender, args: &Args) -> Result<(), AllocError>
     ensures put { OnOk result (out.new.since ≡ out.old.since
         ++ entries_text true (uncarried_entries args.now)) }
@@ -278,7 +317,7 @@ fn put_uncarried(alloc: Global, out: &mut Appender, args: &Args) -> Result<(), A
     if args.is_carried() {
         return Ok(());
     }
-    put_flag(alloc, out, "uncarried", true)
+    put_flag(out, "uncarried", b",\"uncarried\":", true)
 }
 
 #[tactic(auto, unfolding(crate::specs::EventLine::plain_line))]
