@@ -1,5 +1,5 @@
 -- Texts without the controls that are escaped.
-use Rattle.std.proofs.Common.{◌≡◌, ◌∙◌, ◌+◌, ◌++◌, ◌==◌, ℕ, suc, Bool, true, false, List, [], ◌∷◌, length, ap, arith, refl, if◌then◌else◌}
+use Rattle.std.proofs.Common.{◌≡◌, ◌∙◌, ◌++◌, ◌==◌, ℕ, suc, Bool, true, false, List, [], ◌∷◌, length, ap, arith, refl, if◌then◌else◌}
 use Rattle.std.specs.Prelude.{◌||◌}
 use Rattle.memchr.specs.Find.{Nowhere, Passes, is_byte2}
 use Rattle.client_commands.specs.Controls.{escape_of, shown, shown_behind}

@@ -1,5 +1,5 @@
 -- What is heard one message after another.
-use Rattle.std.proofs.Common.{◌≡◌, ◌+◌, ◌++◌, ◌∙◌, ℕ, Bool, true, false, List, [], ◌∷◌, length, Ok, Some, None, arith, ap, refl, subst, sym, append_assoc, if◌then◌else◌}
+use Rattle.std.proofs.Common.{◌≡◌, ◌+◌, ◌++◌, ◌∙◌, ℕ, Bool, true, false, List, [], ◌∷◌, length, Ok, Some, None, arith, ap, refl, subst, append_assoc, if◌then◌else◌}
 use Rattle.std.specs.declared.option.Option.{Option}
 use Rattle.rawsocket.specs.Devices.{GrowsByBeginning}
 use Rattle.rawsocket.specs.declared.handshake.Serializer.{Serializer}
@@ -66,7 +66,10 @@ counted-more heards heard is before mid now e old new =
 -- none is left
 pub all-counted-off : (before now : Option ℕ) (n : ℕ) → IsCountedOff before now n → now ≡ Some 0 → before ≡ Some n
 all-counted-off None now n off e = absurd (subst (λ x. IsCountedOff None x n) e off)
-all-counted-off (Some k) now n off e = ap (λ x. Some x) (subst (λ x. IsCountedOff (Some k) x n) e off)
+all-counted-off (Some k) now n off e =
+    let all : k ≡ 0 + n = subst (λ x. IsCountedOff (Some k) x n) e off in
+    let same : k ≡ n = omega (arith, all) in
+    ap (λ x. Some x) same
 
 -- all topics are asked for
 pub asked-all : (s u : Serializer) (realm : List ℕ) (authid : Option (List ℕ)) (wishes : SubscribeWishes) (topics : List (List ℕ)) (before : Exchange) (session : Welcomed) (given taken now : List ℕ)

@@ -90,10 +90,7 @@ fn put_json(
     out.put(b'}')
 }
 
-#[tactic(
-    auto,
-    unfolding(crate::specs::EventLine::event_entries, json::specs::Print::escape_byte)
-)]
+#[tactic(auto, unfolding(crate::specs::EventLine::event_entries, json::specs::Print::escape_byte))]
 fn put_event(
     alloc: Global,
     out: &mut Appender,
@@ -122,12 +119,7 @@ fn put_key(out: &mut Appender, key: &str, spelt: &[u8]) -> Result<(), AllocError
     out.put_all(spelt)
 }
 
-fn put_number(
-    out: &mut Appender,
-    key: &str,
-    spelt: &[u8],
-    id: Id,
-) -> Result<(), AllocError>
+fn put_number(out: &mut Appender, key: &str, spelt: &[u8], id: Id) -> Result<(), AllocError>
     requires { spelt.now ≡ name_of key.now }
     ensures put { OnOk result (out.new.since ≡ out.old.since
         ++ entries_text true (entry_if_any key.now (number_if_any (Some id)))) }
@@ -153,12 +145,7 @@ fn put_text(
     json_codec::encode_text_into(alloc, text.as_str(), out)
 }
 
-fn put_flag(
-    out: &mut Appender,
-    key: &str,
-    spelt: &[u8],
-    value: bool,
-) -> Result<(), AllocError>
+fn put_flag(out: &mut Appender, key: &str, spelt: &[u8], value: bool) -> Result<(), AllocError>
     requires { spelt.now ≡ name_of key.now }
     ensures put { OnOk result (out.new.since ≡ out.old.since
         ++ entries_text true (entry key.now (flag value) no_entries)) }
@@ -240,10 +227,7 @@ fn put_given(alloc: Global, out: &mut Appender, args: &Args) -> Result<(), Alloc
     put_content(alloc, out, "kwargs", b",\"kwargs\":", &arguments.kwargs)
 }
 
-#[tactic(
-    auto,
-    unfolding(crate::specs::EventLine::publisher_entries, json::specs::Print::escape_byte)
-)]
+#[tactic(auto, unfolding(crate::specs::EventLine::publisher_entries, json::specs::Print::escape_byte))]
 fn put_publisher(
     alloc: Global,
     out: &mut Appender,
@@ -305,10 +289,7 @@ fn put_text_if_any(
     }
 }
 
-#[tactic(
-    auto,
-    unfolding(crate::specs::EventLine::uncarried_entries, json::specs::Print::escape_byte)
-)]
+#[tactic(auto, unfolding(crate::specs::EventLine::uncarried_entries, json::specs::Print::escape_byte))]
 fn put_uncarried(alloc: Global, out: &mut Appender, args: &Args) -> Result<(), AllocError>
     ensures put { OnOk result (out.new.since ≡ out.old.since
         ++ entries_text true (uncarried_entries args.now)) }
@@ -321,12 +302,7 @@ fn put_uncarried(alloc: Global, out: &mut Appender, args: &Args) -> Result<(), A
 }
 
 #[tactic(auto, unfolding(crate::specs::EventLine::plain_line))]
-fn put_plain(
-    alloc: Global,
-    out: &mut Appender,
-    topic: &str,
-    args: &Args,
-) -> Result<(), AllocError>
+fn put_plain(alloc: Global, out: &mut Appender, topic: &str, args: &Args) -> Result<(), AllocError>
     ensures put { OnOk result (out.new.since ≡ out.old.since
         ++ plain_line topic.now args.now) }
     ensures before { out.new.before ≡ out.old.before }

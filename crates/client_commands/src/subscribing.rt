@@ -182,14 +182,8 @@ fn take<P: Sink, N: Sink>(
             let Some(topic) = topic_told(topics, granted, subscription, &details.topic) else {
                 return Err(Fault::ForeignEvent);
             };
-            let Ok(line) = event_line(
-                alloc,
-                form,
-                topic.as_str(),
-                publication,
-                &details,
-                &args,
-            ) else {
+            let Ok(line) = event_line(alloc, form, topic.as_str(), publication, &details, &args)
+            else {
                 return Err(Fault::NoMemory);
             };
             match print(output, &line, turns) {

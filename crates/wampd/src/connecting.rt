@@ -11,12 +11,7 @@ pub fn limit_of(contact: &Contact) -> Duration {
 
 /// A stream to the broker. Small writes go out at once, and neither a write nor an answer may take too long.
 pub fn connect<R: Net<Stream = TcpStream>>(rt: &R, contact: &Contact) -> io::Result<TcpStream> {
-    let stream = connect_within(
-        rt,
-        contact.host.as_str(),
-        contact.port,
-        limit_of(contact),
-    )?;
+    let stream = connect_within(rt, contact.host.as_str(), contact.port, limit_of(contact))?;
     let _ = stream.set_nodelay(true);
     Ok(stream)
 }

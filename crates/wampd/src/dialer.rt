@@ -10,10 +10,9 @@ use client_commands::{Contact, Dialer, Fault, Listener, SubscribeCommand, Timing
 use rawsocket::devices::{ReadSource, Sink, WriteSink};
 use std::alloc::Global;
 use std::cell::Cell;
-use std::io;
 use std::net::{Net, TcpStream};
-use std::thread;
 use std::time::{Clock, Duration};
+use std::{io, thread};
 
 /// Connections to a broker, one after another.
 #[derive(Drop)]
@@ -29,12 +28,7 @@ pub struct TcpDialer<'a, R: Net<Stream = TcpStream> + Clock, E: Sink + Drop> {
 
 impl<'a, R: Net<Stream = TcpStream> + Clock, E: Sink + Drop> TcpDialer<'a, R, E> {
     /// Connections to this broker. What happens to them is told to `errors`.
-    pub fn new(
-        rt: &'a R,
-        alloc: Global,
-        contact: &'a Contact,
-        errors: E,
-    ) -> TcpDialer<'a, R, E> {
+    pub fn new(rt: &'a R, alloc: Global, contact: &'a Contact, errors: E) -> TcpDialer<'a, R, E> {
         TcpDialer {
             rt,
             contact,
@@ -48,12 +42,7 @@ impl<'a, R: Net<Stream = TcpStream> + Clock, E: Sink + Drop> TcpDialer<'a, R, E>
     pub fn failure(&self, alloc: Global, fault: Fault) -> Failure {
         match (&fault, &self.unreachable) {
             (Fault::Unreachable, Some(error)) => {
-                Failure::to_connect(
-                    alloc,
-                    self.contact.host.as_str(),
-                    self.contact.port,
-                    error,
-                )
+                Failure::to_connect(alloc, self.contact.host.as_str(), self.contact.port, error)
             }
             _ => Failure::of_client(alloc, fault, self.contact, self.is_late),
         }

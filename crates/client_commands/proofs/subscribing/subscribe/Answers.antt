@@ -105,6 +105,7 @@ returns g c =
       cause = λ is. inr (ends-after command.contact.serializer c.link.result.now.serializer command.contact.realm command.contact.authid command.wishes command.topics.items (exchanged (g.I.Source.seen c.args.source.now) (g.O.Sink.seen c.args.sink.now))
           (exchanged (g.I.Source.seen c.follow.new.source) (g.O.Sink.seen c.follow.new.sink)) c.in-Ok.session (g.I.Source.seen c.join.new.source).given (g.O.Sink.seen c.join.new.sink).taken (g.O.Sink.seen c.ask.new.sink).taken c.in-Err-follow.fault
           c.in-Ok.ensures.joined (ap (λ l. l.serializer) c.link.ensures) c.in_default.ensures.asked (inl (c.in-Err-follow.ensures.cause is)));
+      done = tt;
       gone = c.in-Err-follow.ensures.gone;
       reads = omega (arith, c.in-Ok.ensures.reads, c.in-Err-follow.ensures.reads);
       writes = omega (arith, c.in-Ok.ensures.writes, c.in_default.ensures.writes, c.in-Err-follow.ensures.writes);
