@@ -2,7 +2,7 @@
 use crate::case::{Failing, NONE, ROOM};
 use crate::timings::Told;
 use case_devices::FailsAt;
-use client_commands::{Dialer, Fault, Listener, SubscribeCommand, subscribe};
+use client_commands::{Dialer, Fault, Listener, SubscribeCommand, subscribe_once};
 use rawsocket::devices::{MemorySource, Sink, WriteSink};
 use std::alloc::{AllocError, Global};
 use std::collections::VecDeque;
@@ -50,6 +50,15 @@ impl Connections {
         Ok((self.written, self.told))
     }
 
+    /// What the broker sends over the next connection.
+    fn next_octets(&mut self) -> Result<Vec<u8>, Fault> {
+        match self.coming.pop_front() {
+            None => Err(Fault::Usage),
+            Some(None) => Err(Fault::Unreachable),
+            Some(Some(octets)) => Ok(octets),
+        }
+    }
+
     /// Adds what came of a connection.
     fn note(&mut self, written: &[u8], timing: Told) -> Result<(), AllocError> {
         self.written.extend_from_slice(written)?;
@@ -72,20 +81,22 @@ impl Dialer for Connections {
         output: &mut P,
         notes: &mut N,
     ) -> Result<(), Fault> {
-        listener.is_subscribed = false;
-        let octets = match self.coming.pop_front() {
-            None => return Err(Fault::Usage),
-            Some(None) => return Err(Fault::Unreachable),
-            Some(Some(octets)) => octets,
+        let octets = match self.next_octets() {
+            Ok(octets) => octets,
+            Err(fault) => {
+                listener.miss();
+                return Err(fault);
+            }
         };
         let Ok(room) = Vec::with_capacity(alloc, ROOM) else {
+            listener.miss();
             return Err(Fault::NoMemory);
         };
         let mut source = FailsAt::new(MemorySource::new(octets), self.failing.read);
         let mut sink = FailsAt::new(WriteSink::new(room), self.failing.write);
         self.failing = NONE;
         let mut timing = Told::new(alloc, self.is_timed);
-        let ran = subscribe(
+        let ran = subscribe_once(
             alloc,
             command,
             listener,

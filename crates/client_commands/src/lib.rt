@@ -32,7 +32,7 @@ pub use event_lines::event_line;
 pub use fault::Fault;
 pub use listener::Listener;
 pub use publishing::publish;
-pub use reconnecting::{Dialer, resubscribe};
+pub use reconnecting::{Dialer, resubscribe, subscribe_once};
 pub use subscribing::subscribe;
 pub use timing::Timing;
 pub use value::value_of;

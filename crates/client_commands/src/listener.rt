@@ -1,6 +1,9 @@
 //! How far a subscriber is.
-ghost use Rattle.std.specs.Prelude.{◌≡◌, ◌≤◌, MatchOption, false, if◌then◌else◌, ⊤, true};
+ghost use Rattle.std.specs.Prelude.{◌≡◌, ◌≤◌, ℕ, List, MatchOption, Some, false, if◌then◌else◌, ⊤, true};
 ghost use Rattle.client_commands.specs.Acts.{IsCountedOff, is_subscribed};
+ghost use Rattle.client_commands.specs.Notes.{Noting};
+ghost use Rattle.client_commands.specs.Reconnecting.{PrintsOnce, stage};
+ghost use Rattle.client_commands.specs.declared.command.SubscribeCommand.{SubscribeCommand};
 
 use crate::subscriptions::Granted;
 use crate::timing::Timing;
@@ -25,6 +28,14 @@ impl Listener {
             left: count,
             is_subscribed: false,
         }
+    }
+
+    /// There was no connection: nothing is printed, and no subscription given.
+    pub fn miss(&mut self)
+        ensures { (command : SubscribeCommand) (lines : List ℕ) (notes : Noting) → PrintsOnce command
+            (stage lines notes self.old.left) (stage lines notes self.new.left) }
+    {
+        self.is_subscribed = false;
     }
 
     /// Whether no event is left to be printed.

@@ -1,5 +1,5 @@
 //! `subscribe` over one connection after another.
-ghost use Rattle.std.specs.Prelude.{◌≡◌, ◌≤◌, ℕ, IfErr, OnOk, Option, Some, false};
+ghost use Rattle.std.specs.Prelude.{◌≡◌, ◌≤◌, ℕ, [], IfErr, OnOk, Option, Some, false};
 ghost use Rattle.rawsocket.specs.Steps.{told_by};
 ghost use Rattle.client_commands.specs.Faults.{WriteFailuresTold, is_passing, output_told};
 ghost use Rattle.client_commands.specs.Notes.{noting};
@@ -8,7 +8,9 @@ ghost use Rattle.client_commands.specs.Reconnecting.{PrintsOnce, PrintsOverAll, 
 use crate::command::SubscribeCommand;
 use crate::fault::Fault;
 use crate::listener::Listener;
-use rawsocket::devices::Sink;
+use crate::subscribing::subscribe;
+use crate::timing::Timing;
+use rawsocket::devices::{Sink, Source};
 use std::alloc::Global;
 
 /// The longest pause, in seconds.
@@ -38,6 +40,34 @@ pub trait Dialer {
     /// Waits so many seconds before the next connection. The last one ended by this fault.
     fn wait(&mut self, alloc: Global, seconds: u32, fault: Fault)
         requires { (1 ≤ seconds) × (seconds ≤ 60) };
+}
+
+/// What [`crate::subscribe`] does over a connection of which nothing is read and nothing written, as a [`Dialer`] is to say it.
+///
+/// # Errors
+/// As [`crate::subscribe`].
+pub fn subscribe_once<I: Source, O: Sink, P: Sink, N: Sink, T: Timing>(
+    alloc: Global,
+    command: &SubscribeCommand,
+    listener: &mut Listener,
+    source: &mut I,
+    sink: &mut O,
+    output: &mut P,
+    notes: &mut N,
+    timing: &mut T,
+) -> Result<(), Fault>
+    requires unread { (I.seen source.old).given ≡ [] }
+    requires unwritten { (O.seen sink.old).taken ≡ [] }
+    ensures prints { PrintsOnce command.now
+        (stage (P.seen output.old).taken (noting (N.seen notes.old)) listener.old.left)
+        (stage (P.seen output.new).taken (noting (N.seen notes.new)) listener.new.left) }
+    ensures done { OnOk result (listener.new.left ≡ Some 0) }
+    ensures lines { WriteFailuresTold (P.seen output.old) (P.seen output.new)
+        (told_by output_told result) }
+{
+    subscribe(
+        alloc, command, listener, source, sink, output, notes, timing,
+    )
 }
 
 /// How many seconds it waits, where the last pause had so many: 1 behind a connection over which it was subscribed, else twice as

@@ -1,12 +1,10 @@
 //! Connections of a subscriber over TCP.
-ghost use Rattle.std.specs.Prelude.{◌≡◌};
-
 use crate::away::Away;
 use crate::connecting::{connect, limit_of};
 use crate::due_stream::{Deadline, DueStream};
 use crate::failure::Failure;
 use crate::patient_stream::PatientStream;
-use client_commands::{Contact, Dialer, Fault, Listener, SubscribeCommand, Timing, subscribe};
+use client_commands::{Contact, Dialer, Fault, Listener, SubscribeCommand, Timing, subscribe_once};
 use rawsocket::devices::{ReadSource, Sink, WriteSink};
 use std::alloc::Global;
 use std::cell::Cell;
@@ -63,7 +61,7 @@ impl<R: Net<Stream = TcpStream> + Clock, E: Sink + Drop> Dialer for TcpDialer<'_
             Ok(stream) => stream,
             Err(error) => {
                 self.unreachable = Some(error);
-                listener.is_subscribed = false;
+                listener.miss();
                 return Err(Fault::Unreachable);
             }
         };
@@ -78,7 +76,7 @@ impl<R: Net<Stream = TcpStream> + Clock, E: Sink + Drop> Dialer for TcpDialer<'_
             deadline: &deadline,
             away: &mut self.away,
         };
-        let ran = subscribe(
+        let ran = subscribe_once(
             alloc,
             command,
             listener,
