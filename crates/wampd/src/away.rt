@@ -8,18 +8,16 @@ use std::time::{Clock, SystemTime};
 
 /// Since when a subscriber is without a connection, and where it tells of that.
 #[derive(Drop)]
-pub struct Away<'a, R: Clock, E: Sink + Drop> {
-    clock: &'a R,
+pub struct Away<E: Sink + Drop> {
     alloc: Global,
     errors: E,
     since: Option<SystemTime>,
 }
 
-impl<'a, R: Clock, E: Sink + Drop> Away<'a, R, E> {
+impl<E: Sink + Drop> Away<E> {
     /// It isn't away.
-    pub fn new(clock: &'a R, alloc: Global, errors: E) -> Away<'a, R, E> {
+    pub fn new(alloc: Global, errors: E) -> Away<E> {
         Away {
-            clock,
             alloc,
             errors,
             since: None,
@@ -27,9 +25,9 @@ impl<'a, R: Clock, E: Sink + Drop> Away<'a, R, E> {
     }
 
     /// Tells why there is no connection, and when the next one is tried.
-    pub fn begin(&mut self, failure: &Failure, seconds: u32) {
+    pub fn begin<R: Clock>(&mut self, clock: &R, failure: &Failure, seconds: u32) {
         if self.since.is_none() {
-            self.since = SystemTime::now(self.clock).ok();
+            self.since = SystemTime::now(clock).ok();
         }
         let _ = report_failure(&failure.fault, &failure.more, &mut self.errors);
         let line = format!(in self.alloc; "connecting again in {seconds} s\n");
@@ -37,18 +35,18 @@ impl<'a, R: Clock, E: Sink + Drop> Away<'a, R, E> {
     }
 
     /// Tells how long it was away, if it was.
-    pub fn end(&mut self) {
+    pub fn end<R: Clock>(&mut self, clock: &R) {
         let Some(since) = self.since else {
             return;
         };
         self.since = None;
-        let line = self.line_of(since);
+        let line = self.line_of(clock, since);
         self.tell(line);
     }
 
     /// What is told of the time that is over.
-    fn line_of(&self, since: SystemTime) -> Result<String, AllocError> {
-        let seconds = match since.elapsed(self.clock) {
+    fn line_of<R: Clock>(&self, clock: &R, since: SystemTime) -> Result<String, AllocError> {
+        let seconds = match since.elapsed(clock) {
             Ok(away) => away.as_secs(),
             Err(_) => 0,
         };

@@ -1,15 +1,20 @@
 //! Connections of a subscriber over TCP.
+ghost use Rattle.std.specs.Prelude.{◌≡◌, OnOk, Some};
+ghost use Rattle.rawsocket.specs.Steps.{told_by};
+ghost use Rattle.client_commands.specs.Faults.{WriteFailuresTold, output_told};
+ghost use Rattle.client_commands.specs.Notes.{noting};
+ghost use Rattle.client_commands.specs.Reconnecting.{PrintsOnce, stage};
+
 use crate::away::Away;
 use crate::connecting::{connect, limit_of};
-use crate::due_stream::{Deadline, DueStream};
+use crate::due_stream::{DueStream, begin, end};
 use crate::failure::Failure;
-use crate::patient_stream::PatientStream;
 use client_commands::{Contact, Dialer, Fault, Listener, SubscribeCommand, Timing, subscribe_once};
 use rawsocket::devices::{ReadSource, Sink, WriteSink};
 use std::alloc::Global;
 use std::cell::Cell;
 use std::net::{Net, TcpStream};
-use std::time::{Clock, Duration};
+use std::time::{Clock, Duration, Instant};
 use std::{io, thread};
 
 /// Connections to a broker, one after another.
@@ -17,7 +22,7 @@ use std::{io, thread};
 pub struct TcpDialer<'a, R: Net<Stream = TcpStream> + Clock, E: Sink + Drop> {
     rt: &'a R,
     contact: &'a Contact,
-    away: Away<'a, R, E>,
+    away: Away<E>,
     /// Why there is no connection.
     unreachable: Option<io::Error>,
     /// Whether the last connection ended since an answer came too late.
@@ -30,7 +35,7 @@ impl<'a, R: Net<Stream = TcpStream> + Clock, E: Sink + Drop> TcpDialer<'a, R, E>
         TcpDialer {
             rt,
             contact,
-            away: Away::new(rt, alloc, errors),
+            away: Away::new(alloc, errors),
             unreachable: None,
             is_late: false,
         }
@@ -66,25 +71,16 @@ impl<R: Net<Stream = TcpStream> + Clock, E: Sink + Drop> Dialer for TcpDialer<'_
             }
         };
         let is_late = Cell::new(false);
-        let deadline = Deadline::new(self.rt, &stream, limit_of(self.contact));
-        let patient = PatientStream::new(&stream, &is_late);
-        let mut source = ReadSource::new(DueStream::new(patient, &deadline));
-        let patient = PatientStream::new(&stream, &is_late);
-        let mut sink = WriteSink::new(DueStream::new(patient, &deadline));
-        let mut timing = ListenerTiming {
-            clock: self.rt,
-            deadline: &deadline,
-            away: &mut self.away,
-        };
-        let ran = subscribe_once(
+        let ran = listen_over(
+            self.rt,
             alloc,
+            &stream,
+            &is_late,
+            &mut self.away,
             command,
             listener,
-            &mut source,
-            &mut sink,
             output,
             notes,
-            &mut timing,
         );
         self.is_late = is_late.get();
         ran
@@ -92,30 +88,75 @@ impl<R: Net<Stream = TcpStream> + Clock, E: Sink + Drop> Dialer for TcpDialer<'_
 
     fn wait(&mut self, alloc: Global, seconds: u32, fault: Fault) {
         let failure = self.failure(alloc, fault);
-        self.away.begin(&failure, seconds);
+        self.away.begin(self.rt, &failure, seconds);
         thread::sleep(self.rt, Duration::from_secs(seconds as u64));
     }
 }
 
-/// The time that a subscriber takes over a connection.
-#[derive(Drop)]
-struct ListenerTiming<'b, 'a, R: Clock, E: Sink + Drop> {
-    clock: &'b R,
-    deadline: &'b Deadline<'b, R>,
-    away: &'b mut Away<'a, R, E>,
+/// Subscribes over a stream, and tells whether an answer came too late.
+fn listen_over<R: Clock, E: Sink + Drop, P: Sink, N: Sink>(
+    rt: &R,
+    alloc: Global,
+    stream: &TcpStream,
+    is_late: &Cell<bool>,
+    away: &mut Away<E>,
+    command: &SubscribeCommand,
+    listener: &mut Listener,
+    output: &mut P,
+    notes: &mut N,
+) -> Result<(), Fault>
+    ensures prints { PrintsOnce command.now
+        (stage (P.seen output.old).taken (noting (N.seen notes.old)) listener.old.left)
+        (stage (P.seen output.new).taken (noting (N.seen notes.new)) listener.new.left) }
+    ensures done { OnOk result (listener.new.left ≡ Some 0) }
+    ensures lines { WriteFailuresTold (P.seen output.old) (P.seen output.new)
+        (told_by output_told result) }
+{
+    let limit = limit_of(&command.contact);
+    let due = Cell::new(None);
+    begin(rt, stream, limit, &due);
+    let mut source = ReadSource::new(DueStream::new(rt, stream, &due, is_late));
+    let mut sink = WriteSink::new(DueStream::new(rt, stream, &due, is_late));
+    let mut timing = ListenerTiming {
+        clock: rt,
+        stream,
+        limit,
+        due: &due,
+        away,
+    };
+    subscribe_once(
+        alloc,
+        command,
+        listener,
+        &mut source,
+        &mut sink,
+        output,
+        notes,
+        &mut timing,
+    )
 }
 
-impl<R: Clock, E: Sink + Drop> Timing for ListenerTiming<'_, '_, R, E> {
+/// The time that a subscriber takes over a connection.
+#[derive(Drop)]
+struct ListenerTiming<'a, R: Clock, E: Sink + Drop> {
+    clock: &'a R,
+    stream: &'a TcpStream,
+    limit: Duration,
+    due: &'a Cell<Option<Instant>>,
+    away: &'a mut Away<E>,
+}
+
+impl<R: Clock, E: Sink + Drop> Timing for ListenerTiming<'_, R, E> {
     fn rest(&mut self) {
         thread::sleep(self.clock, Duration::from_millis(1));
     }
 
     fn expects(&mut self, is_due: bool) {
         if is_due {
-            self.deadline.begin();
+            begin(self.clock, self.stream, self.limit, self.due);
             return;
         }
-        self.deadline.end();
-        self.away.end();
+        end(self.stream, self.due);
+        self.away.end(self.clock);
     }
 }

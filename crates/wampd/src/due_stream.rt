@@ -5,42 +5,49 @@ use std::io::{self, ErrorKind, Read, Write};
 use std::net::TcpStream;
 use std::time::{Clock, Duration, Instant};
 
-/// By when what the broker says has to be here, where it has to.
-#[derive(Drop)]
-pub struct Deadline<'a, R: Clock> {
-    clock: &'a R,
-    stream: &'a TcpStream,
+/// What comes over the stream has to be here within this time from now on, however much it is.
+pub fn begin<R: Clock>(
+    clock: &R,
+    stream: &TcpStream,
     limit: Duration,
-    due: Cell<Option<Instant>>,
+    due: &Cell<Option<Instant>>,
+) {
+    due.set(match Instant::now(clock) {
+        Ok(now) => now.checked_add(limit),
+        Err(_) => None,
+    });
+    let _ = stream.set_read_timeout(Some(limit));
 }
 
-impl<'a, R: Clock> Deadline<'a, R> {
-    /// All that comes from now on has to be here within this time.
-    pub fn new(clock: &'a R, stream: &'a TcpStream, limit: Duration) -> Deadline<'a, R> {
-        let deadline = Deadline {
+/// What comes over the stream may take for ever.
+pub fn end(stream: &TcpStream, due: &Cell<Option<Instant>>) {
+    due.set(None);
+    let _ = stream.set_read_timeout(None);
+}
+
+/// A stream that tells where a write took longer than its limit, or an answer came too late.
+#[derive(Drop)]
+pub struct DueStream<'a, R: Clock> {
+    clock: &'a R,
+    stream: &'a TcpStream,
+    due: &'a Cell<Option<Instant>>,
+    is_late: &'a Cell<bool>,
+}
+
+impl<'a, R: Clock> DueStream<'a, R> {
+    /// The stream, by when an answer has to come, and the place where it is told that none did.
+    pub fn new(
+        clock: &'a R,
+        stream: &'a TcpStream,
+        due: &'a Cell<Option<Instant>>,
+        is_late: &'a Cell<bool>,
+    ) -> DueStream<'a, R> {
+        DueStream {
             clock,
             stream,
-            limit,
-            due: Cell::new(None),
-        };
-        deadline.begin();
-        deadline
-    }
-
-    /// The time begins.
-    pub fn begin(&self) {
-        let due = match Instant::now(self.clock) {
-            Ok(now) => now.checked_add(self.limit),
-            Err(_) => None,
-        };
-        self.due.set(due);
-        let _ = self.stream.set_read_timeout(Some(self.limit));
-    }
-
-    /// What comes may take for ever.
-    pub fn end(&self) {
-        self.due.set(None);
-        let _ = self.stream.set_read_timeout(None);
+            due,
+            is_late,
+        }
     }
 
     /// Lets the next read take what is left of the time.
@@ -56,38 +63,22 @@ impl<'a, R: Clock> Deadline<'a, R> {
     }
 }
 
-/// A stream that tells where a write took longer than its limit, or an answer came too late.
-#[derive(Drop)]
-pub struct DueStream<'a, R: Clock> {
-    stream: PatientStream<'a>,
-    deadline: &'a Deadline<'a, R>,
-}
-
-impl<'a, R: Clock> DueStream<'a, R> {
-    /// The stream, and by when an answer has to come.
-    pub fn new(stream: PatientStream<'a>, deadline: &'a Deadline<'a, R>) -> DueStream<'a, R> {
-        DueStream { stream, deadline }
-    }
-}
-
 impl<R: Clock> Read for DueStream<'_, R> {
     fn read(&mut self, buffer: &mut [u8]) -> io::Result<usize> {
-        match self.deadline.prepare() {
-            Ok(()) => self.stream.read(buffer),
-            Err(error) => {
-                self.stream.note(&error);
-                Err(error)
-            }
+        if let Err(error) = self.prepare() {
+            self.is_late.set(true);
+            return Err(error);
         }
+        PatientStream::new(self.stream, self.is_late).read(buffer)
     }
 }
 
 impl<R: Clock> Write for DueStream<'_, R> {
     fn write(&mut self, octets: &[u8]) -> io::Result<usize> {
-        self.stream.write(octets)
+        PatientStream::new(self.stream, self.is_late).write(octets)
     }
 
     fn flush(&mut self) -> io::Result<()> {
-        self.stream.flush()
+        Ok(())
     }
 }

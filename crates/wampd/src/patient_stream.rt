@@ -23,7 +23,7 @@ impl<'a> PatientStream<'a> {
     }
 
     /// Tells whether this was the limit.
-    pub fn note(&self, error: &io::Error) {
+    fn note(&self, error: &io::Error) {
         if matches!(error.kind(), ErrorKind::WouldBlock | ErrorKind::TimedOut) {
             self.is_late.set(true);
         }
