@@ -1,6 +1,6 @@
 //! What the command lines of the clients ask for.
 use client_commands::{
-    Arguments, Contact, PublishCommand, PublishWishes, Serializer, SubscribeCommand,
+    Arguments, Contact, LineForm, PublishCommand, PublishWishes, Serializer, SubscribeCommand,
     SubscribeWishes,
 };
 use message_tree::{Content, Message, Text};
@@ -14,6 +14,12 @@ pub fn subscribe_line(alloc: Global, command: &SubscribeCommand) -> io::Result<S
     put_wishes(&mut line, command.wishes)?;
     if let Some(count) = command.count {
         line.push_str(format!(in alloc; " count {count}")?.as_str())?;
+    }
+    if command.form == LineForm::Plain {
+        line.push_str(" plain")?;
+    }
+    if command.reconnect {
+        line.push_str(" reconnect")?;
     }
     put_session(&mut line, &command.contact)?;
     for topic in &command.topics {

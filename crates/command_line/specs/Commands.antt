@@ -118,6 +118,7 @@ fault_of_client (client.Connection fault) = ConnectionFault
 fault_of_client client.Unexpected = ConnectionFault
 fault_of_client client.ForeignEvent = ConnectionFault
 fault_of_client (client.Closed uri) = ConnectionFault
+fault_of_client client.Unreachable = ConnectFault
 
 -- the fault of a program whose input couldn't be published as one argument
 abbrev pub fault_of_input : InputFault → Fault

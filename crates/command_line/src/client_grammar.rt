@@ -18,6 +18,12 @@ pub fn subscribe<'a>(alloc: Global) -> Result<Command<'a>, AllocError> {
                 .value_name("N")
                 .help("End after so many events, from 1"),
         )?
+        .arg(flag(alloc, "plain").help(
+            "Print the topic and the arguments alone, with spaces between them, in place of JSON",
+        ))?
+        .arg(flag(alloc, "reconnect").help(
+            "Connect and subscribe again where the connection is lost, and tell what may be missed",
+        ))?
         .arg(realm(alloc))?
         .arg(
             Arg::new(alloc, "topic")

@@ -7,8 +7,8 @@ ghost use Rattle.command_line.specs.Sessions.{Spells, SpellsNoId};
 use crate::refusal::{CommandRefusal, refused, refused_value};
 use clap::ArgMatches;
 use client_commands::{
-    Arguments, Contact, PublishCommand, PublishWishes, Serializer, SessionLists, SubscribeCommand,
-    SubscribeWishes, value_of,
+    Arguments, Contact, LineForm, PublishCommand, PublishWishes, Serializer, SessionLists,
+    SubscribeCommand, SubscribeWishes, value_of,
 };
 use message_tree::{Content, Text, Tree};
 use std::alloc::{AllocError, Global};
@@ -65,8 +65,19 @@ pub fn read_subscribe(
         contact,
         wishes,
         count,
+        form: form_of(words),
+        reconnect: words.get_flag("reconnect"),
         topics,
     })
+}
+
+/// How events are printed.
+fn form_of(words: &ArgMatches<'_>) -> LineForm {
+    if words.get_flag("plain") {
+        LineForm::Plain
+    } else {
+        LineForm::Json
+    }
 }
 
 /// What the words behind `publish` ask for.

@@ -101,6 +101,7 @@ impl From<client_commands::Fault> for Fault {
             client_commands::Fault::Unexpected => Fault::ConnectionFault,
             client_commands::Fault::ForeignEvent => Fault::ConnectionFault,
             client_commands::Fault::Closed(_) => Fault::ConnectionFault,
+            client_commands::Fault::Unreachable => Fault::ConnectFault,
         }
     }
 }

@@ -10,7 +10,11 @@ ghost use Rattle.rawsocket.specs.Devices.{Takes, TakesBeginning};
 ghost use Rattle.rawsocket.specs.Steps.{WriteSteps, told_by};
 ghost use Rattle.command_line.specs.Commands.{IsServable, IsWritten, fault_line, status_of, write_told};
 
+mod away;
 mod clients;
+mod connecting;
+mod dialer;
+mod due_stream;
 mod failure;
 mod patient_stream;
 mod places;
@@ -96,7 +100,8 @@ where
         Command::Subscribe(command) => {
             let _places = fill_closed(host);
             let mut notes = WriteSink::new(host.stderr());
-            return run_subscribe(&rt, alloc, &mut output, &mut notes, &command);
+            let errors = WriteSink::new(host.stderr());
+            return run_subscribe(&rt, alloc, &mut output, &mut notes, errors, &command);
         }
         Command::Publish(command) => {
             let _places = fill_closed(host);
