@@ -5,7 +5,8 @@
 //! - `deep N`: how deep the message nests of a SUBSCRIBE with an option of N levels.
 //! - `subscribe WORDS`, `publish WORDS`: the options that ask for these wishes, and how deep they nest. The words of
 //!   a SUBSCRIBE are `prefix`, `wildcard` and `get_retained`; those of a PUBLISH `acknowledge`, `disclose_me`,
-//!   `include_me`, `retain`, `authids` and `authroles`, the last two with their list behind `=`, parted by commas.
+//!   `include_me`, `retain`, `ids`, `authids` and `authroles`, the last three with their list behind `=`, parted by
+//!   commas, and behind `not_` where those are excluded.
 //! - `hear JSON`: what a broker's message says.
 //! - `faults`, `link_faults`: each fault as it is printed.
 //! - `link`: links to a broker, says all and hears all, as the lines before it say; tells what is written, what is

@@ -1,10 +1,11 @@
 //! Wishes, as the options that ask for them.
 use crate::json::tree_json;
-use client_messages::{PublishWishes, SubscribeWishes};
+use case_text::number_of;
+use client_messages::{PublishWishes, SessionLists, SubscribeWishes};
 use message_tree::{Options, Text, Tree};
 use std::alloc::Global;
 use std::io;
-use wamp_ids::Policy;
+use wamp_ids::{Id, Policy};
 
 /// The options of a SUBSCRIBE.
 pub fn subscribe(alloc: Global, words: &str) -> io::Result<String> {
@@ -30,12 +31,24 @@ pub fn publish(alloc: Global, words: &str) -> io::Result<String> {
     let mut wishes = PublishWishes::none();
     for word in words.split(' ') {
         match word.split_once('=') {
-            Some(("authids", list)) => wishes.eligible_authid = Some(texts_of(alloc, list)?),
-            Some(("authroles", list)) => wishes.eligible_authrole = Some(texts_of(alloc, list)?),
-            _ => wish(&mut wishes, word),
+            Some((name, list)) => match name.strip_prefix("not_") {
+                Some(name) => name_some(alloc, &mut wishes.exclude, name, list)?,
+                None => name_some(alloc, &mut wishes.eligible, name, list)?,
+            },
+            None => wish(&mut wishes, word),
         }
     }
     told(alloc, wishes.options(alloc)?)
+}
+
+/// Names those of a list by what its name says that they are.
+fn name_some(alloc: Global, lists: &mut SessionLists, name: &str, list: &str) -> io::Result<()> {
+    match name {
+        "ids" => lists.ids = Some(ids_of(alloc, list)?),
+        "authids" => lists.authids = Some(texts_of(alloc, list)?),
+        _ => lists.authroles = Some(texts_of(alloc, list)?),
+    }
+    Ok(())
 }
 
 fn wish(wishes: &mut PublishWishes, word: &str) {
@@ -58,6 +71,17 @@ fn texts_of(alloc: Global, list: &str) -> io::Result<Vec<Text>> {
         texts.push(Text::of(alloc, text)?)?;
     }
     Ok(texts)
+}
+
+/// The same of ids; a number that is none is left out.
+fn ids_of(alloc: Global, list: &str) -> io::Result<Vec<Id>> {
+    let mut ids = Vec::new(alloc);
+    for number in list.split(',') {
+        if let Ok(id) = Id::new(number_of(number)) {
+            ids.push(id)?;
+        }
+    }
+    Ok(ids)
 }
 
 fn told(alloc: Global, options: Options) -> io::Result<String> {

@@ -1,12 +1,14 @@
 //! From a line to its answer.
+use crate::connections::Connections;
 use crate::faults::faults;
+use crate::timings::Told;
 use crate::told::Outcome;
 use crate::values::value;
 use case_devices::{FailsAt, OneByOne};
 use case_text::{Table, is_refused, line_of, number_of, octets_of};
 use client_commands::{
-    Arguments, Contact, Fault, PublishCommand, PublishWishes, Serializer, SubscribeCommand,
-    SubscribeWishes, Timing, publish, subscribe, value_of,
+    Arguments, Contact, Fault, LineForm, Listener, PublishCommand, PublishWishes, Serializer,
+    SubscribeCommand, SubscribeWishes, publish, resubscribe, subscribe, value_of, whole_input,
 };
 use message_tree::{Content, Text, Tree};
 use rawsocket::devices::{MemorySource, Sink, Source, WriteSink};
@@ -16,20 +18,20 @@ use std::io;
 use wamp_ids::Policy;
 
 /// Room for all that a command writes, so that its sinks fail where a call is to fail, and nowhere else.
-const ROOM: usize = 65536;
+pub const ROOM: usize = 65536;
 
 /// Which call of a device fails, from 0.
-#[derive(Clone, Copy)]
-struct Failing {
-    read: u64,
-    write: u64,
+#[derive(Clone, Copy, Drop)]
+pub struct Failing {
+    pub read: u64,
+    pub write: u64,
     input: u64,
     output: u64,
     notes: u64,
 }
 
 /// No call fails.
-const NONE: Failing = Failing {
+pub const NONE: Failing = Failing {
     read: u64::MAX,
     write: u64::MAX,
     input: u64::MAX,
@@ -51,16 +53,6 @@ impl Failing {
     }
 }
 
-/// No time passes.
-#[derive(Drop)]
-struct NoTime;
-
-impl Timing for NoTime {
-    fn rest(&mut self) {}
-
-    fn expects(&mut self, _is_due: bool) {}
-}
-
 /// What the lines of a case have said so far.
 #[derive(Drop)]
 pub struct Case {
@@ -77,9 +69,14 @@ pub struct Case {
     words: Vec<String>,
     kwargs: Option<String>,
     is_lines: bool,
+    is_file: bool,
     input: Vec<u8>,
+    /// What the broker sends over each connection before the last one; nothing where that can't be made.
+    connections: Vec<Option<Vec<u8>>>,
     octets: Vec<u8>,
     is_slow: bool,
+    is_plain: bool,
+    is_timed: bool,
     failing: Failing,
 }
 
@@ -99,9 +96,13 @@ impl Case {
             words: Vec::new(alloc),
             kwargs: None,
             is_lines: false,
+            is_file: false,
             input: Vec::new(alloc),
+            connections: Vec::new(alloc),
             octets: Vec::new(alloc),
             is_slow: false,
+            is_plain: false,
+            is_timed: false,
             failing: NONE,
         }
     }
@@ -185,13 +186,27 @@ impl Case {
             "acknowledge" => self.acknowledge = true,
             "retain" => self.retain = true,
             "lines" => self.is_lines = true,
+            "file" => self.is_file = true,
             "slowly" => self.is_slow = true,
+            "plain" => self.is_plain = true,
+            "timed" => self.is_timed = true,
+            "next" => self.end_connection(alloc)?,
+            "unreachable" => self.connections.push(None)?,
             "faults" => return faults(alloc),
-            "subscribe" => return self.run(alloc, word, self.failing)?.in_words(alloc),
-            "publish" => return self.run(alloc, word, self.failing)?.in_words(alloc),
+            "subscribe" | "publish" | "resubscribe" => {
+                return self.run(alloc, word, self.failing)?.in_words(alloc);
+            }
             _ => return line_of(alloc, "no case has this word"),
         }
         Ok(String::new(alloc))
+    }
+
+    /// What the broker sends from here on goes over the next connection.
+    fn end_connection(&mut self, alloc: Global) -> io::Result<()> {
+        let octets = self.octets.as_slice().to_vec(alloc)?;
+        self.octets.truncate(0);
+        self.connections.push(Some(octets))?;
+        Ok(())
     }
 
     /// Runs a command for each call of a device that fails, the first one first, until none does.
@@ -220,11 +235,37 @@ impl Case {
 
     /// Runs a command where these calls fail.
     fn run(&self, alloc: Global, command: &str, failing: Failing) -> io::Result<Outcome> {
-        if self.is_slow {
-            self.run_slowly(alloc, command, failing)
-        } else {
-            self.run_at_once(alloc, command, failing)
+        match command {
+            "resubscribe" => self.run_again(alloc, failing),
+            _ if self.is_slow => self.run_slowly(alloc, command, failing),
+            _ => self.run_at_once(alloc, command, failing),
         }
+    }
+
+    /// Runs `resubscribe` over one connection after another.
+    fn run_again(&self, alloc: Global, failing: Failing) -> io::Result<Outcome> {
+        let output = WriteSink::new(Vec::with_capacity(alloc, ROOM)?);
+        let notes = WriteSink::new(Vec::with_capacity(alloc, ROOM)?);
+        let mut output = FailsAt::new(output, failing.output);
+        let mut notes = FailsAt::new(notes, failing.notes);
+        let mut connections = Connections::new(alloc, self.is_timed, failing);
+        for octets in &self.connections {
+            match octets {
+                Some(octets) => connections.add(Some(octets.as_slice().to_vec(alloc)?))?,
+                None => connections.add(None)?,
+            }
+        }
+        connections.add(Some(self.octets.as_slice().to_vec(alloc)?))?;
+        let command = self.subscribing(alloc)?;
+        let ran = resubscribe(alloc, &command, &mut connections, &mut output, &mut notes);
+        let (written, told) = connections.into_told()?;
+        Ok(Outcome {
+            written,
+            told,
+            noted: notes.device.writer().as_slice().to_vec(alloc)?,
+            printed: output.device.writer().as_slice().to_vec(alloc)?,
+            end: end_of(alloc, ran)?,
+        })
     }
 
     /// Runs a command over a stream of one octet at a time.
@@ -266,31 +307,51 @@ impl Case {
         let notes = WriteSink::new(Vec::with_capacity(alloc, ROOM)?);
         let mut output = FailsAt::new(output, failing.output);
         let mut notes = FailsAt::new(notes, failing.notes);
-        let mut timing = NoTime;
-        let ran = match command {
+        let mut timing = Told::new(alloc, self.is_timed);
+        let end = match command {
             "subscribe" => {
                 let command = self.subscribing(alloc)?;
-                subscribe(
+                let mut listener = Listener::new(command.count);
+                let ran = subscribe(
                     alloc,
                     &command,
+                    &mut listener,
                     source,
                     sink,
                     &mut output,
                     &mut notes,
                     &mut timing,
-                )
+                );
+                end_of(alloc, ran)?
             }
-            _ => {
-                let command = self.publishing(alloc)?;
-                publish(alloc, &command, source, sink, &mut input, &mut timing)
-            }
+            _ => self.run_publish(alloc, source, sink, &mut input, &mut timing)?,
         };
         Ok(Outcome {
             written: Vec::new(alloc),
+            told: timing.into_line()?,
             noted: notes.device.writer().as_slice().to_vec(alloc)?,
             printed: output.device.writer().as_slice().to_vec(alloc)?,
-            end: end_of(alloc, ran)?,
+            end,
         })
+    }
+
+    /// Publishes, and tells what came last. A file is read whole before.
+    fn run_publish<I: Source, O: Sink, J: Source>(
+        &self,
+        alloc: Global,
+        source: &mut I,
+        sink: &mut O,
+        input: &mut J,
+        timing: &mut Told,
+    ) -> io::Result<String> {
+        let mut command = self.publishing(alloc)?;
+        if self.is_file {
+            command.arguments = match whole_input(alloc, input) {
+                Ok(arguments) => arguments,
+                Err(fault) => return Ok(format!(in alloc; "{fault}")?),
+            };
+        }
+        end_of(alloc, publish(alloc, &command, source, sink, input, timing))
     }
 
     fn contact(&self, alloc: Global) -> io::Result<Contact> {
@@ -317,6 +378,12 @@ impl Case {
             contact: self.contact(alloc)?,
             wishes,
             count: self.count,
+            form: if self.is_plain {
+                LineForm::Plain
+            } else {
+                LineForm::Json
+            },
+            reconnect: true,
             topics: texts(alloc, &self.topics)?,
         })
     }
@@ -326,7 +393,7 @@ impl Case {
         wishes.acknowledge = self.acknowledge;
         wishes.retain = self.retain;
         if !self.roles.is_empty() {
-            wishes.eligible_authrole = Some(texts(alloc, &self.roles)?);
+            wishes.eligible.authroles = Some(texts(alloc, &self.roles)?);
         }
         let topic = match self.topics.first() {
             Some(topic) => Text::of(alloc, topic.as_str())?,

@@ -31,5 +31,6 @@ pub fn faults(alloc: Global) -> io::Result<String> {
     add(alloc, &mut text, Fault::ForeignEvent)?;
     let closing = Text::of(alloc, "wamp.close.system_shutdown")?;
     add(alloc, &mut text, Fault::Closed(closing))?;
+    add(alloc, &mut text, Fault::Unreachable)?;
     Ok(text)
 }

@@ -3,10 +3,12 @@ use case_text::spelled;
 use std::alloc::Global;
 use std::io;
 
-/// What was written to the broker, what was noted, what was printed, and what came last.
+/// What was written to the broker, what was told of the time, what was noted, what was printed, and what came last.
 #[derive(Drop)]
 pub struct Outcome {
     pub written: Vec<u8>,
+    /// Whole lines of the time that it took.
+    pub told: String,
     pub noted: Vec<u8>,
     pub printed: Vec<u8>,
     pub end: String,
@@ -18,6 +20,7 @@ impl Outcome {
         let written = spelled(alloc, self.written.as_slice())?;
         let end = self.end.as_str();
         let mut text = format!(in alloc; "wrote {written}\n")?;
+        text.push_str(self.told.as_str())?;
         if !self.noted.is_empty() {
             let noted = spelled(alloc, self.noted.as_slice())?;
             text.push_str(format!(in alloc; "noted {noted}\n")?.as_str())?;

@@ -1,12 +1,12 @@
 //! What the command lines of the clients ask for.
 use client_commands::{
-    Arguments, Contact, PublishCommand, PublishWishes, Serializer, SubscribeCommand,
+    Arguments, Contact, LineForm, PublishCommand, PublishWishes, Serializer, SubscribeCommand,
     SubscribeWishes,
 };
 use message_tree::{Content, Message, Text};
 use std::alloc::{AllocError, Global};
 use std::io;
-use wamp_ids::Policy;
+use wamp_ids::{Id, Policy};
 
 /// What `subscribe` is told.
 pub fn subscribe_line(alloc: Global, command: &SubscribeCommand) -> io::Result<String> {
@@ -14,6 +14,12 @@ pub fn subscribe_line(alloc: Global, command: &SubscribeCommand) -> io::Result<S
     put_wishes(&mut line, command.wishes)?;
     if let Some(count) = command.count {
         line.push_str(format!(in alloc; " count {count}")?.as_str())?;
+    }
+    if command.form == LineForm::Plain {
+        line.push_str(" plain")?;
+    }
+    if command.reconnect {
+        line.push_str(" reconnect")?;
     }
     put_session(&mut line, &command.contact)?;
     for topic in &command.topics {
@@ -26,7 +32,7 @@ pub fn subscribe_line(alloc: Global, command: &SubscribeCommand) -> io::Result<S
 /// What `publish` is told.
 pub fn publish_line(alloc: Global, command: &PublishCommand) -> io::Result<String> {
     let mut line = contact_line(alloc, "publish", &command.contact)?;
-    put_publish_wishes(&mut line, &command.wishes)?;
+    put_publish_wishes(alloc, &mut line, &command.wishes)?;
     put_session(&mut line, &command.contact)?;
     put_word(&mut line, &command.topic)?;
     match &command.arguments {
@@ -79,7 +85,11 @@ fn put_wishes(line: &mut String, wishes: SubscribeWishes) -> Result<(), AllocErr
 }
 
 /// What a PUBLISH wishes.
-fn put_publish_wishes(line: &mut String, wishes: &PublishWishes) -> Result<(), AllocError> {
+fn put_publish_wishes(
+    alloc: Global,
+    line: &mut String,
+    wishes: &PublishWishes,
+) -> Result<(), AllocError> {
     if wishes.acknowledge {
         line.push_str(" acknowledge")?;
     }
@@ -92,8 +102,28 @@ fn put_publish_wishes(line: &mut String, wishes: &PublishWishes) -> Result<(), A
     if !wishes.exclude_me {
         line.push_str(" with-me")?;
     }
-    put_texts(line, " to", &wishes.eligible_authid)?;
-    put_texts(line, " for", &wishes.eligible_authrole)
+    put_ids(alloc, line, " only", &wishes.eligible.ids)?;
+    put_texts(line, " to", &wishes.eligible.authids)?;
+    put_texts(line, " for", &wishes.eligible.authroles)?;
+    put_ids(alloc, line, " without", &wishes.exclude.ids)?;
+    put_texts(line, " not-to", &wishes.exclude.authids)?;
+    put_texts(line, " not-for", &wishes.exclude.authroles)
+}
+
+/// Each of these ids, if there are any, behind a word.
+fn put_ids(
+    alloc: Global,
+    line: &mut String,
+    word: &str,
+    ids: &Option<Vec<Id>>,
+) -> Result<(), AllocError> {
+    if let Some(ids) = ids {
+        for id in ids {
+            let number = id.value();
+            line.push_str(format!(in alloc; "{word} {number}")?.as_str())?;
+        }
+    }
+    Ok(())
 }
 
 /// Each of these texts, if there are any, behind a word.

@@ -40,6 +40,11 @@ pub fn command(alloc: Global, text: &str) -> io::Result<String> {
         }
         Ok(Command::Subscribe(command)) => subscribe_line(alloc, &command),
         Ok(Command::Publish(command)) => publish_line(alloc, &command),
+        Ok(Command::PublishFile { path, command }) => {
+            let path = path.as_str();
+            let line = publish_line(alloc, &command)?;
+            Ok(format!(in alloc; "file {path} {line}")?)
+        }
         Err(fault) => Ok(format!(in alloc; "fault {fault}\n")?),
     }
 }
@@ -104,7 +109,7 @@ fn config_line(start: String, config: &Config) -> io::Result<String> {
     Ok(line)
 }
 
-const FAULTS: [Fault; 11] = [
+const FAULTS: [Fault; 12] = [
     Fault::NoMemory,
     Fault::ReadFault,
     Fault::WriteFault,
@@ -116,6 +121,7 @@ const FAULTS: [Fault; 11] = [
     Fault::Refused,
     Fault::ConnectionFault,
     Fault::LateAnswer,
+    Fault::FileFault,
 ];
 
 /// What is reported of each fault, and the exit status.

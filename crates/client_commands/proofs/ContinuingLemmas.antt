@@ -1,5 +1,6 @@
 -- What is read and written while something is heard.
 use Rattle.std.proofs.Common.{◌≡◌, ◌++◌, ◌∙◌, ℕ, List, [], take, Result, Ok, Err, ap, inl, inr, sym, append_assoc, append-nil}
+use Rattle.std.specs.declared.option.Option.{Option}
 use Rattle.rawsocket.specs.Devices.{GrowsByBeginning}
 use Rattle.session.specs.Opened.{Exchange, exchange}
 use Rattle.client_messages.specs.declared.heard.Heard.{Heard}
@@ -10,6 +11,8 @@ use Rattle.client_session.specs.declared.welcomed.Unheard.{Unheard}
 use Rattle.client_session.specs.declared.welcomed.Unheard.TheVariants as unheard
 use Rattle.client_commands.specs.Acts.{Continues, Prints, PrintsPartly, exchange_of}
 use Rattle.client_commands.specs.Notes.{Noting}
+use Rattle.client_commands.specs.declared.command.LineForm.{LineForm}
+use Rattle.client_commands.specs.declared.listener.Listener.{Listener}
 
 -- nothing more
 pub continues-still : (a : Exchange) → Continues a a
@@ -64,20 +67,21 @@ continues-in-session t a b given given_now (Err (unheard.Failed fault)) w = elim
 ]
 
 -- what was printed stays so, whatever is read and written then
-partly-later : (topics : List (List ℕ)) (t : Terms) (heards : List Heard) (now : Ear) (last later : Exchange) (before lines : List ℕ) → Continues last later
-    → PrintsPartly topics t heards now last before lines → PrintsPartly topics t heards now later before lines
-partly-later topics t heards now last later before lines more p = record { next = p.next; after = p.after; hears = p.hears; since = continues-then p.since more; begun = p.begun }
+partly-later : (form : LineForm) (topics : List (List ℕ)) (t : Terms) (heards : List Heard) (now : Ear) (last later : Exchange) (before lines : List ℕ) → Continues last later
+    → PrintsPartly form topics t heards now last before lines → PrintsPartly form topics t heards now later before lines
+partly-later form topics t heards now last later before lines more p = record { next = p.next; after = p.after; hears = p.hears; since = continues-then p.since more; begun = p.begun }
 
-pub prints-later : (topics : List (List ℕ)) (t : Terms) (before : Ear) (last later : Exchange) (lines_before lines : List ℕ) (notes_before notes : Noting) → Continues last later
-    → Prints topics t before last lines_before lines notes_before notes → Prints topics t before later lines_before lines notes_before notes
-prints-later topics t before last later lines_before lines notes_before notes more p = record {
+pub prints-later : (form : LineForm) (topics : List (List ℕ)) (t : Terms) (before : Ear) (last later : Exchange) (lines_before lines : List ℕ) (notes_before notes : Noting) (left : Option ℕ) (listener : Listener) → Continues last later
+    → Prints form topics t before last lines_before lines notes_before notes left listener → Prints form topics t before later lines_before lines notes_before notes left listener
+prints-later form topics t before last later lines_before lines notes_before notes left listener more p = record {
   heards = p.heards;
   now = p.now;
   listens = p.listens;
   since = continues-then p.since more;
   lines_are = elim p.lines_are [
     | inl all ↦ inl all
-    | inr part ↦ inr (partly-later topics t p.heards p.now last later _ lines more part)
+    | inr part ↦ inr (partly-later form topics t p.heards p.now last later _ lines more part)
   ];
   noted_are = p.noted_are;
+  so_far = p.so_far;
 }

@@ -1,7 +1,7 @@
 -- What faults tell of devices.
 use Rattle.std.proofs.Common.{◌≡◌, refl, sym, ap, subst, ℕ, Bool, true, List, Result, Ok, Err}
 use Rattle.std.specs.Prelude.{IfErr}
-use Rattle.rawsocket.specs.Steps.{Fine, Meter, Told, WholeSteps, told_by}
+use Rattle.rawsocket.specs.Steps.{Fine, Meter, Told, WholeSteps, failures_told, told_by}
 use Rattle.client_messages.specs.declared.client_message.ClientMessage.{ClientMessage}
 use Rattle.client_messages.specs.declared.heard.Heard.{Heard}
 use Rattle.client_messages.specs.declared.heard.Heard.TheVariants as heard
@@ -16,7 +16,8 @@ use Rattle.client_session.specs.declared.welcomed.NoSession.TheVariants as no_se
 use Rattle.client_session.specs.declared.welcomed.Unheard.{Unheard}
 use Rattle.client_session.specs.declared.welcomed.Unheard.TheVariants as unheard
 use Rattle.client_commands.specs.declared.fault.Fault.{Fault}
-use Rattle.client_commands.specs.Faults.{IsNoEnd, IsOfBroker, IsOfHere, IsOfLink, IsOfNoContents, TellsEnd, input_told, of_hearing, of_link, of_message, of_opening, output_told, sink_told, source_told}
+use Rattle.client_commands.specs.declared.fault.Fault.TheVariants as command
+use Rattle.client_commands.specs.Faults.{IsNoEnd, IsOfBroker, IsOfHere, IsOfLink, IsOfNoContents, TellsEnd, input_told, is_passing, of_hearing, of_link, of_message, of_opening, output_told, sink_told, source_told}
 
 -- a fault of the link tells of it what it tells as a fault of a command
 pub of_link-read : (f : link_faults.Fault) → source_told (of_link f) ≡ read_told f
@@ -138,3 +139,8 @@ aside-input (Err fault) is = is.input
 pub aside-output : {X : Type 0} (r : Result X Fault) → IfErr r IsOfBroker → told_by output_told r ≡ Fine
 aside-output (Ok x) is = refl
 aside-output (Err fault) is = is.output
+
+-- what a new connection may better is no failure of the standard output
+pub passing-fine : (f : Fault) → is_passing f ≡ true → failures_told (output_told f) ≡ 0
+passing-fine command.WriteFault is = absurd (cc)
+passing-fine _ is = refl

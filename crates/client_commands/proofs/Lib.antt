@@ -1,5 +1,6 @@
 pub mod CauseLemmas
 pub mod ContinuingLemmas
+pub mod ControlsLemmas
 pub mod EndsLemmas
 pub mod EntriesLemmas
 pub mod FaultLemmas

@@ -17,8 +17,10 @@ use Rattle.client_session.specs.Sessions.{HearsLast, Welcomed, is_answer}
 use Rattle.client_commands.specs.EventLine.{event_line}
 use Rattle.client_commands.specs.Faults.{is_of_message, of_message}
 use Rattle.client_commands.specs.Notes.{IsNoted, Noting, note_of}
+use Rattle.client_commands.specs.declared.command.LineForm.{LineForm}
 use Rattle.client_commands.specs.declared.fault.Fault.{Fault}
 use Rattle.client_commands.specs.declared.fault.Fault.TheVariants.{Refused, Unexpected}
+use Rattle.client_commands.specs.declared.listener.Listener.{Listener}
 use Rattle.client_commands.specs.declared.subscriptions.Granted.{Granted}
 
 -- the terms of a session
@@ -145,13 +147,13 @@ topic_told topics granted n (Some topic) = topic
 topic_told topics granted n None = topic_at topics (request_of n granted)
 
 -- what is printed of what is heard: a line for an event, and nothing else
-abbrev pub line_for : List (List ℕ) → List Granted → Heard → List ℕ
-line_for topics granted (Event n publication details args) = event_line (topic_told topics granted n details.topic) publication details args
-line_for topics granted _ = []
+abbrev pub line_for : LineForm → List (List ℕ) → List Granted → Heard → List ℕ
+line_for form topics granted (Event n publication details args) = event_line form (topic_told topics granted n details.topic) publication details args
+line_for form topics granted _ = []
 
-abbrev pub printed : List (List ℕ) → List Heard → List ℕ
-printed topics [] = []
-printed topics (heard ∷ heards) = printed topics heards ++ line_for topics (granted heards) heard
+abbrev pub printed : LineForm → List (List ℕ) → List Heard → List ℕ
+printed form topics [] = []
+printed form topics (heard ∷ heards) = printed form topics heards ++ line_for form topics (granted heards) heard
 
 -- what is noted of what is heard: the topic whose subscription is given, and nothing else
 abbrev pub note_for : List (List ℕ) → Heard → List ℕ
@@ -170,33 +172,50 @@ abbrev pub events : List Heard → ℕ
 events [] = 0
 events (heard ∷ heards) = if is_event heard then events heards + 1 else events heards
 
+-- so many events fewer are left to be printed, where that is limited
+abbrev pub IsCountedOff : Option ℕ → Option ℕ → ℕ → Type 0
+IsCountedOff None None n = ⊤
+IsCountedOff (Some before) (Some now) n = before ≡ now + n
+IsCountedOff _ _ n = ⊥
+
+-- so many were given as there are topics
+abbrev pub is_subscribed : List (List ℕ) → List Granted → Bool
+is_subscribed topics granted = length granted == length topics
+
+-- how far a subscriber is that heard these
+pub record HasHeard (topics : List (List ℕ)) (heards : List Heard) (left : Option ℕ) (now : Listener) : Type 0 where
+  pub counted : IsCountedOff left now.left (events heards)
+  pub subscribed : now.is_subscribed ≡ is_subscribed topics (granted heards)
+
 -- how `subscribe` hears, prints and notes until its count is reached
-pub record Follows (topics : List (List ℕ)) (count : Option ℕ) (t : Terms) (before now : Ear) (lines_before lines : List ℕ) (notes_before notes : Noting) : Type 0 where
+pub record Follows (form : LineForm) (topics : List (List ℕ)) (count : Option ℕ) (t : Terms) (before now : Ear) (lines_before lines : List ℕ) (notes_before notes : Noting) : Type 0 where
   pub heards : List Heard
   pub harmless : MayCome heards
   pub listens : Listens t before now heards
-  pub lines_are : lines ≡ lines_before ++ printed topics heards
+  pub lines_are : lines ≡ lines_before ++ printed form topics heards
   pub noted_are : IsNoted (noted topics heards) notes_before notes
   pub counted : count ≡ Some (events heards)
 
 -- of the line of what is heard next a beginning is printed
-pub record PrintsPartly (topics : List (List ℕ)) (t : Terms) (heards : List Heard) (now : Ear) (last : Exchange) (lines_before lines : List ℕ) : Type 0 where
+pub record PrintsPartly (form : LineForm) (topics : List (List ℕ)) (t : Terms) (heards : List Heard) (now : Ear) (last : Exchange) (lines_before lines : List ℕ) : Type 0 where
   pub next : Heard
   pub after : Ear
   pub hears : HearsNext t now after (Ok next)
   pub since : Continues (exchange_of after) last
-  pub begun : GrowsByBeginning lines_before lines (line_for topics (granted heards) next)
+  pub begun : GrowsByBeginning lines_before lines (line_for form topics (granted heards) next)
 
 -- what is printed are the lines of what was heard, the last line perhaps in part, and what is noted are the notes of it; it is heard
 -- of the first octets that the last exchange has behind those read before
-pub record Prints (topics : List (List ℕ)) (t : Terms) (before : Ear) (last : Exchange) (lines_before lines : List ℕ) (notes_before notes : Noting) : Type 0 where
+pub record Prints (form : LineForm) (topics : List (List ℕ)) (t : Terms) (before : Ear) (last : Exchange) (lines_before lines : List ℕ) (notes_before notes : Noting)
+    (left : Option ℕ) (listener : Listener) : Type 0 where
   pub heards : List Heard
   pub now : Ear
   pub listens : Listens t before now heards
   pub since : Continues (exchange_of now) last
   pub lines_are :
-      (lines ≡ lines_before ++ printed topics heards) ⊎ PrintsPartly topics t heards now last (lines_before ++ printed topics heards) lines
+      (lines ≡ lines_before ++ printed form topics heards) ⊎ PrintsPartly form topics t heards now last (lines_before ++ printed form topics heards) lines
   pub noted_are : IsNoted (noted topics heards) notes_before notes
+  pub so_far : HasHeard topics heards left listener
 
 -- a session was joined, and the topics asked for
 pub record Asks (s : Serializer) (realm : List ℕ) (authid : Option (List ℕ)) (wishes : SubscribeWishes) (topics : List (List ℕ)) (before : Exchange) (asking : Ear) (t : Terms) : Type 0 where
@@ -207,23 +226,31 @@ pub record Asks (s : Serializer) (realm : List ℕ) (authid : Option (List ℕ))
   pub asks : asking ≡ writing (standing session joined.given joined.taken) (asked s wishes topics (length topics))
 
 -- what `subscribe` did that ended by its count
-pub record Subscribes (s : Serializer) (realm : List ℕ) (authid : Option (List ℕ)) (wishes : SubscribeWishes) (topics : List (List ℕ)) (count : Option ℕ) (before now : Exchange) (lines_before lines : List ℕ) (notes_before notes : Noting) : Type 0 where
+pub record Subscribes (s : Serializer) (realm : List ℕ) (authid : Option (List ℕ)) (wishes : SubscribeWishes) (form : LineForm) (topics : List (List ℕ)) (count : Option ℕ) (before now : Exchange) (lines_before lines : List ℕ) (notes_before notes : Noting) : Type 0 where
   pub t : Terms
   pub asking : Ear
   pub asks : Asks s realm authid wishes topics before asking t
   pub heard : Ear
-  pub follows : Follows topics count t asking heard lines_before lines notes_before notes
+  pub follows : Follows form topics count t asking heard lines_before lines notes_before notes
   pub left : Ear
   pub leaves : Leaves t heard left
   pub given : now.given ≡ left.given
   pub taken : now.taken ≡ left.taken
 
 -- what `subscribe` printed and noted that failed after it had asked, by what was read and written until then
-pub record PrintsAfterAsking (s : Serializer) (realm : List ℕ) (authid : Option (List ℕ)) (wishes : SubscribeWishes) (topics : List (List ℕ)) (before last : Exchange) (lines_before lines : List ℕ) (notes_before notes : Noting) : Type 0 where
+pub record PrintsAfterAsking (s : Serializer) (realm : List ℕ) (authid : Option (List ℕ)) (wishes : SubscribeWishes) (form : LineForm) (topics : List (List ℕ)) (before last : Exchange) (lines_before lines : List ℕ)
+    (notes_before notes : Noting) (left : Option ℕ) (listener : Listener) : Type 0 where
   pub t : Terms
   pub asking : Ear
   pub asks : Asks s realm authid wishes topics before asking t
-  pub prints : Prints topics t asking last lines_before lines notes_before notes
+  pub prints : Prints form topics t asking last lines_before lines notes_before notes left listener
+
+-- nothing was printed, noted and counted, and no subscription given
+pub record IsSilent (lines_before lines : List ℕ) (notes_before notes : Noting) (left : Option ℕ) (listener : Listener) : Type 0 where
+  pub unprinted : lines ≡ lines_before
+  pub unnoted : notes ≡ notes_before
+  pub uncounted : listener.left ≡ left
+  pub unsubscribed : listener.is_subscribed ≡ false
 
 -- the message by which `subscribe` ends that had asked
 pub record EndsAfterAsking (s : Serializer) (realm : List ℕ) (authid : Option (List ℕ)) (wishes : SubscribeWishes) (topics : List (List ℕ)) (before last : Exchange) (fault : Fault) : Type 0 where

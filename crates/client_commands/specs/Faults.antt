@@ -1,5 +1,5 @@
 -- What the faults of a command tell of each device.
-use Rattle.std.specs.Prelude.{◌≡◌, ◌+◌, ◌||◌, ⊤, Bool, true, false}
+use Rattle.std.specs.Prelude.{◌≡◌, ◌==◌, ◌+◌, ◌||◌, ⊤, Bool, true, false}
 use Rattle.rawsocket.specs.Devices.{Reading, Writing}
 use Rattle.rawsocket.specs.Steps.{Told, Fine, Failed, NoTurn, failures_told}
 use Rattle.client_session.specs.Faults.{read_told, write_told}
@@ -12,7 +12,7 @@ use Rattle.client_session.specs.declared.welcomed.Unheard.TheVariants as unheard
 use Rattle.client_messages.specs.declared.heard.Heard.{Heard}
 use Rattle.client_messages.specs.declared.heard.Heard.TheVariants.{Abort, Goodbye, Error}
 use Rattle.client_commands.specs.declared.fault.Fault.{Fault}
-use Rattle.client_commands.specs.declared.fault.Fault.TheVariants.{NoMemory, ReadFault, WriteFault, Usage, BadLine, TooManyTurns, Refused, Connection, Unexpected, ForeignEvent, Closed}
+use Rattle.client_commands.specs.declared.fault.Fault.TheVariants.{NoMemory, ReadFault, WriteFault, Usage, BadLine, TooManyTurns, Refused, Connection, Unexpected, ForeignEvent, Closed, Unreachable}
 
 -- a fault of the link to the broker
 abbrev pub of_link : link_faults.Fault → Fault
@@ -78,6 +78,21 @@ IsNoEnd fault = is_end fault ≡ false
 -- where it tells it, the stream told its end
 abbrev pub TellsEnd : Bool → Fault → Type 0
 TellsEnd ended fault = is_end fault ≡ true → ended ≡ true
+
+-- a link broke, or the broker had no seat left: another connection may do better
+abbrev pub is_lost : link_faults.Fault → Bool
+is_lost link.Ended = true
+is_lost link.ReadFault = true
+is_lost link.WriteFault = true
+is_lost (link.Refused code) = code == 4
+is_lost _ = false
+
+-- the same of a command: there was no connection, it broke, or the broker closed the session
+abbrev pub is_passing : Fault → Bool
+is_passing Unreachable = true
+is_passing (Connection fault) = is_lost fault
+is_passing (Closed reason) = true
+is_passing _ = false
 
 -- what a fault tells of what is read from the broker
 abbrev pub source_told : Fault → Told

@@ -1,4 +1,5 @@
 pub mod Values
+pub mod Controls
 pub mod EventLine
 pub mod Faults
 pub mod Notes
@@ -7,3 +8,5 @@ pub mod Lines
 pub mod Pacing
 pub mod Published
 pub mod Ends
+pub mod WholeInput
+pub mod Reconnecting

@@ -21,6 +21,15 @@ pub struct Contact {
     pub timeout: u32,
 }
 
+/// How an event is printed.
+#[derive(Clone, Copy, Debug, Drop, PartialEq, Eq)]
+pub enum LineForm {
+    /// All that is told of it, in JSON.
+    Json,
+    /// Its topic and its arguments, for people.
+    Plain,
+}
+
 /// What `subscribe` is told.
 #[derive(Drop)]
 pub struct SubscribeCommand {
@@ -30,6 +39,10 @@ pub struct SubscribeCommand {
     pub wishes: SubscribeWishes,
     /// After how many events it ends; without one it goes on until something else ends it.
     pub count: Option<u64>,
+    /// How each event is printed.
+    pub form: LineForm,
+    /// Whether it connects again where a connection is lost.
+    pub reconnect: bool,
     /// The topics. The SUBSCRIBE of each has its place as its request's id, from 1.
     pub topics: Vec<Text>,
 }

@@ -1,8 +1,14 @@
 //! Why a command ends before its time.
+ghost use Rattle.std.specs.Prelude.{◌≡◌};
+ghost use Rattle.client_commands.specs.Faults.{is_lost, is_passing};
+
 use client_session::{NoSession, Unheard};
 use message_tree::Text;
 use std::alloc::{AllocError, AllocFailed};
 use thiserror::Error;
+
+/// The code by which a broker refuses a handshake that has as many connections as it takes.
+const NO_SEAT: u8 = 4;
 
 /// Why a command of this crate fails.
 #[derive(Debug, Drop, Error)]
@@ -41,6 +47,36 @@ pub enum Fault {
     /// The broker closed the session, for this reason, a URI.
     #[error("E29 the broker closed the session: {}", .0.as_str())]
     Closed(Text),
+    /// No connection to the broker could be made.
+    #[error("E27 the broker can't be reached")]
+    Unreachable,
+}
+
+impl Fault {
+    /// Whether another connection may do better: there was none, it broke, the broker closed the session or had no seat left.
+    pub fn is_passing(&self) -> bool
+        ensures { result ≡ is_passing self.now }
+    {
+        match self {
+            Fault::Unreachable => true,
+            Fault::Connection(fault) => is_lost(*fault),
+            Fault::Closed(_) => true,
+            _ => false,
+        }
+    }
+}
+
+/// Whether a link broke, or the broker had no seat left.
+fn is_lost(fault: client_session::Fault) -> bool
+    ensures { result ≡ is_lost fault }
+{
+    match fault {
+        client_session::Fault::Ended => true,
+        client_session::Fault::ReadFault => true,
+        client_session::Fault::WriteFault => true,
+        client_session::Fault::Refused(code) => code == NO_SEAT,
+        _ => false,
+    }
 }
 
 impl From<AllocError> for Fault {

@@ -7,27 +7,34 @@
 #![tactic(auto)]
 
 mod command;
+mod controls;
 mod event_lines;
 mod fault;
+mod file_input;
 mod hearing;
 mod joining;
 mod leaving;
 mod line_input;
+mod listener;
 mod message_args;
 mod noting;
 mod pacing;
 mod publishing;
+mod reconnecting;
 mod subscribing;
 mod subscriptions;
 mod timing;
 mod value;
 
-pub use client_messages::{PublishWishes, SubscribeWishes};
+pub use client_messages::{PublishWishes, SessionLists, SubscribeWishes};
 pub use client_session::{Fault as LinkFault, Serializer};
-pub use command::{Arguments, Contact, PublishCommand, SubscribeCommand};
+pub use command::{Arguments, Contact, LineForm, PublishCommand, SubscribeCommand};
 pub use event_lines::event_line;
 pub use fault::Fault;
+pub use file_input::{InputFault, whole_input};
+pub use listener::Listener;
 pub use publishing::publish;
+pub use reconnecting::{Dialer, resubscribe, subscribe_once};
 pub use subscribing::subscribe;
 pub use timing::Timing;
 pub use value::value_of;

@@ -107,6 +107,7 @@ pub(crate) fn hear_answers<I: Source, O: Sink, T: Timing>(
     if !command.wishes.acknowledge || progress.count <= progress.answered + most {
         return Ok(());
     }
+    timing.awaits();
     'answers: while progress.answered < progress.count {
         let request = progress.answered + 1;
         if let Err(fault) = hear_answer(alloc, session, source, sink, request) {

@@ -1,21 +1,22 @@
 //! `subscribe`.
-ghost use Rattle.std.specs.Prelude.{◌≡◌, ◌++◌, ◌⊎◌, IfOk, IfErr, OnErr, OnOk, length, true};
+ghost use Rattle.std.specs.Prelude.{◌≡◌, ◌++◌, ◌⊎◌, IfOk, IfErr, OnErr, OnOk, Some, length, true};
 ghost use Rattle.rawsocket.specs.Devices.{Takes, TakesBeginning};
 ghost use Rattle.rawsocket.specs.Steps.{Fine, Steps, WriteSteps, told_by, write_meter};
 ghost use Rattle.session.specs.Opened.{exchanged};
 ghost use Rattle.client_messages.specs.declared.client_message.ClientMessage.TheVariants.{Subscribe as SubscribeSaid};
 ghost use Rattle.client_messages.specs.Wishes.{subscribe_options};
 ghost use Rattle.client_messages.specs.declared.heard.Heard.TheVariants.{Subscribed as SubscribedHeard};
-ghost use Rattle.client_commands.specs.Acts.{EndsAfterAsking, Follows, IsCaused, IsTurnedAway, Prints, PrintsAfterAsking, Subscribes, asked, granted_with, is_event, line_for, may_come, note_for, standing_of, terms_of};
+ghost use Rattle.client_commands.specs.Acts.{EndsAfterAsking, Follows, IsCaused, IsSilent, IsTurnedAway, Prints, PrintsAfterAsking, Subscribes, asked, granted_with, is_event, line_for, may_come, note_for, standing_of, terms_of};
 ghost use Rattle.client_commands.specs.Notes.{IsNoted, noting};
 ghost use Rattle.client_commands.specs.Faults.{IsNoEnd, IsOfBroker, IsOfHere, IsOfMessage, IsOfNoMessage, ReadFailuresTold, TellsEnd, WriteFailuresTold, is_of_message, output_told, sink_told, source_told};
 
-use crate::command::SubscribeCommand;
+use crate::command::{LineForm, SubscribeCommand};
 use crate::event_lines::event_line;
 use crate::fault::Fault;
 use crate::hearing::{fault_of, hear, say};
 use crate::joining::join;
 use crate::leaving::{answer_goodbye, leave};
+use crate::listener::Listener;
 use crate::noting::{note_of, tell};
 use crate::subscriptions::{Granted, grant, topic_told};
 use crate::timing::Timing;
@@ -139,6 +140,7 @@ fn take_grant<N: Sink>(
 /// ERROR and a GOODBYE; [`Fault::ForeignEvent`], [`Fault::NoMemory`].
 fn take<P: Sink, N: Sink>(
     alloc: Global,
+    form: LineForm,
     topics: &Vec<Text>,
     granted: &mut Vec<Granted>,
     heard: Heard,
@@ -153,11 +155,11 @@ fn take<P: Sink, N: Sink>(
     ensures silent { OnErr result (noting (N.seen notes.new) ≡
         noting (N.seen notes.old)) }
     ensures printed { OnOk result (Takes (P.seen output.old) (P.seen output.new)
-        (line_for topics.now.items granted.old.items heard)) }
+        (line_for form topics.now.items granted.old.items heard)) }
     ensures event { IfOk result (λ told. told ≡ is_event heard) }
     ensures harmless { OnOk result (may_come heard ≡ true) }
     ensures begun { TakesBeginning (P.seen output.old) (P.seen output.new)
-        (line_for topics.now.items granted.old.items heard) }
+        (line_for form topics.now.items granted.old.items heard) }
     ensures blamed { IfErr result (IsOfMessage heard) }
     ensures untold { IfErr result IsOfHere }
     ensures writes { Steps (write_meter (P.seen output.old) turns.old)
@@ -180,7 +182,8 @@ fn take<P: Sink, N: Sink>(
             let Some(topic) = topic_told(topics, granted, subscription, &details.topic) else {
                 return Err(Fault::ForeignEvent);
             };
-            let Ok(line) = event_line(alloc, topic.as_str(), publication, &details, &args) else {
+            let Ok(line) = event_line(alloc, form, topic.as_str(), publication, &details, &args)
+            else {
                 return Err(Fault::NoMemory);
             };
             match print(output, &line, turns) {
@@ -192,32 +195,35 @@ fn take<P: Sink, N: Sink>(
     }
 }
 
-/// Hears and prints, until so many events are printed.
+/// Hears and prints, until no event is left to be printed.
 ///
 /// # Errors
 /// As [`hear`] and [`take`] fail.
-fn follow<I: Source, O: Sink, P: Sink, N: Sink>(
+fn follow<I: Source, O: Sink, P: Sink, N: Sink, T: Timing>(
     alloc: Global,
     command: &SubscribeCommand,
+    listener: &mut Listener,
     session: &mut ClientSession,
     source: &mut I,
     sink: &mut O,
     output: &mut P,
     notes: &mut N,
+    timing: &mut T,
 ) -> Result<(), Fault>
-    ensures follows { OnOk result (Follows command.now.topics.items command.now.count
-        (terms_of session.old)
+    ensures follows { OnOk result (Follows command.now.form command.now.topics.items
+        listener.old.left (terms_of session.old)
         (standing_of session.old (I.seen source.old) (O.seen sink.old))
         (standing_of session.new (I.seen source.new) (O.seen sink.new))
         (P.seen output.old).taken (P.seen output.new).taken
         (noting (N.seen notes.old))
         (noting (N.seen notes.new))) }
+    ensures done { OnOk result (listener.new.left ≡ Some 0) }
     ensures terms { terms_of session.new ≡ terms_of session.old }
-    ensures prints { Prints command.now.topics.items (terms_of session.old)
+    ensures prints { Prints command.now.form command.now.topics.items (terms_of session.old)
         (standing_of session.old (I.seen source.old) (O.seen sink.old))
         (exchanged (I.seen source.new) (O.seen sink.new)) (P.seen output.old).taken
         (P.seen output.new).taken (noting (N.seen notes.old))
-        (noting (N.seen notes.new)) }
+        (noting (N.seen notes.new)) listener.old.left listener.new }
     ensures cause { IfErr result (IsCaused (terms_of session.old)
         (standing_of session.old (I.seen source.old) (O.seen sink.old))
         (exchanged (I.seen source.new) (O.seen sink.new))) }
@@ -231,9 +237,9 @@ fn follow<I: Source, O: Sink, P: Sink, N: Sink>(
 {
     let mut granted = Vec::new(alloc);
     let mut turns = Turns::new();
-    let mut printed = 0u64;
-    'messages: for turn in 0..u64::MAX {
-        if is_reached(command.count, printed) {
+    'messages: for _ in 0..u64::MAX {
+        listener.settle(&command.topics, &granted, timing);
+        if listener.is_done() {
             return Ok(());
         }
         let heard = match hear(alloc, session, source, sink) {
@@ -242,6 +248,7 @@ fn follow<I: Source, O: Sink, P: Sink, N: Sink>(
         };
         let event = match take(
             alloc,
+            command.form,
             &command.topics,
             &mut granted,
             heard,
@@ -252,30 +259,22 @@ fn follow<I: Source, O: Sink, P: Sink, N: Sink>(
             Ok(event) => event,
             Err(fault) => return Err(fault),
         };
-        if event {
-            printed += 1;
-        }
+        listener.count_off(event);
     }
+    listener.settle(&command.topics, &granted, timing);
     Err(Fault::Connection(client_session::Fault::TooManyReads))
 }
 
-/// Whether so many events are all that are wanted.
-fn is_reached(count: Option<u64>, printed: u64) -> bool
-    ensures { result ≡ true → count ≡ Some printed }
-{
-    match count {
-        None => false,
-        Some(count) => count == printed,
-    }
-}
-
 /// Joins the realm, subscribes to the topics, and prints a line for each event as it comes, as [`crate::event_line`] spells it, until
-/// so many events as the count says are printed; then it leaves. Without a count it goes on until something else ends it.
+/// no event is left to be printed; then it leaves. Where that isn't limited it goes on until something else ends it.
 ///
 /// All SUBSCRIBEs are said before the first answer is heard, and events may come before the last one is answered. The topic of a line is the
 /// one that the event names, else the one that was subscribed to.
 ///
-/// It tells `timing` that what comes while it listens may take for ever, and that the answer to its GOODBYE is due.
+/// It tells `timing` that the answers to its SUBSCRIBEs are due, that what comes behind them may take for ever, and that the answer
+/// to its GOODBYE is due.
+///
+/// `listener` says how many events are to be printed, and is told how far it came, also where it fails.
 ///
 /// To `notes` it tells each topic as the broker gives its subscription: `subscribed to TOPIC`. Where a note fails that is passed over.
 ///
@@ -287,6 +286,7 @@ fn is_reached(count: Option<u64>, printed: u64) -> bool
 pub fn subscribe<I: Source, O: Sink, P: Sink, N: Sink, T: Timing>(
     alloc: Global,
     command: &SubscribeCommand,
+    listener: &mut Listener,
     source: &mut I,
     sink: &mut O,
     output: &mut P,
@@ -294,18 +294,21 @@ pub fn subscribe<I: Source, O: Sink, P: Sink, N: Sink, T: Timing>(
     timing: &mut T,
 ) -> Result<(), Fault>
     ensures subscribes { OnOk result (Subscribes command.now.contact.serializer
-        command.now.contact.realm command.now.contact.authid command.now.wishes
-        command.now.topics.items command.now.count (exchanged (I.seen source.old) (O.seen sink.old))
+        command.now.contact.realm command.now.contact.authid command.now.wishes command.now.form
+        command.now.topics.items listener.old.left
+        (exchanged (I.seen source.old) (O.seen sink.old))
         (exchanged (I.seen source.new) (O.seen sink.new)) (P.seen output.old).taken
         (P.seen output.new).taken (noting (N.seen notes.old))
         (noting (N.seen notes.new))) }
-    ensures prints { (((P.seen output.new).taken ≡ (P.seen output.old).taken)
-        × (noting (N.seen notes.new) ≡ noting (N.seen notes.old)))
+    ensures prints { IsSilent (P.seen output.old).taken (P.seen output.new).taken
+        (noting (N.seen notes.old)) (noting (N.seen notes.new)) listener.old.left listener.new
         ⊎ PrintsAfterAsking command.now.contact.serializer command.now.contact.realm
-        command.now.contact.authid command.now.wishes command.now.topics.items
+        command.now.contact.authid command.now.wishes command.now.form command.now.topics.items
         (exchanged (I.seen source.old) (O.seen sink.old))
         (exchanged (I.seen source.new) (O.seen sink.new)) (P.seen output.old).taken
-        (P.seen output.new).taken (noting (N.seen notes.old)) (noting (N.seen notes.new)) }
+        (P.seen output.new).taken (noting (N.seen notes.old)) (noting (N.seen notes.new))
+        listener.old.left listener.new }
+    ensures done { OnOk result (listener.new.left ≡ Some 0) }
     ensures cause { IfErr result (λ fault. is_of_message fault ≡ true → IsTurnedAway
         command.now.contact.serializer command.now.contact.realm command.now.contact.authid
         (exchanged (I.seen source.old) (O.seen sink.old))
@@ -322,6 +325,7 @@ pub fn subscribe<I: Source, O: Sink, P: Sink, N: Sink, T: Timing>(
     ensures lines { WriteSteps (P.seen output.old) (P.seen output.new)
         (told_by output_told result) }
 {
+    listener.is_subscribed = false;
     let mut session = match join(alloc, &command.contact, source, sink) {
         Ok(session) => session,
         Err(fault) => return Err(fault),
@@ -329,8 +333,18 @@ pub fn subscribe<I: Source, O: Sink, P: Sink, N: Sink, T: Timing>(
     if let Err(fault) = ask(alloc, command, session.link(), sink) {
         return Err(fault);
     }
-    timing.expects(false);
-    match follow(alloc, command, &mut session, source, sink, output, notes) {
+    timing.expects(true);
+    match follow(
+        alloc,
+        command,
+        listener,
+        &mut session,
+        source,
+        sink,
+        output,
+        notes,
+        timing,
+    ) {
         Ok(()) => {
             timing.expects(true);
             leave(alloc, &mut session, source, sink)

@@ -2,3 +2,4 @@ pub mod ReadBack
 pub mod HeardAsMeant
 pub mod Wished
 pub mod TextItems
+pub mod NumberItems

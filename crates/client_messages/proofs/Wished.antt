@@ -1,16 +1,21 @@
 -- What a key finds among wishes, and how deep wishes nest.
 use Rattle.std.proofs.Common.{◌≡◌, ◌≢◌, ◌≤◌, ℕ, List, [], ◌∷◌, Option, Some, None, Bool, true, false, cond, refl, ap, sym, ◌∙◌, arith, nat_cmp, codes}
+use Rattle.std.specs.Prelude.{pos, map, ◌^◌}
+use Rattle.std.proofs.lemmas.Bool.{lt-ltb}
+use Rattle.std.specs.List.{AllByRecursion}
 use Rattle.std.specs.Str.{bytes_eq}
+use Rattle.wamp_ids.specs.Numbers.{IsId}
+use Rattle.session.specs.ToClient.{number}
 use Rattle.std.specs.Cmp.Lexicographic.{slice_cmp}
 use Rattle.std.proofs.lemmas.Slice.Eq.{bytes_eq-Decides}
 use Rattle.message_tree.specs.Data.{Data, Entries, no_entries, entry, put, find_entry, depth, items_depth, entries_depth}
 use Rattle.message_tree.proofs.Lemmas.{whichever}
 use Rattle.message_tree.proofs.Entries.{find_entry-put, find_entry-put-other}
 use Rattle.eligibility.specs.Lists.{audience_of}
-use Rattle.eligibility.specs.Options.{each_of, flag_or, text_of, list_or_none, with_first, some_list}
+use Rattle.eligibility.specs.Options.{each_of, flag_or, number_of, text_of, list_or_none, with_first, some_list}
 use Rattle.wamp_ids.specs.declared.pattern.Policy as policies
 use Rattle.wamp_ids.specs.declared.pattern.Policy.TheVariants as policy
-use Rattle.client_messages.specs.Wishes.{put_some, flag_wish, policy_wish, exclude_me_wish, texts, texts_wish, authids, authroles, subscribe_options, publish_options, wished_audience}
+use Rattle.client_messages.specs.Wishes.{AreIds, put_some, put_lists, flag_wish, policy_wish, exclude_me_wish, integers, numbers, numbers_wish, texts, texts_wish, ids_in, authids_in, authroles_in, subscribe_options, publish_options, wished_audience}
 use Rattle.client_messages.specs.declared.wishes.SubscribeWishes.{SubscribeWishes}
 use Rattle.client_messages.specs.declared.wishes.PublishWishes.{PublishWishes}
 
@@ -83,6 +88,14 @@ pub shallow-texts : (ts : Option (List (List ℕ))) → IsShallow 1 (texts_wish 
 shallow-texts None = tt
 shallow-texts (Some ts) = omega (arith, depth-texts ts)
 
+pub depth-numbers : (ns : List ℕ) → items_depth (numbers ns) ≤ 0
+depth-numbers [] = omega arith
+depth-numbers (n ∷ ns) = omega (arith, depth-numbers ns)
+
+pub shallow-numbers : (ns : Option (List ℕ)) → IsShallow 1 (numbers_wish ns)
+shallow-numbers None = tt
+shallow-numbers (Some ns) = omega (arith, depth-numbers ns)
+
 each_of-texts : (ts : List (List ℕ)) → each_of text_of (texts ts) ≡ Some ts
 each_of-texts [] = refl
 each_of-texts (t ∷ ts) = ap (with_first (Some t)) (each_of-texts ts)
@@ -91,6 +104,18 @@ each_of-texts (t ∷ ts) = ap (with_first (Some t)) (each_of-texts ts)
 pub list_or_none-texts : (ts : Option (List (List ℕ))) → list_or_none text_of (texts_wish ts) ≡ Some ts
 list_or_none-texts None = refl
 list_or_none-texts (Some ts) = ap some_list (each_of-texts ts)
+
+number_of-number : (n : ℕ) → IsId n → number_of (number n) ≡ Some (pos n)
+number_of-number n h = rw (lt-ltb n (2 ^ 64) (omega arith)) refl
+
+each_of-numbers : (ns : List ℕ) → AllByRecursion IsId ns → each_of number_of (numbers ns) ≡ Some (map pos ns)
+each_of-numbers [] h = refl
+each_of-numbers (n ∷ ns) h = rw (number_of-number n h.0, each_of-numbers ns h.1) refl
+
+-- a list of ids is read as it was wished
+pub list_or_none-numbers : (ns : Option (List ℕ)) → AreIds ns → list_or_none number_of (numbers_wish ns) ≡ Some (integers ns)
+list_or_none-numbers None h = refl
+list_or_none-numbers (Some ns) h = ap some_list (each_of-numbers ns h)
 
 flag-wished : (b : Bool) → flag_or false (flag_wish b) ≡ Some b
 flag-wished true = refl
@@ -136,40 +161,64 @@ module _ (w : SubscribeWishes) where
 module _ (w : PublishWishes) where
   abbrev publish_wishes : List Wish
   publish_wishes =
-      (codes "acknowledge", flag_wish w.acknowledge) ∷ (codes "disclose_me", flag_wish w.disclose_me) ∷ (codes "eligible_authid", texts_wish (authids w))
-      ∷ (codes "eligible_authrole", texts_wish (authroles w)) ∷ (codes "exclude_me", exclude_me_wish w.exclude_me) ∷ (codes "retain", flag_wish w.retain) ∷ []
+      (codes "acknowledge", flag_wish w.acknowledge) ∷ (codes "disclose_me", flag_wish w.disclose_me)
+      ∷ (codes "eligible", numbers_wish (ids_in w.eligible)) ∷ (codes "eligible_authid", texts_wish (authids_in w.eligible))
+      ∷ (codes "eligible_authrole", texts_wish (authroles_in w.eligible)) ∷ (codes "exclude", numbers_wish (ids_in w.exclude))
+      ∷ (codes "exclude_authid", texts_wish (authids_in w.exclude)) ∷ (codes "exclude_authrole", texts_wish (authroles_in w.exclude))
+      ∷ (codes "exclude_me", exclude_me_wish w.exclude_me) ∷ (codes "retain", flag_wish w.retain) ∷ []
 
   pub acknowledge-asked : flag_or false (find_entry (codes "acknowledge") (publish_options w)) ≡ Some w.acknowledge
-  unfolding publish_options
+  unfolding publish_options put_lists
   acknowledge-asked = ap (flag_or false) (found_one (codes "acknowledge") (flag_wish w.acknowledge) publish_wishes refl) ∙ flag-wished w.acknowledge
 
   pub disclose_me-asked : flag_or false (find_entry (codes "disclose_me") (publish_options w)) ≡ Some w.disclose_me
-  unfolding publish_options
+  unfolding publish_options put_lists
   disclose_me-asked = ap (flag_or false) (found_one (codes "disclose_me") (flag_wish w.disclose_me) publish_wishes refl) ∙ flag-wished w.disclose_me
 
   pub retain-asked : flag_or false (find_entry (codes "retain") (publish_options w)) ≡ Some w.retain
-  unfolding publish_options
+  unfolding publish_options put_lists
   retain-asked = ap (flag_or false) (found_one (codes "retain") (flag_wish w.retain) publish_wishes refl) ∙ flag-wished w.retain
 
-  pub audience-asked : audience_of (publish_options w) ≡ Some (wished_audience w)
-  unfolding publish_options audience_of
-  audience-asked =
+  pub audience-asked : AreIds (ids_in w.exclude) → AreIds (ids_in w.eligible) → audience_of (publish_options w) ≡ Some (wished_audience w)
+  unfolding publish_options put_lists audience_of
+  audience-asked excluded eligible =
       rw (
         found_one (codes "exclude_me") (exclude_me_wish w.exclude_me) publish_wishes refl,
         exclude_me-wished w.exclude_me,
-        find_entry-put_all (codes "exclude") publish_wishes,
-        find_entry-put_all (codes "exclude_authid") publish_wishes,
-        find_entry-put_all (codes "exclude_authrole") publish_wishes,
-        find_entry-put_all (codes "eligible") publish_wishes,
-        found_one (codes "eligible_authid") (texts_wish (authids w)) publish_wishes refl,
-        list_or_none-texts (authids w),
-        found_one (codes "eligible_authrole") (texts_wish (authroles w)) publish_wishes refl,
-        list_or_none-texts (authroles w),
+        found_one (codes "exclude") (numbers_wish (ids_in w.exclude)) publish_wishes refl,
+        list_or_none-numbers (ids_in w.exclude) excluded,
+        found_one (codes "exclude_authid") (texts_wish (authids_in w.exclude)) publish_wishes refl,
+        list_or_none-texts (authids_in w.exclude),
+        found_one (codes "exclude_authrole") (texts_wish (authroles_in w.exclude)) publish_wishes refl,
+        list_or_none-texts (authroles_in w.exclude),
+        found_one (codes "eligible") (numbers_wish (ids_in w.eligible)) publish_wishes refl,
+        list_or_none-numbers (ids_in w.eligible) eligible,
+        found_one (codes "eligible_authid") (texts_wish (authids_in w.eligible)) publish_wishes refl,
+        list_or_none-texts (authids_in w.eligible),
+        found_one (codes "eligible_authrole") (texts_wish (authroles_in w.eligible)) publish_wishes refl,
+        list_or_none-texts (authroles_in w.eligible),
       )
       refl
 
   pub publish_options-shallow : entries_depth (publish_options w) ≤ 1
-  unfolding publish_options
+  unfolding publish_options put_lists
   publish_options-shallow =
-      depth-put_all 1 publish_wishes
-      (shallow-flag 1 w.acknowledge, (shallow-flag 1 w.disclose_me, (shallow-texts (authids w), (shallow-texts (authroles w), (shallow-exclude_me 1 w.exclude_me, (shallow-flag 1 w.retain, tt))))))
+      depth-put_all 1 publish_wishes (
+        shallow-flag 1 w.acknowledge,
+        (
+          shallow-flag 1 w.disclose_me,
+          (
+            shallow-numbers (ids_in w.eligible),
+            (
+              shallow-texts (authids_in w.eligible),
+              (
+                shallow-texts (authroles_in w.eligible),
+                (
+                  shallow-numbers (ids_in w.exclude),
+                  (shallow-texts (authids_in w.exclude), (shallow-texts (authroles_in w.exclude), (shallow-exclude_me 1 w.exclude_me, (shallow-flag 1 w.retain, tt)))),
+                ),
+              ),
+            ),
+          ),
+        ),
+      )

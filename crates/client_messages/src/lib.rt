@@ -21,4 +21,4 @@ pub use heard::{EventDetails, Heard};
 pub use hearing::read_heard;
 pub use saying::said_message;
 pub use session::{Args, Request};
-pub use wishes::{PublishWishes, SubscribeWishes};
+pub use wishes::{PublishWishes, SessionLists, SubscribeWishes};

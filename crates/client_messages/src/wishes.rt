@@ -1,16 +1,18 @@
 //! What a client may wish beside a topic, and the options that ask for it.
-ghost use Rattle.std.specs.Prelude.{◌≡◌, ◌≤◌, IfOk, OnOk, Some, codes, false};
+ghost use Rattle.std.specs.Prelude.{◌≡◌, ◌≤◌, IfOk, None, OnOk, Some, codes, false};
+ghost use Rattle.std.specs.List.{AllByRecursion};
 ghost use Rattle.std.specs.Option.{option_map};
 ghost use Rattle.message_tree.specs.Data.{list, no_entries, find_entry, entries_depth};
 ghost use Rattle.message_tree.specs.View.{view, dict_view};
 ghost use Rattle.eligibility.specs.Options.{flag_or};
 ghost use Rattle.eligibility.specs.Lists.{audience_of};
-ghost use Rattle.client_messages.specs.Wishes.{put_some, flag_wish, policy_wish, exclude_me_wish, texts, texts_wish, subscribe_options, publish_options, wished_audience};
+ghost use Rattle.wamp_ids.specs.Numbers.{IsId};
+ghost use Rattle.client_messages.specs.Wishes.{AreIds, put_some, put_lists, flag_wish, policy_wish, exclude_me_wish, ids_in, numbers, numbers_wish, texts, texts_wish, subscribe_options, publish_options, wished_audience};
 
-use crate::dictionaries::{put, text, truth};
+use crate::dictionaries::{number, put, text, truth};
 use message_tree::{Dict, Options, Text, Tree};
 use std::alloc::{AllocError, Global};
-use wamp_ids::Policy;
+use wamp_ids::{Id, Policy};
 
 /// What a SUBSCRIBE may wish beside its pattern's text.
 #[derive(Clone, Copy, Debug)]
@@ -59,6 +61,32 @@ impl SubscribeWishes {
     }
 }
 
+/// Sessions that a PUBLISH names, in up to three lists: by their ids, their authids and their authroles.
+#[derive(Debug, Drop)]
+pub struct SessionLists {
+    /// Their ids, where these are named.
+    pub ids: Option<Vec<Id>>,
+    /// Their authids, where these are named.
+    pub authids: Option<Vec<Text>>,
+    /// Their authroles, where these are named.
+    pub authroles: Option<Vec<Text>>,
+}
+
+impl SessionLists {
+    /// None of the lists is given.
+    pub fn none() -> SessionLists
+        ensures ids { result.ids ≡ None }
+        ensures authids { result.authids ≡ None }
+        ensures authroles { result.authroles ≡ None }
+    {
+        SessionLists {
+            ids: None,
+            authids: None,
+            authroles: None,
+        }
+    }
+}
+
 /// What a PUBLISH may wish beside its topic and its arguments.
 #[derive(Debug, Drop)]
 pub struct PublishWishes {
@@ -66,10 +94,10 @@ pub struct PublishWishes {
     pub acknowledge: bool,
     /// Whether the events may name the publisher (WAMP, "Publisher Identification").
     pub disclose_me: bool,
-    /// The only authids that are to receive it (WAMP, "Subscriber Black- and Whitelisting").
-    pub eligible_authid: Option<Vec<Text>>,
-    /// The only authroles that are to receive it.
-    pub eligible_authrole: Option<Vec<Text>>,
+    /// The only sessions that are to receive it (WAMP, "Subscriber Black- and Whitelisting"): they are in each list that is given.
+    pub eligible: SessionLists,
+    /// The sessions that are not to receive it: they are in one of the lists.
+    pub exclude: SessionLists,
     /// Whether the publisher is left out (WAMP, "Publisher Exclusion").
     pub exclude_me: bool,
     /// Whether it is to be its topic's retained event (WAMP, "Event Retention").
@@ -78,15 +106,15 @@ pub struct PublishWishes {
 
 impl PublishWishes {
     /// What a PUBLISH without options asks for: it goes to all but its publisher, and no answer comes.
-    #[tactic(auto, unfolding(crate::specs::Wishes::publish_options, crate::specs::Wishes::put_some))]
+    #[tactic(auto, unfolding(crate::specs::Wishes::publish_options, crate::specs::Wishes::put_some, crate::specs::Wishes::put_lists))]
     pub fn none() -> PublishWishes
         ensures { publish_options result ≡ no_entries }
     {
         PublishWishes {
             acknowledge: false,
             disclose_me: false,
-            eligible_authid: None,
-            eligible_authrole: None,
+            eligible: SessionLists::none(),
+            exclude: SessionLists::none(),
             exclude_me: true,
             retain: false,
         }
@@ -116,14 +144,48 @@ impl PublishWishes {
             "exclude_me",
             exclude_me_wish(self.exclude_me),
         )?;
-        let authroles = texts_wish(alloc, &self.eligible_authrole)?;
-        put_some(alloc, &mut dict, "eligible_authrole", authroles)?;
-        let authids = texts_wish(alloc, &self.eligible_authid)?;
-        put_some(alloc, &mut dict, "eligible_authid", authids)?;
+        put_lists(
+            alloc,
+            &mut dict,
+            &self.exclude,
+            "exclude",
+            "exclude_authid",
+            "exclude_authrole",
+        )?;
+        put_lists(
+            alloc,
+            &mut dict,
+            &self.eligible,
+            "eligible",
+            "eligible_authid",
+            "eligible_authrole",
+        )?;
         put_some(alloc, &mut dict, "disclose_me", flag_wish(self.disclose_me))?;
         put_some(alloc, &mut dict, "acknowledge", flag_wish(self.acknowledge))?;
         Ok(Options::of(dict))
     }
+}
+
+/// Sets the keys of the lists that are given.
+#[tactic(auto, unfolding(crate::specs::Wishes::put_lists))]
+fn put_lists(
+    alloc: Global,
+    dict: &mut Dict,
+    lists: &SessionLists,
+    ids: &str,
+    authids: &str,
+    authroles: &str,
+) -> Result<(), AllocError>
+    ensures ok { OnOk result (dict_view dict.new
+        ≡ put_lists lists.now ids.now authids.now authroles.now (dict_view dict.old)) }
+    ensures in_range { OnOk result (AreIds (ids_in lists.now)) }
+{
+    let named = texts_wish(alloc, &lists.authroles)?;
+    put_some(alloc, dict, authroles, named)?;
+    let named = texts_wish(alloc, &lists.authids)?;
+    put_some(alloc, dict, authids, named)?;
+    let named = numbers_wish(alloc, &lists.ids)?;
+    put_some(alloc, dict, ids, named)
 }
 
 /// Sets a key where there is a value for it.
@@ -186,6 +248,29 @@ fn texts(alloc: Global, of: &Vec<Text>) -> Result<Tree, AllocError>
     let mut trees = Vec::with_capacity(alloc, of.len())?;
     for one in of {
         trees.push(text(alloc, one.as_str())?)?;
+    }
+    Ok(Tree::List(trees))
+}
+
+fn numbers_wish(alloc: Global, wished: &Option<Vec<Id>>) -> Result<Option<Tree>, AllocError>
+    ensures ok { IfOk result (λ t.
+        option_map view t ≡ numbers_wish (option_map (λ v. v.items) wished.now)) }
+    ensures in_range { OnOk result (AreIds (option_map (λ v. v.items) wished.now)) }
+{
+    match wished {
+        None => Ok(None),
+        Some(wished) => Ok(Some(numbers(alloc, wished)?)),
+    }
+}
+
+/// Ids as a list.
+fn numbers(alloc: Global, of: &Vec<Id>) -> Result<Tree, AllocError>
+    ensures ok { IfOk result (λ t. view t ≡ list (numbers of.now.items)) }
+    ensures in_range { OnOk result (AllByRecursion IsId of.now.items) }
+{
+    let mut trees = Vec::with_capacity(alloc, of.len())?;
+    for one in of {
+        trees.push(number(one.value()))?;
     }
     Ok(Tree::List(trees))
 }

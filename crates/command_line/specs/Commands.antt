@@ -6,19 +6,21 @@ use Rattle.std.specs.Str.{bytes_eq}
 use Rattle.session.specs.Opened.{AreUsedUp}
 use Rattle.broker_config.specs.declared.config.Config.{Config}
 use Rattle.command_line.specs.declared.command.Command.{Command}
-use Rattle.command_line.specs.declared.command.Command.TheVariants.{Help, Version, Replay, Serve, Subscribe, Publish}
+use Rattle.command_line.specs.declared.command.Command.TheVariants.{Help, Version, Replay, Serve, Subscribe, Publish, PublishFile}
 use Rattle.command_line.specs.declared.refusal.CommandRefusal.{CommandRefusal}
 use Rattle.command_line.specs.declared.refusal.CommandRefusal.TheVariants.{NoMemory as WordsNoMemory, Usage as WordsRefused}
 use Rattle.broker_config.specs.declared.fault.Fault.{Fault as ServingFault}
 use Rattle.broker_config.specs.declared.fault.Fault.TheVariants.{NoMemory as OutOfMemory, ListenFault as NotListening}
 use Rattle.command_line.specs.declared.fault.Fault.{Fault}
-use Rattle.command_line.specs.declared.fault.Fault.TheVariants.{NoMemory, ReadFault, WriteFault, Usage, BadLine, TooManyTurns, ListenFault, ConnectFault, Refused, ConnectionFault, LateAnswer}
+use Rattle.command_line.specs.declared.fault.Fault.TheVariants.{NoMemory, ReadFault, WriteFault, Usage, BadLine, TooManyTurns, ListenFault, ConnectFault, Refused, ConnectionFault, LateAnswer, FileFault}
 use Rattle.rawsocket.specs.Steps.{Told, Fine, Failed}
 use Rattle.replay.specs.declared.fault.Fault.{Fault as ReplayFault}
 use Rattle.replay.specs.declared.fault.Fault.TheVariants as of_replay
 use Rattle.client_commands.specs.declared.command.Contact.{Contact}
 use Rattle.client_commands.specs.declared.fault.Fault.{Fault as ClientFault}
 use Rattle.client_commands.specs.declared.fault.Fault.TheVariants as client
+use Rattle.client_commands.specs.declared.file_input.InputFault.{InputFault}
+use Rattle.client_commands.specs.declared.file_input.InputFault.TheVariants as input
 
 abbrev pub is_among : List ℕ → List (List ℕ) → Bool
 is_among name names = list_any (λ other. bytes_eq other name) names
@@ -49,6 +51,7 @@ IsRunnable (Replay config) = 0 < length config.realms.items
 IsRunnable (Serve host port config log) = (1 ≤ port) × IsServable config
 IsRunnable (Subscribe command) = IsReachable command.contact × (1 ≤ length command.topics.items) × MatchOption command.count ⊤ (λ count. 1 ≤ count)
 IsRunnable (Publish command) = IsReachable command.contact
+IsRunnable (PublishFile path command) = IsReachable command.contact
 
 -- the first of these words asks for the version
 abbrev pub asks_for_version : List (String Global) → Bool
@@ -67,6 +70,7 @@ IsVersion (Replay config) = ⊥
 IsVersion (Serve host port config log) = ⊥
 IsVersion (Subscribe command) = ⊥
 IsVersion (Publish command) = ⊥
+IsVersion (PublishFile path command) = ⊥
 
 -- where the version is to be printed, that line is
 abbrev pub SaysVersion : Command → Type 0
@@ -76,6 +80,7 @@ SaysVersion (Replay config) = ⊤
 SaysVersion (Serve host port config log) = ⊤
 SaysVersion (Subscribe command) = ⊤
 SaysVersion (Publish command) = ⊤
+SaysVersion (PublishFile path command) = ⊤
 
 -- the fault of words that are refused
 abbrev pub fault_of_refusal : CommandRefusal → Fault
@@ -113,6 +118,14 @@ fault_of_client (client.Connection fault) = ConnectionFault
 fault_of_client client.Unexpected = ConnectionFault
 fault_of_client client.ForeignEvent = ConnectionFault
 fault_of_client (client.Closed uri) = ConnectionFault
+fault_of_client client.Unreachable = ConnectFault
+
+-- the fault of a program whose input couldn't be published as one argument
+abbrev pub fault_of_input : InputFault → Fault
+fault_of_input input.NoMemory = NoMemory
+fault_of_input input.ReadFault = FileFault
+fault_of_input input.TooLong = FileFault
+fault_of_input input.TooManyTurns = TooManyTurns
 
 -- what a fault is called
 abbrev pub name_of : Fault → List ℕ
@@ -127,6 +140,7 @@ name_of ConnectFault = codes "E27 connect fault"
 name_of Refused = codes "E28 refused by the broker"
 name_of ConnectionFault = codes "E29 connection fault"
 name_of LateAnswer = codes "E30 no answer in time"
+name_of FileFault = codes "E31 file fault"
 
 -- the number of the line that is at fault, if one is
 abbrev pub line_number : Fault → List ℕ
@@ -141,6 +155,7 @@ line_number ConnectFault = []
 line_number Refused = []
 line_number ConnectionFault = []
 line_number LateAnswer = []
+line_number FileFault = []
 
 -- the line by which the program tells of a fault
 abbrev pub fault_line : Fault → List ℕ
@@ -163,3 +178,4 @@ status_of ConnectFault = 1
 status_of Refused = 1
 status_of ConnectionFault = 1
 status_of LateAnswer = 1
+status_of FileFault = 1

@@ -1,3 +1,4 @@
 pub mod Commands
 pub mod Reasons
 pub mod Grants
+pub mod Sessions

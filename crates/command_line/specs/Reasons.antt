@@ -55,6 +55,10 @@ invalid_value value argument why = codes "invalid value '" ++ (value ++ (codes "
 abbrev pub no_realm : List ℕ
 no_realm = codes "a realm is a URI: parts joined by dots, none of them empty, without white space and #"
 
+-- why a text is no session
+abbrev pub no_session : List ℕ
+no_session = codes "the id of a session is wanted, a whole number from 1 to 9007199254740992"
+
 -- where words are refused, the reason names this value
 abbrev pub NamesValue : List ℕ → List ℕ → List ℕ → CommandRefusal → Type 0
 NamesValue value argument why NoMemory = ⊤

@@ -18,6 +18,12 @@ pub fn subscribe<'a>(alloc: Global) -> Result<Command<'a>, AllocError> {
                 .value_name("N")
                 .help("End after so many events, from 1"),
         )?
+        .arg(flag(alloc, "plain").help(
+            "Print the topic and the arguments alone, with spaces between them, in place of JSON",
+        ))?
+        .arg(flag(alloc, "reconnect").help(
+            "Connect and subscribe again where the connection is lost, and tell what may be missed",
+        ))?
         .arg(realm(alloc))?
         .arg(
             Arg::new(alloc, "topic")
@@ -50,22 +56,36 @@ pub fn publish<'a>(alloc: Global) -> Result<Command<'a>, AllocError> {
                 "Whether the publisher itself is left out: true (if it isn't said) or false",
             ),
         )?
-        .arg(
-            option(alloc, "eligible-authid")
-                .value_name("AUTHID")
-                .help("Who may receive it: sessions of this authid, or of one of these")
-                .action(ArgAction::Append),
-        )?
-        .arg(
-            option(alloc, "eligible-authrole")
-                .value_name("ROLE")
-                .help("Who may receive it: sessions of this role, or of one of these")
-                .action(ArgAction::Append),
-        )?
+        .arg(list(alloc, "exclude", "SESSION").help(
+            "Who doesn't receive it: the session of this id, from 1 to 9007199254740992, or of one of these",
+        ))?
+        .arg(list(alloc, "exclude-authid", "AUTHID").help(
+            "Who doesn't receive it: sessions of this authid, or of one of these",
+        ))?
+        .arg(list(alloc, "exclude-authrole", "ROLE").help(
+            "Who doesn't receive it: sessions of this role, or of one of these",
+        ))?
+        .arg(list(alloc, "eligible", "SESSION").help(
+            "Who alone may receive it: the session of this id, from 1 to 9007199254740992, or of one of these",
+        ))?
+        .arg(list(alloc, "eligible-authid", "AUTHID").help(
+            "Who alone may receive it: sessions of this authid, or of one of these",
+        ))?
+        .arg(list(alloc, "eligible-authrole", "ROLE").help(
+            "Who alone may receive it: sessions of this role, or of one of these",
+        ))?
         .arg(
             option(alloc, "kwargs").value_name("JSON").help(
                 "What is published by keys: a dictionary in JSON, of whole numbers alone",
             ),
+        )?
+        .arg(
+            option(alloc, "file")
+                .value_name("PATH")
+                .conflicts_with("argument")?
+                .help(
+                    "Publish the octets of this file as the one argument, a byte string; - is standard input",
+                ),
         )?
         .arg(realm(alloc))?
         .arg(
@@ -129,6 +149,13 @@ fn realm<'a>(alloc: Global) -> Arg<'a> {
         .value_name("REALM")
         .help("The realm")
         .required(true)
+}
+
+/// An option that takes a value each time that it stands there.
+fn list<'a>(alloc: Global, name: &'a str, value: &'a str) -> Arg<'a> {
+    option(alloc, name)
+        .value_name(value)
+        .action(ArgAction::Append)
 }
 
 /// An option without a value.

@@ -1,16 +1,18 @@
 //! What the words behind `subscribe` and `publish` ask for.
-ghost use Rattle.std.specs.Prelude.{◌≤◌, IfOk, IfSome, MatchOption, length, ⊤};
+ghost use Rattle.std.specs.Prelude.{◌≤◌, IfErr, IfOk, IfSome, MatchOption, length, ⊤};
 ghost use Rattle.command_line.specs.Commands.{IsReachable};
+ghost use Rattle.command_line.specs.Reasons.{NamesValue, no_session};
+ghost use Rattle.command_line.specs.Sessions.{Spells, SpellsNoId};
 
 use crate::refusal::{CommandRefusal, refused, refused_value};
 use clap::ArgMatches;
 use client_commands::{
-    Arguments, Contact, PublishCommand, PublishWishes, Serializer, SubscribeCommand,
-    SubscribeWishes, value_of,
+    Arguments, Contact, LineForm, PublishCommand, PublishWishes, Serializer, SessionLists,
+    SubscribeCommand, SubscribeWishes, value_of,
 };
 use message_tree::{Content, Text, Tree};
 use std::alloc::{AllocError, Global};
-use wamp_ids::Policy;
+use wamp_ids::{Id, Policy};
 
 /// The host of the broker, unless another one is named.
 const HOST: &str = "127.0.0.1";
@@ -32,7 +34,10 @@ const DEEPEST: usize = 98;
 
 /// Why something can't be published.
 const NOT_CARRIED: &str =
-    "numbers have to be whole (others can be sent as texts, '\"21.5\"'), and lists and dictionaries may stand in each other 98 deep";
+    "a number has to be whole: send it as a text, '\"21.5\"', or as a whole number in a smaller unit; lists and dictionaries may stand in each other 98 deep";
+
+/// Why a text is no session.
+const NO_SESSION: &str = "the id of a session is wanted, a whole number from 1 to 9007199254740992";
 
 /// Why a text is no port.
 const NO_PORT: &str = "a number from 1 to 65535 is wanted";
@@ -60,8 +65,19 @@ pub fn read_subscribe(
         contact,
         wishes,
         count,
+        form: form_of(words),
+        reconnect: words.get_flag("reconnect"),
         topics,
     })
+}
+
+/// How events are printed.
+fn form_of(words: &ArgMatches<'_>) -> LineForm {
+    if words.get_flag("plain") {
+        LineForm::Plain
+    } else {
+        LineForm::Json
+    }
 }
 
 /// What the words behind `publish` ask for.
@@ -250,8 +266,16 @@ fn read_wishes(alloc: Global, words: &ArgMatches<'_>) -> Result<PublishWishes, C
     Ok(PublishWishes {
         acknowledge: !words.get_flag("no-acknowledge"),
         disclose_me: words.get_flag("disclose-me"),
-        eligible_authid: read_texts_if_any(alloc, words, "eligible-authid")?,
-        eligible_authrole: read_texts_if_any(alloc, words, "eligible-authrole")?,
+        eligible: SessionLists {
+            ids: read_sessions_if_any(alloc, words, "eligible", "--eligible <SESSION>")?,
+            authids: read_texts_if_any(alloc, words, "eligible-authid")?,
+            authroles: read_texts_if_any(alloc, words, "eligible-authrole")?,
+        },
+        exclude: SessionLists {
+            ids: read_sessions_if_any(alloc, words, "exclude", "--exclude <SESSION>")?,
+            authids: read_texts_if_any(alloc, words, "exclude-authid")?,
+            authroles: read_texts_if_any(alloc, words, "exclude-authrole")?,
+        },
         exclude_me: read_exclude_me(alloc, words)?,
         retain: words.get_flag("retain"),
     })
@@ -269,6 +293,47 @@ fn read_exclude_me(alloc: Global, words: &ArgMatches<'_>) -> Result<bool, Comman
             "--exclude-me <WHETHER>",
             "true or false is wanted",
         ),
+    }
+}
+
+/// The ids of sessions that are given for an option, if it is given.
+fn read_sessions_if_any(
+    alloc: Global,
+    words: &ArgMatches<'_>,
+    name: &str,
+    argument: &str,
+) -> Result<Option<Vec<Id>>, CommandRefusal> {
+    let Some(texts) = words.get_strs(name) else {
+        return Ok(None);
+    };
+    let mut ids = Vec::new(alloc);
+    for text in texts {
+        ids.push(read_session(alloc, text, argument)?)?;
+    }
+    Ok(Some(ids))
+}
+
+/// The id of a session that a text names.
+fn read_session(alloc: Global, text: &str, argument: &str) -> Result<Id, CommandRefusal>
+    ensures id { IfOk result (Spells text.now) }
+    ensures reason { IfErr result (NamesValue text.now argument.now no_session) }
+{
+    match session_of(text) {
+        Some(id) => Ok(id),
+        None => refused_value(alloc, text, argument, NO_SESSION),
+    }
+}
+
+/// The id that a text spells in decimal, if it does.
+fn session_of(text: &str) -> Option<Id>
+    ensures { MatchOption result (SpellsNoId text.now) (Spells text.now) }
+{
+    match text.parse::<u64>() {
+        Ok(number) => match Id::new(number) {
+            Ok(id) => Some(id),
+            Err(_) => None,
+        },
+        Err(_) => None,
     }
 }
 

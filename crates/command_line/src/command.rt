@@ -55,6 +55,13 @@ pub enum Command {
     Subscribe(SubscribeCommand),
     /// A client that publishes.
     Publish(PublishCommand),
+    /// A client that publishes the octets of a file as one argument. The command has none before it is read.
+    PublishFile {
+        /// Where it is; `-` stands for standard input.
+        path: String,
+        /// All else.
+        command: PublishCommand,
+    },
 }
 
 /// Reads the words after the program's name. A replay has the outbox and the ids that are taken where none are named.
@@ -153,7 +160,7 @@ fn read_matches(alloc: Global, matches: &ArgMatches<'_>) -> Result<Command, Comm
         return Ok(Command::Subscribe(read_subscribe(alloc, subscribe)?));
     }
     if let Some(publish) = matches.subcommand_matches("publish") {
-        return Ok(Command::Publish(read_publish(alloc, publish)?));
+        return read_publishing(alloc, publish);
     }
     match matches.subcommand_matches("serve") {
         Some(serve) => read_serve(alloc, serve),
@@ -161,6 +168,21 @@ fn read_matches(alloc: Global, matches: &ArgMatches<'_>) -> Result<Command, Comm
             alloc,
             "a command is missing: replay, serve, subscribe or publish",
         ),
+    }
+}
+
+/// What the words after `publish` ask for.
+fn read_publishing(alloc: Global, publish: &ArgMatches<'_>) -> Result<Command, CommandRefusal>
+    ensures runnable { IfOk result IsRunnable }
+    ensures says { IfOk result SaysVersion }
+{
+    let command = read_publish(alloc, publish)?;
+    match publish.get_str("file") {
+        Some(path) => Ok(Command::PublishFile {
+            path: String::from_str(alloc, path)?,
+            command,
+        }),
+        None => Ok(Command::Publish(command)),
     }
 }
 

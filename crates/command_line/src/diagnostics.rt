@@ -26,6 +26,7 @@ fn name(fault: &Fault) -> &'static str
         Fault::Refused => "E28 refused by the broker",
         Fault::ConnectionFault => "E29 connection fault",
         Fault::LateAnswer => "E30 no answer in time",
+        Fault::FileFault => "E31 file fault",
     }
 }
 
@@ -86,6 +87,7 @@ fn status(fault: &Fault) -> u8
         Fault::Refused => 1,
         Fault::ConnectionFault => 1,
         Fault::LateAnswer => 1,
+        Fault::FileFault => 1,
     }
 }
 

@@ -38,6 +38,9 @@ pub enum Fault {
     /// E30: the broker didn't answer within the time that it has.
     #[error("E30 no answer in time")]
     LateAnswer,
+    /// E31: a file that is to be published can't be opened or read, or is longer than a message may be.
+    #[error("E31 file fault")]
+    FileFault,
 }
 
 impl From<AllocError> for Fault {
@@ -98,6 +101,23 @@ impl From<client_commands::Fault> for Fault {
             client_commands::Fault::Unexpected => Fault::ConnectionFault,
             client_commands::Fault::ForeignEvent => Fault::ConnectionFault,
             client_commands::Fault::Closed(_) => Fault::ConnectionFault,
+            client_commands::Fault::Unreachable => Fault::ConnectFault,
+        }
+    }
+}
+
+impl From<client_commands::InputFault> for Fault {
+    ghost use Rattle.std.specs.Prelude.{◌≡◌};
+    ghost use Rattle.command_line.specs.Commands.{fault_of_input};
+
+    ghost from_gives = { λ of fault. fault ≡ fault_of_input of };
+
+    fn from(fault: client_commands::InputFault) -> Fault {
+        match fault {
+            client_commands::InputFault::NoMemory => Fault::NoMemory,
+            client_commands::InputFault::ReadFault => Fault::FileFault,
+            client_commands::InputFault::TooLong => Fault::FileFault,
+            client_commands::InputFault::TooManyTurns => Fault::TooManyTurns,
         }
     }
 }

@@ -1,17 +1,18 @@
 //! Why the program ends with a fault.
 ghost use Rattle.std.specs.Prelude.{◌≡◌, ◌≢◌, [], false, true};
 ghost use Rattle.std.specs.IoError.{error_kind};
-ghost use Rattle.command_line.specs.declared.fault.Fault.TheVariants.{ConnectFault, LateAnswer, ListenFault, NoMemory, Usage};
-ghost use Rattle.command_line.specs.Commands.{fault_of_client};
+ghost use Rattle.command_line.specs.declared.fault.Fault.TheVariants.{ConnectFault, FileFault, LateAnswer, ListenFault, NoMemory, Usage};
+ghost use Rattle.command_line.specs.Commands.{fault_of_client, fault_of_input};
 
 use broker_server::{Fault, explain, help, shown_line};
-use client_commands::{Contact, LinkFault};
+use client_commands::{Contact, InputFault, LinkFault};
 use std::alloc::{AllocError, Global};
 use std::io::{self, ErrorKind};
 
 /// What an argument of an event has to be.
 const ARGUMENTS: &str =
-    "a number has to be whole, and lists and dictionaries nest no more than 98 levels";
+    "a number has to be whole (send it as a text, \"21.5\", or as a whole number in a smaller unit), \
+    and lists and dictionaries nest no more than 98 levels";
 
 /// What a broker says that doesn't serve a realm.
 const NO_REALM: &str = "wamp.error.no_such_realm";
@@ -94,6 +95,26 @@ impl Failure {
     {
         let reason = format!(in alloc; "cannot connect to {host}:{port}: {error}");
         Failure::with_reason(alloc, Fault::ConnectFault, reason.ok())
+    }
+
+    /// A file that is to be published couldn't be opened.
+    pub fn to_open(alloc: Global, path: &str, error: &io::Error) -> Failure
+        ensures { result.fault ≡ FileFault }
+    {
+        let reason = format!(in alloc; "cannot open {path}: {error}");
+        Failure::with_reason(alloc, Fault::FileFault, reason.ok())
+    }
+
+    /// An input, which is called so, couldn't be published as one argument.
+    pub fn to_read(alloc: Global, name: &str, of: InputFault) -> Failure
+        ensures { result.fault ≡ fault_of_input of }
+    {
+        let reason = match of {
+            InputFault::ReadFault => format!(in alloc; "cannot read {name}").ok(),
+            InputFault::TooLong => format!(in alloc; "{name} has more than 1048576 octets").ok(),
+            _ => None,
+        };
+        Failure::with_reason(alloc, Fault::from(of), reason)
     }
 
     /// A client of this broker ended by this fault, and perhaps since an answer came too late.

@@ -10,7 +10,11 @@ ghost use Rattle.rawsocket.specs.Devices.{Takes, TakesBeginning};
 ghost use Rattle.rawsocket.specs.Steps.{WriteSteps, told_by};
 ghost use Rattle.command_line.specs.Commands.{IsServable, IsWritten, fault_line, status_of, write_told};
 
+mod away;
 mod clients;
+mod connecting;
+mod dialer;
+mod due_stream;
 mod failure;
 mod patient_stream;
 mod places;
@@ -19,7 +23,7 @@ use broker_server::{
     Command, Config, Fault, Log, LogEnd, TcpAcceptor, listening, read_command, replay,
     report_failure, serve_logged,
 };
-use clients::{run_publish, run_subscribe};
+use clients::{run_publish, run_publish_file, run_subscribe};
 use failure::Failure;
 use places::fill_closed;
 use rawsocket::devices::{ReadSource, Sink, Turns, WriteSink, send};
@@ -96,12 +100,17 @@ where
         Command::Subscribe(command) => {
             let _places = fill_closed(host);
             let mut notes = WriteSink::new(host.stderr());
-            return run_subscribe(&rt, alloc, &mut output, &mut notes, &command);
+            let errors = WriteSink::new(host.stderr());
+            return run_subscribe(&rt, alloc, &mut output, &mut notes, errors, &command);
         }
         Command::Publish(command) => {
             let _places = fill_closed(host);
             let mut input = ReadSource::new(host.stdin());
             return run_publish(&rt, alloc, &mut input, &command);
+        }
+        Command::PublishFile { path, command } => {
+            let _places = fill_closed(host);
+            return run_publish_file(host, &rt, alloc, path.as_str(), command);
         }
     };
     match ran {

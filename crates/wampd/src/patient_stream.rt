@@ -1,13 +1,25 @@
 //! A stream to a broker that has to answer in time.
+ghost use Rattle.std.specs.Prelude.{◌≡◌, ◌⊎◌, ◌≤◌, ◌-◌, ◌*◌, ◌/◌};
+
 use client_commands::Timing;
 use std::cell::Cell;
 use std::io::{self, ErrorKind, Read, Write};
 use std::net::TcpStream;
 use std::thread;
-use std::time::{Clock, Duration};
+use std::time::{Clock, Duration, Instant};
 
-/// How many milliseconds a publisher rests, so that those who hear it get a processor.
-const REST: u64 = 1;
+/// How many microseconds a publisher rests at least, so that those who hear it get a processor.
+const SHORTEST_REST: u64 = 1_000;
+
+/// How many it rests at most.
+const LONGEST_REST: u64 = 200_000;
+
+/// How many times as long as the answers took: whoever hears what is published has more to do, and waits for a processor as the
+/// broker did.
+const REST_FOR_WAIT: u64 = 4;
+
+/// How many microseconds answers are taken to have needed before the first ones came.
+const FIRST_WAIT: u64 = 4_000;
 
 /// A stream that tells where a read or a write took longer than its limit.
 #[derive(Drop)]
@@ -66,6 +78,8 @@ pub struct StreamTiming<'a, R: Clock> {
     clock: &'a R,
     stream: &'a TcpStream,
     limit: Duration,
+    awaited: Option<Instant>,
+    longest_wait: u64,
 }
 
 impl<'a, R: Clock> StreamTiming<'a, R> {
@@ -75,13 +89,57 @@ impl<'a, R: Clock> StreamTiming<'a, R> {
             clock,
             stream,
             limit,
+            awaited: None,
+            longest_wait: FIRST_WAIT,
+        }
+    }
+
+    /// How many microseconds answers have been awaited; none where no clock tells.
+    fn waited(&self) -> u64 {
+        match &self.awaited {
+            Some(since) => match since.elapsed(self.clock) {
+                Ok(time) => u64::try_from(time.as_micros()).unwrap_or(LONGEST_REST),
+                Err(_) => 0,
+            },
+            None => 0,
         }
     }
 }
 
+/// The longest that answers needed of late, in microseconds, now that some needed so many: what was longer before counts less by an
+/// eighth each time.
+fn longest_of_late(before: u64, waited: u64) -> u64
+    ensures longest { (waited ≤ result) × (before - before / 8 ≤ result) }
+    ensures one { (result ≡ waited) ⊎ (result ≡ before - before / 8) }
+{
+    let faded = before - before / 8;
+    if faded < waited { waited } else { faded }
+}
+
+/// How many microseconds a publisher rests whose answers needed so many.
+fn rest_behind(waited: u64) -> u64
+    ensures least { 1000 ≤ result }
+    ensures most { result ≤ 200000 }
+    ensures between { (1000 ≤ 4 * waited) → (4 * waited ≤ 200000) → result ≡ 4 * waited }
+{
+    if waited < SHORTEST_REST / REST_FOR_WAIT {
+        SHORTEST_REST
+    } else if waited > LONGEST_REST / REST_FOR_WAIT {
+        LONGEST_REST
+    } else {
+        REST_FOR_WAIT * waited
+    }
+}
+
 impl<R: Clock> Timing for StreamTiming<'_, R> {
+    fn awaits(&mut self) {
+        self.awaited = Instant::now(self.clock).ok();
+    }
+
     fn rest(&mut self) {
-        thread::sleep(self.clock, Duration::from_millis(REST));
+        self.longest_wait = longest_of_late(self.longest_wait, self.waited());
+        let rest = rest_behind(self.longest_wait);
+        thread::sleep(self.clock, Duration::from_micros(rest));
     }
 
     fn expects(&mut self, is_due: bool) {

@@ -42,20 +42,20 @@ returns-in-Ok-follow-clause-subscribes g c =
 pub returns-in-Err-Closed-clause-prints : goal.returns-in-Err-Closed-clause-prints
 returns-in-Err-Closed-clause-prints g c =
     let command = c.args.command.now in
-    inr (printed-after command.contact.serializer c.link.result.now.serializer command.contact.realm command.contact.authid command.wishes command.topics.items (exchanged (g.I.Source.seen c.args.source.now) (g.O.Sink.seen c.args.sink.now))
+    inr (printed-after command.contact.serializer c.link.result.now.serializer command.contact.realm command.contact.authid command.wishes command.form command.topics.items (exchanged (g.I.Source.seen c.args.source.now) (g.O.Sink.seen c.args.sink.now))
     (exchanged (g.I.Source.seen c.follow.new.source) (g.O.Sink.seen c.follow.new.sink)) (exchanged (g.I.Source.seen c.follow.new.source) (g.O.Sink.seen c.answer_goodbye.new.sink)) c.in-Ok.session
     (g.I.Source.seen c.join.new.source).given (g.O.Sink.seen c.join.new.sink).taken (g.O.Sink.seen c.ask.new.sink).taken (g.P.Sink.seen c.args.output.now).taken (g.P.Sink.seen c.follow.new.output).taken
-    (noting (g.N.Sink.seen c.args.notes.now)) (noting (g.N.Sink.seen c.follow.new.notes))
+    (noting (g.N.Sink.seen c.args.notes.now)) (noting (g.N.Sink.seen c.follow.new.notes)) c.args.listener.now.left c.follow.new.listener
     c.in-Ok.ensures.joined (ap (λ l. l.serializer) c.link.ensures) c.in_default.ensures.asked c.follow.ensures.prints
     (continues-begun (g.I.Source.seen c.follow.new.source).given (g.O.Sink.seen c.follow.new.sink).taken _ (g.O.Sink.seen c.answer_goodbye.new.sink).taken c.answer_goodbye.ensures.begun))
 
 pub returns-in-Ok-follow-clause-prints : goal.returns-in-Ok-follow-clause-prints
 returns-in-Ok-follow-clause-prints g c =
     let command = c.args.command.now in
-    inr (printed-after command.contact.serializer c.link.result.now.serializer command.contact.realm command.contact.authid command.wishes command.topics.items (exchanged (g.I.Source.seen c.args.source.now) (g.O.Sink.seen c.args.sink.now))
+    inr (printed-after command.contact.serializer c.link.result.now.serializer command.contact.realm command.contact.authid command.wishes command.form command.topics.items (exchanged (g.I.Source.seen c.args.source.now) (g.O.Sink.seen c.args.sink.now))
     (exchanged (g.I.Source.seen c.follow.new.source) (g.O.Sink.seen c.follow.new.sink)) (exchanged (g.I.Source.seen c.leave.new.source) (g.O.Sink.seen c.leave.new.sink)) c.in-Ok.session
     (g.I.Source.seen c.join.new.source).given (g.O.Sink.seen c.join.new.sink).taken (g.O.Sink.seen c.ask.new.sink).taken (g.P.Sink.seen c.args.output.now).taken (g.P.Sink.seen c.follow.new.output).taken
-    (noting (g.N.Sink.seen c.args.notes.now)) (noting (g.N.Sink.seen c.follow.new.notes))
+    (noting (g.N.Sink.seen c.args.notes.now)) (noting (g.N.Sink.seen c.follow.new.notes)) c.args.listener.now.left c.follow.new.listener
     c.in-Ok.ensures.joined (ap (λ l. l.serializer) c.link.ensures) c.in_default.ensures.asked c.follow.ensures.prints
     c.leave.ensures.goes_on)
 
@@ -96,15 +96,16 @@ returns g c =
     record {
       subscribes = tt;
       prints =
-          inr (printed-after command.contact.serializer c.link.result.now.serializer command.contact.realm command.contact.authid command.wishes command.topics.items (exchanged (g.I.Source.seen c.args.source.now) (g.O.Sink.seen c.args.sink.now))
+          inr (printed-after command.contact.serializer c.link.result.now.serializer command.contact.realm command.contact.authid command.wishes command.form command.topics.items (exchanged (g.I.Source.seen c.args.source.now) (g.O.Sink.seen c.args.sink.now))
           (exchanged (g.I.Source.seen c.follow.new.source) (g.O.Sink.seen c.follow.new.sink)) (exchanged (g.I.Source.seen c.follow.new.source) (g.O.Sink.seen c.follow.new.sink)) c.in-Ok.session
           (g.I.Source.seen c.join.new.source).given (g.O.Sink.seen c.join.new.sink).taken (g.O.Sink.seen c.ask.new.sink).taken (g.P.Sink.seen c.args.output.now).taken (g.P.Sink.seen c.follow.new.output).taken
-          (noting (g.N.Sink.seen c.args.notes.now)) (noting (g.N.Sink.seen c.follow.new.notes))
+          (noting (g.N.Sink.seen c.args.notes.now)) (noting (g.N.Sink.seen c.follow.new.notes)) c.args.listener.now.left c.follow.new.listener
           c.in-Ok.ensures.joined (ap (λ l. l.serializer) c.link.ensures) c.in_default.ensures.asked c.follow.ensures.prints
           (continues-still (exchanged (g.I.Source.seen c.follow.new.source) (g.O.Sink.seen c.follow.new.sink))));
       cause = λ is. inr (ends-after command.contact.serializer c.link.result.now.serializer command.contact.realm command.contact.authid command.wishes command.topics.items (exchanged (g.I.Source.seen c.args.source.now) (g.O.Sink.seen c.args.sink.now))
           (exchanged (g.I.Source.seen c.follow.new.source) (g.O.Sink.seen c.follow.new.sink)) c.in-Ok.session (g.I.Source.seen c.join.new.source).given (g.O.Sink.seen c.join.new.sink).taken (g.O.Sink.seen c.ask.new.sink).taken c.in-Err-follow.fault
           c.in-Ok.ensures.joined (ap (λ l. l.serializer) c.link.ensures) c.in_default.ensures.asked (inl (c.in-Err-follow.ensures.cause is)));
+      done = tt;
       gone = c.in-Err-follow.ensures.gone;
       reads = omega (arith, c.in-Ok.ensures.reads, c.in-Err-follow.ensures.reads);
       writes = omega (arith, c.in-Ok.ensures.writes, c.in_default.ensures.writes, c.in-Err-follow.ensures.writes);

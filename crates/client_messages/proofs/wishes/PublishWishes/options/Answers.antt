@@ -8,14 +8,12 @@ unfolding publish_options
 returns-clause-entries c =
     rw (
       c.of.ensures,
-      c.in_ok-put_some-6.ensures.ok,
-      c.flag_wish-3.ensures,
-      c.in_ok-put_some-5.ensures.ok,
-      c.flag_wish-2.ensures,
       c.in_ok-put_some-4.ensures.ok,
-      c.in_ok-authids.ensures.ok,
+      c.flag_wish-3.ensures,
       c.in_ok-put_some-3.ensures.ok,
-      c.in_ok-authroles.ensures.ok,
+      c.flag_wish-2.ensures,
+      c.in_ok-put_lists-2.ensures.ok,
+      c.in_ok-put_lists.ensures.ok,
       c.in_ok-put_some-2.ensures.ok,
       c.exclude_me_wish.ensures,
       c.in_ok-put_some.ensures.ok,
@@ -34,7 +32,7 @@ pub returns-clause-retain : goal.returns-clause-retain
 returns-clause-retain c = rw (returns-clause-entries c) (retain-asked c.args.self.now)
 
 pub returns-clause-audience : goal.returns-clause-audience
-returns-clause-audience c = rw (returns-clause-entries c) (audience-asked c.args.self.now)
+returns-clause-audience c = rw (returns-clause-entries c) (audience-asked c.args.self.now c.in_ok-put_lists.ensures.in_range c.in_ok-put_lists-2.ensures.in_range)
 
 pub returns-clause-shallow : goal.returns-clause-shallow
 returns-clause-shallow c = rw (returns-clause-entries c) (publish_options-shallow c.args.self.now)
