@@ -50,15 +50,6 @@ impl Connections {
         Ok((self.written, self.told))
     }
 
-    /// What the broker sends over the next connection.
-    fn next_octets(&mut self) -> Result<Vec<u8>, Fault> {
-        match self.coming.pop_front() {
-            None => Err(Fault::Usage),
-            Some(None) => Err(Fault::Unreachable),
-            Some(Some(octets)) => Ok(octets),
-        }
-    }
-
     /// Adds what came of a connection.
     fn note(&mut self, written: &[u8], timing: Told) -> Result<(), AllocError> {
         self.written.extend_from_slice(written)?;
@@ -81,12 +72,13 @@ impl Dialer for Connections {
         output: &mut P,
         notes: &mut N,
     ) -> Result<(), Fault> {
-        let octets = match self.next_octets() {
-            Ok(octets) => octets,
-            Err(fault) => {
-                listener.miss();
-                return Err(fault);
-            }
+        let Some(next) = self.coming.pop_front() else {
+            listener.miss();
+            return Err(Fault::Usage);
+        };
+        let Some(octets) = next else {
+            listener.miss();
+            return Err(Fault::Unreachable);
         };
         let Ok(room) = Vec::with_capacity(alloc, ROOM) else {
             listener.miss();
