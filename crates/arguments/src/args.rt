@@ -8,7 +8,7 @@ ghost use Rattle.arguments.specs.Reading.{read_from};
 ghost use Rattle.arguments.specs.body.KeptArguments.{IsGiven, arguments_in};
 
 use crate::fault::Fault;
-use crate::held::{Decoded, Given};
+use crate::held::{Decoded, HeldArguments};
 use crate::reading::{read_one, read_two};
 use crate::writing::json_ending;
 use message_tree::{Appender, Content, Octets};
@@ -20,7 +20,7 @@ use std::marker::Model;
 /// Arguments that are there, and what they are at the end of a message in JSON, where that is kept.
 #[derive(Drop)]
 struct KeptArguments {
-    given: Given,
+    given: HeldArguments,
     json: Option<Octets>,
 }
 
@@ -54,7 +54,7 @@ impl Model for Args {
 }
 
 impl Args {
-    fn hold(alloc: Global, given: Given) -> Result<Args, AllocError>
+    fn hold(alloc: Global, given: HeldArguments) -> Result<Args, AllocError>
         requires fit { FitMessages (arguments_in given) }
         requires given { IsGiven given }
         ensures { IfOk result (λ a. a ≡ arguments_in given) }
@@ -80,7 +80,7 @@ impl Args {
         requires shallow { depth args ≤ 99 }
         ensures { IfOk result (λ a. a ≡ record { args = Some args; kwargs = None }) }
     {
-        Args::hold(alloc, Given::of_trees(alloc, args, None)?)
+        Args::hold(alloc, HeldArguments::of_trees(alloc, args, None)?)
     }
 
     /// Arguments and ArgumentsKw.
@@ -94,7 +94,7 @@ impl Args {
         requires kwargs_shallow { depth kwargs ≤ 99 }
         ensures { IfOk result (λ a. a ≡ record { args = Some args; kwargs = Some kwargs }) }
     {
-        Args::hold(alloc, Given::of_trees(alloc, args, Some(kwargs))?)
+        Args::hold(alloc, HeldArguments::of_trees(alloc, args, Some(kwargs))?)
     }
 
     /// Arguments alone, from an element of a message: nil counts as no arguments in a list.

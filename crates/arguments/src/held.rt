@@ -21,7 +21,7 @@ const RESERVED: usize = 64;
 
 /// Arguments that are there.
 #[derive(Drop)]
-pub(crate) enum Given {
+pub(crate) enum HeldArguments {
     /// As trees: something in them is uncarried, or MessagePack has no spelling for it.
     Trees {
         args: Content,
@@ -97,13 +97,13 @@ fn written(
     Ok(Some(Octets::from_vec(out.into_vec())))
 }
 
-impl Given {
+impl HeldArguments {
     /// Trees, as they are best held.
     pub(crate) fn of_trees(
         alloc: Global,
         args: Content,
         kwargs: Option<Content>,
-    ) -> Result<Given, AllocError>
+    ) -> Result<HeldArguments, AllocError>
         requires { FitMessages (record { args = Some args; kwargs = kwargs }) }
         ensures same { IfOk result (λ g.
             arguments_in g ≡ record { args = Some args; kwargs = kwargs }) }
@@ -111,8 +111,8 @@ impl Given {
     {
         let has_kwargs = kwargs.is_some();
         match written(alloc, &args, &kwargs)? {
-            Some(octets) => Ok(Given::Written { octets, has_kwargs }),
-            None => Ok(Given::Trees { args, kwargs }),
+            Some(octets) => Ok(HeldArguments::Written { octets, has_kwargs }),
+            None => Ok(HeldArguments::Trees { args, kwargs }),
         }
     }
 
@@ -123,33 +123,33 @@ impl Given {
         ensures kwargs { IfOk result (λ d. d.kwargs ≡ (arguments_in self.now).kwargs) }
     {
         match self {
-            Given::Trees { args, kwargs } => Ok(Decoded {
+            HeldArguments::Trees { args, kwargs } => Ok(Decoded {
                 args: Some(args.try_copy(alloc)?),
                 kwargs: copy_if_any(alloc, kwargs)?,
             }),
-            Given::Written { octets, has_kwargs } => {
+            HeldArguments::Written { octets, has_kwargs } => {
                 trees_in(alloc, octets.as_slice(), *has_kwargs)
             }
-            Given::Spelled { octets, has_kwargs } => {
+            HeldArguments::Spelled { octets, has_kwargs } => {
                 trees_in(alloc, octets.as_slice(), *has_kwargs)
             }
         }
     }
 
     /// Equal ones, in memory of their own.
-    pub(crate) fn try_copy(&self, alloc: Global) -> Result<Given, AllocError>
+    pub(crate) fn try_copy(&self, alloc: Global) -> Result<HeldArguments, AllocError>
         ensures { IfOk result (λ g. g ≡ self.now) }
     {
         match self {
-            Given::Trees { args, kwargs } => Ok(Given::Trees {
+            HeldArguments::Trees { args, kwargs } => Ok(HeldArguments::Trees {
                 args: args.try_copy(alloc)?,
                 kwargs: copy_if_any(alloc, kwargs)?,
             }),
-            Given::Written { octets, has_kwargs } => Ok(Given::Written {
+            HeldArguments::Written { octets, has_kwargs } => Ok(HeldArguments::Written {
                 octets: octets.try_copy(alloc)?,
                 has_kwargs: *has_kwargs,
             }),
-            Given::Spelled { octets, has_kwargs } => Ok(Given::Spelled {
+            HeldArguments::Spelled { octets, has_kwargs } => Ok(HeldArguments::Spelled {
                 octets: octets.try_copy(alloc)?,
                 has_kwargs: *has_kwargs,
             }),
@@ -162,8 +162,9 @@ impl Given {
             ≡ item_count (last_items (arguments_in self.now).args (arguments_in self.now).kwargs) }
     {
         let has_kwargs = match self {
-            Given::Trees { kwargs, .. } => kwargs.is_some(),
-            Given::Written { has_kwargs, .. } | Given::Spelled { has_kwargs, .. } => *has_kwargs,
+            HeldArguments::Trees { kwargs, .. } => kwargs.is_some(),
+            HeldArguments::Written { has_kwargs, .. } | HeldArguments::Spelled { has_kwargs, .. } =>
+                *has_kwargs,
         };
         if has_kwargs { 2 } else { 1 }
     }
@@ -174,9 +175,9 @@ impl Given {
         ensures { result ≡ is_all_carried (arguments_in self.now) }
     {
         match self {
-            Given::Trees { args, kwargs } => args.is_carried() && is_carried_if_any(kwargs),
-            Given::Written { .. } => true,
-            Given::Spelled { .. } => false,
+            HeldArguments::Trees { args, kwargs } => args.is_carried() && is_carried_if_any(kwargs),
+            HeldArguments::Written { .. } => true,
+            HeldArguments::Spelled { .. } => false,
         }
     }
 }

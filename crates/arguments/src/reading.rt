@@ -6,7 +6,7 @@ ghost use Rattle.arguments.specs.body.KeptArguments.{IsGiven, arguments_in};
 
 use crate::buffer::buffer;
 use crate::fault::Fault;
-use crate::held::Given;
+use crate::held::HeldArguments;
 use crate::parts::{put_args, put_kwargs, put_spelled_args, put_spelled_kwargs};
 use message_tree::Octets;
 use msgpack_cursor::Value;
@@ -19,7 +19,7 @@ fn both(one: bool, other: bool) -> bool
 }
 
 /// Arguments alone.
-pub(crate) fn read_one(alloc: Global, args: &Value) -> Result<Given, Fault>
+pub(crate) fn read_one(alloc: Global, args: &Value) -> Result<HeldArguments, Fault>
     requires { depth args.now ≤ 99 }
     ensures ok { IfOk result (λ g. read_from args.now None ≡ Some (arguments_in g)) }
     ensures given { IfOk result IsGiven }
@@ -28,21 +28,21 @@ pub(crate) fn read_one(alloc: Global, args: &Value) -> Result<Given, Fault>
 {
     let mut out = buffer(alloc, args.spelling().octets.len())?;
     if put_args(alloc, args, &mut out)? {
-        return Ok(Given::Written {
+        return Ok(HeldArguments::Written {
             octets: Octets::from_vec(out.into_vec()),
             has_kwargs: false,
         });
     }
     let mut out = buffer(alloc, args.spelling().octets.len())?;
     put_spelled_args(args, &mut out)?;
-    Ok(Given::Spelled {
+    Ok(HeldArguments::Spelled {
         octets: Octets::from_vec(out.into_vec()),
         has_kwargs: false,
     })
 }
 
 /// Arguments and ArgumentsKw.
-pub(crate) fn read_two(alloc: Global, args: &Value, kwargs: &Value) -> Result<Given, Fault>
+pub(crate) fn read_two(alloc: Global, args: &Value, kwargs: &Value) -> Result<HeldArguments, Fault>
     requires args { depth args.now ≤ 99 }
     requires kwargs { depth kwargs.now ≤ 99 }
     ensures ok { IfOk result (λ g. read_from args.now (Some kwargs.now) ≡ Some (arguments_in g)) }
@@ -56,7 +56,7 @@ pub(crate) fn read_two(alloc: Global, args: &Value, kwargs: &Value) -> Result<Gi
     let args_put = put_args(alloc, args, &mut out)?;
     let kwargs_put = put_kwargs(alloc, kwargs, &mut out)?;
     if both(args_put, kwargs_put) {
-        return Ok(Given::Written {
+        return Ok(HeldArguments::Written {
             octets: Octets::from_vec(out.into_vec()),
             has_kwargs: true,
         });
@@ -64,7 +64,7 @@ pub(crate) fn read_two(alloc: Global, args: &Value, kwargs: &Value) -> Result<Gi
     let mut out = buffer(alloc, first.len().saturating_add(second.len()))?;
     put_spelled_args(args, &mut out)?;
     put_spelled_kwargs(kwargs, &mut out)?;
-    Ok(Given::Spelled {
+    Ok(HeldArguments::Spelled {
         octets: Octets::from_vec(out.into_vec()),
         has_kwargs: true,
     })

@@ -9,7 +9,7 @@ ghost use Rattle.arguments.specs.body.Parts.{HasStanding, IsJsonPut, further_if_
 
 use crate::buffer::buffer;
 use crate::fault::Fault;
-use crate::held::Given;
+use crate::held::HeldArguments;
 use message_tree::{Appender, Content, Octets};
 use msgpack_to_json::write_json;
 use rawsocket::Serializer;
@@ -107,15 +107,15 @@ fn put_tree_if_any(
     }
 }
 
-impl Given {
+impl HeldArguments {
     /// Their octets in MessagePack, where they are held.
     pub(crate) fn octets(&self) -> Option<&[u8]>
         requires { IsGiven self.now }
         ensures { IfSome result (λ octets. IsEnding MsgPack (arguments_in self.now) octets.now) }
     {
         match self {
-            Given::Trees { .. } | Given::Spelled { .. } => None,
-            Given::Written { octets, .. } => Some(octets.as_slice()),
+            HeldArguments::Trees { .. } | HeldArguments::Spelled { .. } => None,
+            HeldArguments::Written { octets, .. } => Some(octets.as_slice()),
         }
     }
 
@@ -139,22 +139,22 @@ impl Given {
         ensures fault { IfErr result (λ f. (f ≡ Fault.NoMemory) ⊎ (f ≡ Fault.TooLong)) }
     {
         match self {
-            Given::Trees { args, kwargs } => {
+            HeldArguments::Trees { args, kwargs } => {
                 put_tree(alloc, serializer, args, out)?;
                 put_tree_if_any(alloc, serializer, kwargs, out)
             }
-            Given::Written { octets, has_kwargs } => match serializer {
+            HeldArguments::Written { octets, has_kwargs } => match serializer {
                 Serializer::Json => Ok(put_json(alloc, octets.as_slice(), *has_kwargs, out)?),
                 Serializer::MsgPack => Ok(out.put_all(octets.as_slice())?),
             },
-            Given::Spelled { .. } => unreachable!(),
+            HeldArguments::Spelled { .. } => unreachable!(),
         }
     }
 }
 
 /// What arguments are at the end of a message in JSON, unless something in them is uncarried, or a
 /// growth is refused.
-pub(crate) fn json_ending(alloc: Global, given: &Given) -> Option<Octets>
+pub(crate) fn json_ending(alloc: Global, given: &HeldArguments) -> Option<Octets>
     requires { IsGiven given.now }
     ensures { IfSome result (λ octets. IsEnding Json (arguments_in given.now) octets) }
 {

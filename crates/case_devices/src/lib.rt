@@ -4,7 +4,7 @@
 //! of a stream in pieces.
 ghost use Rattle.std.specs.Prelude.{◌≡◌, ℕ, List, Some, IfOk, IfErr};
 ghost use Rattle.std.specs.List.{flat_map};
-ghost use Rattle.rawsocket.specs.Frames.{contents, fault_of, Reads};
+ghost use Rattle.rawsocket.specs.Frames.{contents, fault_of, router_takes, Reads};
 
 use ghost_state::GhostCount;
 use rawsocket::devices::{Sink, Source};
@@ -140,8 +140,8 @@ impl<S: Sink> Sink for FailsAt<S> {
 /// The frames of a stream that comes in these pieces, and the fault that ends them.
 pub fn frames_of(alloc: Global, pieces: &[Vec<u8>]) -> Result<Fed, Fault>
     ensures reads { IfOk result (λ fed. (held : List ℕ)
-        × Reads (flat_map (λ piece. piece.items) pieces.now) (contents fed.frames.items) held
-        × (fed.fault ≡ fault_of held)) }
+        × Reads router_takes (flat_map (λ piece. piece.items) pieces.now) (contents fed.frames.items) held
+        × (fed.fault ≡ fault_of router_takes held)) }
     ensures memory { IfErr result (λ e. e ≡ Fault.NoMemory) }
 {
     let mut deframer = Deframer::new(alloc);

@@ -38,6 +38,7 @@ impl Table for Case {
             Some(("feed", text)) => self.stream.feed(alloc, &octets_of(alloc, text)?),
             Some(("in-place", text)) => self.stream.in_place(alloc, &octets_of(alloc, text)?),
             Some(("frame", text)) => self.stream.frame(alloc, text),
+            Some(("taking", text)) => self.stream.taking(alloc, text),
             Some(("counted", text)) => self.stream.counted(alloc, text),
             Some(("zeros", text)) => self.stream.zeros(alloc, text),
             Some((word, text)) => told(alloc, word, text),

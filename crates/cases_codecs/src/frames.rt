@@ -5,6 +5,7 @@
 //!   each is read in place, however it is cut.
 //! - `feed OCTETS`: the frames that a further piece of the case's stream completes, and its fault.
 //! - `in-place OCTETS`: the same, where each frame that lies whole in the piece is read in place.
+//! - `taking N`: the case's stream begins anew, and a payload may have so many octets at most, and not 2^20.
 //! - `counted N`: the same for N pieces of one octet each: 0 to 250, and again.
 //! - `held`: the fault that the stream is at.
 //! - `frame KIND OCTETS`, `zeros N`: writes a frame behind what the case has written: these octets,
@@ -31,6 +32,12 @@ impl Stream {
             deframer: Deframer::new(alloc),
             out: Vec::new(alloc),
         }
+    }
+
+    /// Begins anew; a payload may have so many octets at most.
+    pub fn taking(&mut self, alloc: Global, count: &str) -> io::Result<String> {
+        self.deframer = Deframer::taking(alloc, number_of(count) as usize);
+        Ok(String::new(alloc))
     }
 
     /// Reads a further piece.

@@ -3,7 +3,7 @@ ghost use Rattle.std.specs.Prelude.{◌≡◌, ◌⊎◌, [], IfOk};
 ghost use Rattle.rawsocket.specs.Deframer.{IsShort};
 
 use crate::frames::{tell_fault, tell_frame};
-use rawsocket::{Deframer, Fault, Frame, next_frame};
+use rawsocket::{Deframer, Fault, Frame};
 use std::alloc::Global;
 use std::io;
 
@@ -21,7 +21,7 @@ pub fn read_in_place(
     if let Some(frame) = frame {
         tell_frame(text, frame.kind, &frame.payload)?;
     }
-    let rest = tell_whole(text, rest)?;
+    let rest = tell_whole(deframer, text, rest)?;
     let mut held = deframer.hold(alloc, rest);
     if held.is_err() {
         held = deframer.hold(alloc, rest);
@@ -38,7 +38,7 @@ fn resumed<'p>(
     deframer: &mut Deframer,
     piece: &'p [u8],
 ) -> Result<(Option<Frame>, &'p [u8]), Fault>
-    ensures { IfOk result (λ r. (deframer.new ≡ []) ⊎ (r.1.now ≡ [])) }
+    ensures { IfOk result (λ r. (deframer.new.held ≡ []) ⊎ (r.1.now ≡ [])) }
 {
     match deframer.resume(alloc, piece) {
         Err(Fault::NoMemory) => deframer.resume(alloc, piece),
@@ -47,12 +47,12 @@ fn resumed<'p>(
 }
 
 /// Adds the frames that lie whole in octets, and gives what stands behind them.
-fn tell_whole<'p>(text: &mut String, octets: &'p [u8]) -> io::Result<&'p [u8]>
-    ensures short { IfOk result (λ rest. IsShort rest.now) }
+fn tell_whole<'p>(deframer: &Deframer, text: &mut String, octets: &'p [u8]) -> io::Result<&'p [u8]>
+    ensures short { IfOk result (λ rest. IsShort deframer.now.most rest.now) }
     ensures none { IfOk result (λ rest. octets.now ≡ [] → rest.now ≡ []) }
 {
     let mut rest = octets;
-    while let Some((kind, payload, after)) = next_frame(rest) {
+    while let Some((kind, payload, after)) = deframer.next_frame(rest) {
         tell_frame(text, kind, payload)?;
         rest = after;
     }

@@ -31,7 +31,10 @@ impl<H: History> Model for Chronicle<H> {
 
     ghost Value = { Recorded H };
 
-    ghost view = { λ c. record { chronicle = c.place.table_id; history = (shown c.place).history } };
+    ghost view = { λ c. record {
+      chronicle = c.place.table_id;
+      history = (shown c.place).history;
+    } };
 
     ghost invariant = { λ c. IsPassOf c.queue c.place
         × (shown c.place ≡ owner (shown c.place).history (shown c.place).checked) };
@@ -51,9 +54,13 @@ impl<H> Model for HistoryToken<H> {
 
     ghost Value = { Recorded H };
 
-    ghost view = { λ t. record { chronicle = t.place.table_id; history = (shown t.place).history } };
+    ghost view = { λ t. record {
+      chronicle = t.place.table_id;
+      history = (shown t.place).history;
+    } };
 
-    ghost invariant = { λ t. (t.place.me.1 ≡ []) × (shown t.place ≡ token (shown t.place).history) };
+    ghost invariant = { λ t. (t.place.me.1 ≡ [])
+        × (shown t.place ≡ token (shown t.place).history) };
 }
 
 impl<H: History> Chronicle<H> {

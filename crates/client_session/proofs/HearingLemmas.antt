@@ -6,7 +6,7 @@ use Rattle.rawsocket.proofs.Lemmas.{pieces_join}
 use Rattle.rawsocket.proofs.Stream.{fault_on, kept_fine}
 use Rattle.rawsocket.specs.declared.fault.Fault as stream
 use Rattle.client_messages.specs.declared.heard.Heard.{Heard}
-use Rattle.client_session.specs.Hearing.{Terms, Stand, stand, Ear, ear, PassesOver, Hears, IsQuiet, Stops, ReadsMore, ReadStops, IsLost, IsNext, HearsNext}
+use Rattle.client_session.specs.Hearing.{client_takes, Terms, Stand, stand, Ear, ear, PassesOver, Hears, IsQuiet, Stops, ReadsMore, ReadStops, IsLost, IsNext, HearsNext}
 use Rattle.client_session.specs.declared.fault.Fault.{Fault}
 use Rattle.client_session.specs.declared.fault.Fault.TheVariants.{NoMemory, Refused, NoBroker, FrameTooLong, FrameType, TooDeep, Malformed, NoBrokerMessage, Unsayable, TooLongForBroker, Ended, ReadFault, WriteFault, TooManyReads, TooManyWrites}
 use Rattle.client_session.proofs.PassingLemmas.{begins_whole, hears_after, passes_join, passes_none, quiet_after, stops_after}
@@ -19,16 +19,16 @@ pub record Listening (t : Terms) (before now : Ear) : Type 0 where
   pub octets : List ℕ
   pub read : now.given ≡ before.given ++ octets
   pub frames : List Content
-  pub reads : Reads (before.held ++ octets) frames now.held
+  pub reads : Reads client_takes (before.held ++ octets) frames now.held
   pub passes : PassesOver t.limit (stand (before.waiting ++ frames) before.taken) (stand now.waiting now.taken)
 
 module _ (t : Terms) (before : Ear) where
-  pub listening_start : Reads before.held [] before.held → Listening t before before
+  pub listening_start : Reads client_takes before.held [] before.held → Listening t before before
   listening_start steady = record {
     octets = [];
     read = sym (append-nil before.given);
     frames = [];
-    reads = subst (λ o. Reads o [] before.held) (sym (append-nil before.held)) steady;
+    reads = subst (λ o. Reads client_takes o [] before.held) (sym (append-nil before.held)) steady;
     passes = subst (λ f. PassesOver t.limit (stand f before.taken) (stand before.waiting before.taken)) (sym (append-nil before.waiting)) (passes_none t.limit (stand before.waiting before.taken));
   }
 
@@ -41,8 +41,8 @@ module _ (t : Terms) (before : Ear) where
         octets = so_far.octets ++ reads.piece;
         read = reads.read ∙ (ap (λ g. g ++ reads.piece) so_far.read ∙ append_assoc before.given so_far.octets reads.piece);
         frames = so_far.frames ++ more;
-        reads = subst (λ o. Reads o (so_far.frames ++ more) new) (append_assoc before.held so_far.octets reads.piece)
-            (pieces_join (before.held ++ so_far.octets) reads.piece held new so_far.frames more so_far.reads reads.reads);
+        reads = subst (λ o. Reads client_takes o (so_far.frames ++ more) new) (append_assoc before.held so_far.octets reads.piece)
+            (pieces_join client_takes (before.held ++ so_far.octets) reads.piece held new so_far.frames more so_far.reads reads.reads);
         passes = record {
           aside = passed.aside;
           frames_are = sym (append_assoc before.waiting so_far.frames more) ∙ ap (λ f. f ++ more) (passed.frames_are ∙ append-nil passed.aside);
@@ -155,14 +155,14 @@ module _ (t : Terms) (before : Ear) where
             (quiet_after t (stand (before.waiting ++ so_far.frames) before.taken) (stand waiting taken) (stand left now) so_far.passes quiet) stops;
       }
 
-four_fault : (rest : List ℕ) (f : stream.Fault) → fault_of rest ≡ Some f → fault_of (take 4 rest) ≡ Some f
+four_fault : (rest : List ℕ) (f : stream.Fault) → fault_of client_takes rest ≡ Some f → fault_of client_takes (take 4 rest) ≡ Some f
 four_fault [] f e = e
 four_fault (a ∷ []) f e = e
 four_fault (a ∷ b ∷ []) f e = e
 four_fault (a ∷ b ∷ c ∷ []) f e = e
-four_fault (a ∷ b ∷ c ∷ d ∷ ys) f e = sym (fault_on (a ∷ b ∷ c ∷ d ∷ []) ys (omega arith)) ∙ e
+four_fault (a ∷ b ∷ c ∷ d ∷ ys) f e = sym (fault_on client_takes (a ∷ b ∷ c ∷ d ∷ []) ys (omega arith)) ∙ e
 
-front_frame : (rest : List ℕ) → BeginsFrame (take 4 rest) → BeginsFrame rest
+front_frame : (rest : List ℕ) → BeginsFrame client_takes (take 4 rest) → BeginsFrame client_takes rest
 front_frame rest begins = (
   begins.0,
   begins.1 ++ drop 4 rest,
@@ -171,18 +171,18 @@ front_frame rest begins = (
 )
 
 -- what is held would be held if nothing more came
-pub reads_held : (octets held : List ℕ) (frames : List Content) → Reads octets frames held → Reads held [] held
-reads_held octets held frames r = by_fault (fault_of r.rest) refl
+pub reads_held : (octets held : List ℕ) (frames : List Content) → Reads client_takes octets frames held → Reads client_takes held [] held
+reads_held octets held frames r = by_fault (fault_of client_takes r.rest) refl
   where
-    by_fault : (o : Option stream.Fault) → fault_of r.rest ≡ o → Reads held [] held
+    by_fault : (o : Option stream.Fault) → fault_of client_takes r.rest ≡ o → Reads client_takes held [] held
     by_fault None fine =
-        let is : kept r.rest ≡ r.rest = kept_fine r.rest fine in
-        subst (λ h. Reads h [] h) (sym (r.held_is ∙ is)) (record { rest = r.rest; splits = record { whole = refl; each = tt; ended = r.splits.ended }; held_is = sym is })
+        let is : kept client_takes r.rest ≡ r.rest = kept_fine client_takes r.rest fine in
+        subst (λ h. Reads client_takes h [] h) (sym (r.held_is ∙ is)) (record { rest = r.rest; splits = record { whole = refl; each = tt; ended = r.splits.ended }; held_is = sym is })
     by_fault (Some f) e =
-        let cut : kept r.rest ≡ take 4 r.rest = rw e refl in
-        let here : fault_of (take 4 r.rest) ≡ Some f = four_fault r.rest f e in
-        let again : kept (take 4 r.rest) ≡ take 4 (take 4 r.rest) = rw here refl in
-        subst (λ h. Reads h [] h) (sym (r.held_is ∙ cut)) (record {
+        let cut : kept client_takes r.rest ≡ take 4 r.rest = rw e refl in
+        let here : fault_of client_takes (take 4 r.rest) ≡ Some f = four_fault r.rest f e in
+        let again : kept client_takes (take 4 r.rest) ≡ take 4 (take 4 r.rest) = rw here refl in
+        subst (λ h. Reads client_takes h [] h) (sym (r.held_is ∙ cut)) (record {
           rest = take 4 r.rest;
           splits = record { whole = refl; each = tt; ended = λ begins. r.splits.ended (front_frame r.rest begins) };
           held_is = sym (again ∙ take_all 4 (take 4 r.rest) (omega (arith, length-take 4 r.rest)));

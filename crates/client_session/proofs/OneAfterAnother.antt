@@ -8,7 +8,7 @@ use Rattle.rawsocket.specs.declared.frame.Kind.TheVariants as kind
 use Rattle.rawsocket.specs.declared.handshake.Serializer.{Serializer}
 use Rattle.rawsocket.proofs.Lemmas.{pieces_join}
 use Rattle.client_messages.specs.declared.heard.Heard.{Heard}
-use Rattle.client_session.specs.Hearing.{Terms, Ear, Hears, HearsNext, IsAside, answers_to, message}
+use Rattle.client_session.specs.Hearing.{client_takes, Terms, Ear, Hears, HearsNext, IsAside, answers_to, message}
 use Rattle.client_session.specs.Laws.{HearsAll, IsAnswerable, SayAll, messages, payload_in}
 use Rattle.client_session.specs.declared.fault.Fault.TheVariants.{NoMemory}
 use Rattle.client_session.proofs.PassingLemmas.{answers-append}
@@ -45,12 +45,12 @@ messages-append : (f g : List Content) → messages (f ++ g) ≡ messages f ++ m
 messages-append f g = flat_map-append payload_in f g
 
 -- at the beginning nothing is heard
-pub hearings_begin : (t : Terms) (before : Ear) → Reads before.held [] before.held → HearsAll t before before []
+pub hearings_begin : (t : Terms) (before : Ear) → Reads client_takes before.held [] before.held → HearsAll t before before []
 hearings_begin t before steady = record {
   octets = [];
   read = sym (append-nil before.given);
   frames = [];
-  reads = subst (λ o. Reads o [] before.held) (sym (append-nil before.held)) steady;
+  reads = subst (λ o. Reads client_takes o [] before.held) (sym (append-nil before.held)) steady;
   done = [];
   frames_are = append-nil before.waiting;
   each = tt;
@@ -73,7 +73,7 @@ hearings_join t a b c heards heard all next =
       octets = all.octets ++ next.octets;
       read = read ∙ (ap (λ g. g ++ next.octets) all.read ∙ append_assoc a.given all.octets next.octets);
       frames = all.frames ++ next.frames;
-      reads = subst (λ o. Reads o (all.frames ++ next.frames) c.held) (append_assoc a.held all.octets next.octets) (pieces_join (a.held ++ all.octets) next.octets b.held c.held all.frames next.frames all.reads next.reads);
+      reads = subst (λ o. Reads client_takes o (all.frames ++ next.frames) c.held) (append_assoc a.held all.octets next.octets) (pieces_join client_takes (a.held ++ all.octets) next.octets b.held c.held all.frames next.frames all.reads next.reads);
       done = all.done ++ (aside ++ last);
       frames_are = sym (append_assoc a.waiting all.frames next.frames)
           ∙ (ap (λ f. f ++ next.frames) all.frames_are ∙ (append_assoc all.done b.waiting next.frames ∙ (ap (λ f. all.done ++ f) behind ∙ sym (append_assoc all.done (aside ++ last) c.waiting))));

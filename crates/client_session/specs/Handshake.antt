@@ -8,9 +8,9 @@ use Rattle.session.specs.Opened.{Exchange}
 use Rattle.client_session.specs.declared.fault.Fault.{Fault}
 use Rattle.client_session.specs.declared.fault.Fault.TheVariants.{NoMemory, Refused, NoBroker, Ended, ReadFault, WriteFault, TooManyReads, TooManyWrites}
 
--- a client that takes up to 2 ^ 20 octets in one payload, so its exponent is 11
+-- a client that takes all that the header of a frame can tell, 2 ^ 24 - 1 octets in one payload, so its exponent is 15
 abbrev pub asking : Serializer → List ℕ
-asking s = 127 ∷ (11 * 16 + serializer_code s) ∷ 0 ∷ 0 ∷ []
+asking s = 127 ∷ (15 * 16 + serializer_code s) ∷ 0 ∷ 0 ∷ []
 
 -- the reply neither accepts what was asked, nor refuses it
 pub record IsNoReply (s : Serializer) (reply : List ℕ) : Type 0 where

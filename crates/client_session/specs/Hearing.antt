@@ -4,6 +4,7 @@ use Rattle.std.specs.declared.option.Option.{Option}
 use Rattle.std.specs.List.{flat_map, AllByRecursion}
 use Rattle.message_tree.specs.Data.{Data}
 use Rattle.rawsocket.specs.Devices.{GrowsByBeginning, Reading, Writing}
+use Rattle.rawsocket.specs.Deframer.{Deframing}
 use Rattle.rawsocket.specs.Frames.{Content, spelled, fault_of, Reads}
 use Rattle.rawsocket.specs.declared.fault.Fault.TheVariants as stream
 use Rattle.rawsocket.specs.declared.frame.Kind.{Kind}
@@ -16,6 +17,10 @@ use Rattle.client_messages.specs.FromBroker.{heard_of}
 use Rattle.client_messages.specs.declared.heard.Heard.{Heard}
 use Rattle.client_session.specs.declared.fault.Fault.{Fault}
 use Rattle.client_session.specs.declared.fault.Fault.TheVariants.{NoMemory, FrameTooLong, FrameType, TooDeep, Malformed, NoBrokerMessage, TooLongForBroker, Ended, ReadFault, WriteFault, TooManyReads, TooManyWrites}
+
+-- what a client takes in one payload: all that the header of a frame can tell
+abbrev pub client_takes : ℕ
+client_takes = 16777215
 
 -- how the broker's messages are serialized, and the most octets that it takes in one payload
 pub record Terms : Type 0 where
@@ -199,15 +204,15 @@ IsSendingFault _ = ⊥
 pub record ReadsMore (held_before held given_before given : List ℕ) (frames : List Content) : Type 0 where
   pub piece : List ℕ
   pub read : given ≡ given_before ++ piece
-  pub reads : Reads (held_before ++ piece) frames held
+  pub reads : Reads client_takes (held_before ++ piece) frames held
 
 -- why no octets were read, by what is held of those before
 abbrev pub ReadStops : List ℕ → Fault → Type 0
-ReadStops held FrameType = fault_of held ≡ Some stream.FrameType
-ReadStops held FrameTooLong = fault_of held ≡ Some stream.FrameTooLong
-ReadStops held Ended = fault_of held ≡ None
-ReadStops held ReadFault = fault_of held ≡ None
-ReadStops held TooManyReads = fault_of held ≡ None
+ReadStops held FrameType = fault_of client_takes held ≡ Some stream.FrameType
+ReadStops held FrameTooLong = fault_of client_takes held ≡ Some stream.FrameTooLong
+ReadStops held Ended = fault_of client_takes held ≡ None
+ReadStops held ReadFault = fault_of client_takes held ≡ None
+ReadStops held TooManyReads = fault_of client_takes held ≡ None
 ReadStops held NoMemory = ⊤
 ReadStops held _ = ⊥
 
@@ -249,7 +254,7 @@ pub record HearsNext (t : Terms) (before now : Ear) (result : Result Heard Fault
   pub read : now.given ≡ before.given ++ (octets ++ lost)
   pub none_lost : result ≢ Err NoMemory → lost ≡ []
   pub frames : List Content
-  pub reads : Reads (before.held ++ octets) frames now.held
+  pub reads : Reads client_takes (before.held ++ octets) frames now.held
   pub next : IsNext t (stand (before.waiting ++ frames) before.taken) (stand now.waiting now.taken) now.held result
 
 -- a link to a broker: its terms, the frames that came from it and are not heard yet, and what is held of the octets behind them
@@ -259,10 +264,12 @@ pub record Line : Type 0 where
   pub waiting : List Content
   pub held : List ℕ
 
--- what holds of each: the limit is one that a handshake tells, what is held would be held if nothing more came, and there is room to read into
-pub record IsReady (limit : ℕ) (held buffer : List ℕ) : Type 0 where
+-- what holds of each: the limit is one that a handshake tells, the deframer takes what a client takes, what it holds would be held if nothing more came,
+-- and there is room to read into
+pub record IsReady (limit : ℕ) (deframer : Deframing) (buffer : List ℕ) : Type 0 where
   pub fits : limit ≤ 16777215
-  pub steady : Reads held [] held
+  pub most : deframer.most ≡ client_takes
+  pub steady : Reads client_takes deframer.held [] deframer.held
   pub room : 0 < length buffer
 
 abbrev pub heard_at : Line → Reading → Writing → Ear

@@ -7,7 +7,7 @@ use Rattle.rawsocket.specs.declared.frame.Kind.TheVariants as kind
 use Rattle.rawsocket.specs.declared.handshake.Serializer.{Serializer}
 use Rattle.session.specs.Opened.{ByKind}
 use Rattle.client_messages.specs.declared.heard.Heard.{Heard}
-use Rattle.client_session.specs.Hearing.{Ear, Says, Terms, answers_to}
+use Rattle.client_session.specs.Hearing.{client_takes, Ear, Says, Terms, answers_to}
 
 -- the payload of a message
 abbrev pub payload_by : Kind → List ℕ → List (List ℕ)
@@ -37,7 +37,7 @@ pub record HearsAll (t : Terms) (before now : Ear) (heards : List Heard) : Type 
   pub octets : List ℕ
   pub read : now.given ≡ before.given ++ octets
   pub frames : List Content
-  pub reads : Reads (before.held ++ octets) frames now.held
+  pub reads : Reads client_takes (before.held ++ octets) frames now.held
   pub done : List Content
   pub frames_are : before.waiting ++ frames ≡ done ++ now.waiting
   pub each : AllByRecursion (IsAnswerable t.limit) done

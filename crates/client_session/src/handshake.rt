@@ -13,14 +13,15 @@ use rawsocket::devices::{Sink, Source, Turns, read_piece};
 use rawsocket::{Handshake, Serializer, answer};
 use std::alloc::Global;
 
-/// The handshake of a client that takes up to 2^20 octets in one payload. A broker reads it as that.
+/// The handshake of a client that takes up to 2^24 - 1 octets in one payload, which is all that a
+/// frame can have. A broker reads it as that.
 fn asking(serializer: Serializer) -> [u8; 4]
     ensures octets { result ≡ asking serializer }
-    ensures asks { answered result ≡ Handshake.Accept serializer 1048576 }
+    ensures asks { answered result ≡ Handshake.Accept serializer 16777215 }
 {
     match serializer {
-        Serializer::Json => [0x7f, 0xb1, 0, 0],
-        Serializer::MsgPack => [0x7f, 0xb2, 0, 0],
+        Serializer::Json => [0x7f, 0xf1, 0, 0],
+        Serializer::MsgPack => [0x7f, 0xf2, 0, 0],
     }
 }
 

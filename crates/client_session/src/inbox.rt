@@ -3,7 +3,7 @@ ghost use Rattle.std.specs.Prelude.{◌≡◌, ◌≢◌, ◌≤◌, ◌<◌, �
 ghost use Rattle.rawsocket.specs.Frames.{contents, fault_of, Reads};
 ghost use Rattle.rawsocket.specs.Steps.{Fine, Steps, read_meter, told_by, write_meter};
 ghost use Rattle.client_session.specs.Faults.{read_told, write_told};
-ghost use Rattle.client_session.specs.Hearing.{ReadsMore, ReadStops, IsLost, HearsNext, ear, terms};
+ghost use Rattle.client_session.specs.Hearing.{ReadsMore, ReadStops, IsLost, HearsNext, ear, terms, client_takes};
 
 use crate::fault::Fault;
 use crate::hearing::hear_waiting;
@@ -31,8 +31,9 @@ pub(crate) struct UnheardFrames {
 
 /// Why the octets that are held can't become a frame.
 fn held_fault(deframer: &Deframer) -> Option<Fault>
-    ensures fault { IfSome result (λ f. ReadStops deframer.now f) }
-    ensures none { IfNone result (fault_of deframer.now ≡ None) }
+    requires { deframer.now.most ≡ client_takes }
+    ensures fault { IfSome result (λ f. ReadStops deframer.now.held f) }
+    ensures none { IfNone result (fault_of client_takes deframer.now.held ≡ None) }
     ensures which { IfSome result (λ f. read_told f ≡ Fine) }
     ensures memory { result ≢ Some Fault.NoMemory }
     ensures ended { result ≢ Some Fault.Ended }
@@ -53,11 +54,13 @@ fn read_more<I: Source>(
     buffer: &mut [u8],
     turns: &mut Turns,
 ) -> Result<VecDeque<Frame>, Fault>
-    requires { 0 < length buffer.old }
-    ensures more { IfOk result (λ frames. ReadsMore deframer.old deframer.new
+    requires some { 0 < length buffer.old }
+    requires most { deframer.old.most ≡ client_takes }
+    ensures most { deframer.new.most ≡ client_takes }
+    ensures more { IfOk result (λ frames. ReadsMore deframer.old.held deframer.new.held
         (I.seen source.old).given (I.seen source.new).given (contents frames.items)) }
     ensures same { OnErr result (deframer.new ≡ deframer.old) }
-    ensures stops { IfErr result (ReadStops deframer.old) }
+    ensures stops { IfErr result (ReadStops deframer.old.held) }
     ensures lost { IfErr result (IsLost (I.seen source.old).given (I.seen source.new).given) }
     ensures ended { result ≡ Err Fault.Ended → (I.seen source.new).is_ended ≡ true }
     ensures turn { OnOk result (turns.old ≡ turns.new + 1) }
@@ -90,10 +93,12 @@ pub(crate) fn hear_next<I: Source, O: Sink>(
 ) -> Result<Heard, Fault>
     requires fits { broker.limit ≤ 16777215 }
     requires some { 0 < length buffer.old }
-    requires steady { Reads inbox.old.deframer [] inbox.old.deframer }
+    requires most { inbox.old.deframer.most ≡ client_takes }
+    requires steady { Reads client_takes inbox.old.deframer.held [] inbox.old.deframer.held }
+    ensures most { inbox.new.deframer.most ≡ client_takes }
     ensures next { HearsNext (terms broker.serializer broker.limit) (ear
-        (contents inbox.old.waiting.items) inbox.old.deframer (I.seen source.old).given
-        (O.seen sink.old).taken) (ear (contents inbox.new.waiting.items) inbox.new.deframer
+        (contents inbox.old.waiting.items) inbox.old.deframer.held (I.seen source.old).given
+        (O.seen sink.old).taken) (ear (contents inbox.new.waiting.items) inbox.new.deframer.held
         (I.seen source.new).given (O.seen sink.new).taken) result }
     ensures ended { result ≡ Err Fault.Ended → (I.seen source.new).is_ended ≡ true }
     ensures reads { Steps (read_meter (I.seen source.old) reading.old)

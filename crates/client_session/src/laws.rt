@@ -3,12 +3,12 @@
 ghost use Rattle.std.specs.Prelude.{List, Ok, [], ◌∷◌, ◌++◌};
 ghost use Rattle.rawsocket.specs.Frames.{Reads};
 ghost use Rattle.client_messages.specs.declared.heard.Heard.{Heard as Hearing};
-ghost use Rattle.client_session.specs.Hearing.{Ear, HearsNext, Terms};
+ghost use Rattle.client_session.specs.Hearing.{client_takes, Ear, HearsNext, Terms};
 ghost use Rattle.client_session.specs.Laws.{HearsAll};
 
 /// Where nothing is heard yet, nothing is done.
 pub fn hearings_begin()
-    ensures { (t : Terms) (before : Ear) → Reads before.held [] before.held
+    ensures { (t : Terms) (before : Ear) → Reads client_takes before.held [] before.held
         → HearsAll t before before [] }
 {}
 

@@ -20,6 +20,9 @@ use std::alloc::Global;
 use std::collections::VecDeque;
 use std::marker::Model;
 
+/// How many octets the payload of a frame may have: all that its header can tell.
+const TAKEN: usize = 0xff_ffff;
+
 /// A link to a broker that accepted the handshake: how it serializes, how much it takes, and what came
 /// from it and is not heard yet. The streams themselves are passed to each call, the same ones each time.
 #[derive(Drop)]
@@ -41,7 +44,7 @@ impl Model for Link {
       serializer = l.broker.serializer;
       limit = l.broker.limit;
       waiting = contents l.inbox.waiting.items;
-      held = l.inbox.deframer;
+      held = l.inbox.deframer.held;
     } };
 
     ghost invariant = { λ l. IsReady l.broker.limit l.inbox.deframer l.buffer.items };
@@ -91,7 +94,7 @@ impl Link {
             broker: BrokerTerms { serializer, limit },
             inbox: UnheardFrames {
                 waiting: VecDeque::new(alloc),
-                deframer: Deframer::new(alloc),
+                deframer: Deframer::taking(alloc, TAKEN),
             },
             buffer,
         })

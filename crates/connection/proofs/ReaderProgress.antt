@@ -1,5 +1,6 @@
 -- A stream that is read piece by piece and posted.
 use Rattle.std.proofs.Common.{◌≡◌, ◌≢◌, ℕ, List, [], ◌∷◌, ◌++◌, None, Ok, Err, inl, inr, refl, sym, ap, ◌∙◌, subst, append_assoc, append-nil, ◌≤◌, length}
+use Rattle.rawsocket.specs.Deframer.{Deframing}
 use Rattle.rawsocket.specs.Frames.{Content, Reads, fault_of}
 use Rattle.rawsocket.specs.Steps.{Meter, Fine, Steps, piece_told}
 use Rattle.rawsocket.specs.declared.devices.no_octets.NoOctets.{NoOctets}
@@ -17,10 +18,14 @@ use Rattle.connection.specs.declared.reader.ReadEnd.TheVariants.{Left, Violation
 use Rattle.connection.proofs.FramesPosted.{Posts-join, Posts-open}
 
 -- the frames of both
-both : (before octets piece held new : List ℕ) (frames more : List Content) → Reads (before ++ octets) frames held → Reads (held ++ piece) more new → Reads (before ++ (octets ++ piece)) (frames ++ more) new
-both before octets piece held new frames more a b = subst (λ o. Reads o (frames ++ more) new) (append_assoc before octets piece) (pieces_join (before ++ octets) piece held new frames more a b)
+both : (most : ℕ) (before octets piece held new : List ℕ) (frames more : List Content) → Reads most (before ++ octets) frames held → Reads most (held ++ piece) more new → Reads most (before ++ (octets ++ piece)) (frames ++ more) new
+both most before octets piece held new frames more a b = subst (λ o. Reads most o (frames ++ more) new) (append_assoc before octets piece) (pieces_join most (before ++ octets) piece held new frames more a b)
 
-module _ {S : Type 0} (s : Serializer) (early : List Content) (held₀ : List ℕ) where
+module _ {S : Type 0} (s : Serializer) (early : List Content) (most : ℕ) (held₀ : List ℕ) where
+  -- a deframer that takes so many octets, and holds these
+  abbrev deframing : List ℕ → Deframing
+  deframing held = record { most = most; held = held }
+
   -- what was read so far is posted, and this is held
   pub record Onward (given_before given : List ℕ) (before now : Posted S) (held : List ℕ) : Type 0 where
     pub octets : List ℕ
@@ -28,10 +33,10 @@ module _ {S : Type 0} (s : Serializer) (early : List Content) (held₀ : List �
     pub acts : List (Act S)
     pub read : given ≡ given_before ++ octets
     pub posted : now ≡ with_acts before acts
-    pub reads : Reads (held₀ ++ octets) frames held
-    pub posts : Posts s (fault_of held) (early ++ frames) acts GoesOn
+    pub reads : Reads most (held₀ ++ octets) frames held
+    pub posts : Posts s (fault_of most held) (early ++ frames) acts GoesOn
 
-  pub Onward-start : (given : List ℕ) (before now : Posted S) (new : List ℕ) → IsAdvance (start s early held₀) (taking [] new) before now (Ok tt) → Onward given given before now new
+  pub Onward-start : (given : List ℕ) (before now : Posted S) (new : List ℕ) → IsAdvance (start s early (deframing held₀)) (taking [] new) before now (Ok tt) → Onward given given before now new
   Onward-start given before now new w = record {
     octets = [];
     frames = w.frames;
@@ -42,11 +47,11 @@ module _ {S : Type 0} (s : Serializer) (early : List Content) (held₀ : List �
     posts = w.posted.posts;
   }
 
-  posts_both : (held new : List ℕ) (frames more : List Content) (acts others : List (Act S)) (course : Course) → Posts s (fault_of held) (early ++ frames) acts GoesOn → Posts s (fault_of new) more others course
-      → Posts s (fault_of new) (early ++ (frames ++ more)) (acts ++ others) course
-  posts_both held new frames more acts others course a b = subst (λ fs. Posts s (fault_of new) fs (acts ++ others) course) (append_assoc early frames more) (Posts-join s (fault_of held) (fault_of new) (early ++ frames) more acts others course a b)
+  posts_both : (held new : List ℕ) (frames more : List Content) (acts others : List (Act S)) (course : Course) → Posts s (fault_of most held) (early ++ frames) acts GoesOn → Posts s (fault_of most new) more others course
+      → Posts s (fault_of most new) (early ++ (frames ++ more)) (acts ++ others) course
+  posts_both held new frames more acts others course a b = subst (λ fs. Posts s (fault_of most new) fs (acts ++ others) course) (append_assoc early frames more) (Posts-join s (fault_of most held) (fault_of most new) (early ++ frames) more acts others course a b)
 
-  pub Onward-more : (given_before given after piece : List ℕ) (before now later : Posted S) (held new : List ℕ) → Onward given_before given before now held → after ≡ given ++ piece → IsAdvance (start s [] held) (taking piece new) now later (Ok tt)
+  pub Onward-more : (given_before given after piece : List ℕ) (before now later : Posted S) (held new : List ℕ) → Onward given_before given before now held → after ≡ given ++ piece → IsAdvance (start s [] (deframing held)) (taking piece new) now later (Ok tt)
       → Onward given_before after before later new
   Onward-more given_before given after piece before now later held new o more w = record {
     octets = o.octets ++ piece;
@@ -54,19 +59,19 @@ module _ {S : Type 0} (s : Serializer) (early : List Content) (held₀ : List �
     acts = o.acts ++ w.posted.acts;
     read = more ∙ ap (λ g. g ++ piece) o.read ∙ append_assoc given_before o.octets piece;
     posted = w.posted.posted ∙ ap (λ p. with_acts p w.posted.acts) o.posted ∙ with_both before o.acts w.posted.acts;
-    reads = both held₀ o.octets piece held new o.frames w.frames o.reads w.reads;
+    reads = both most held₀ o.octets piece held new o.frames w.frames o.reads w.reads;
     posts = posts_both held new o.frames w.frames o.acts w.posted.acts GoesOn o.posts w.posted.posts;
   }
 
   all_then : (course : Course) (given_before given after piece : List ℕ) (before now later : Posted S) (held new : List ℕ) (more : List Content) → Onward given_before given before now held → after ≡ given ++ piece
-      → length piece ≤ 65536 → Reads (held ++ piece) more new → PostsAll s (batch more (fault_of new)) course now later → ReadsSince given_before after before later (IsReadToEnd (start s early held₀) course)
+      → length piece ≤ 65536 → Reads most (held ++ piece) more new → PostsAll s (batch more (fault_of most new)) course now later → ReadsSince given_before after before later (IsReadToEnd (start s early (deframing held₀)) course)
   all_then course given_before given after piece before now later held new more o grows few reads w = record {
     octets = o.octets ++ piece;
     acts = o.acts ++ w.acts;
     read = grows ∙ ap (λ g. g ++ piece) o.read ∙ append_assoc given_before o.octets piece;
     posted = w.posted ∙ ap (λ p. with_acts p w.acts) o.posted ∙ with_both before o.acts w.acts;
     holds = record {
-      all = record { frames = o.frames ++ more; new = new; reads = both held₀ o.octets piece held new o.frames more o.reads reads; posts = posts_both held new o.frames more o.acts w.acts course o.posts w.posts };
+      all = record { frames = o.frames ++ more; new = new; reads = both most held₀ o.octets piece held new o.frames more o.reads reads; posts = posts_both held new o.frames more o.acts w.acts course o.posts w.posts };
       last = inr (record {
         front = o.octets;
         back = piece;
@@ -81,7 +86,7 @@ module _ {S : Type 0} (s : Serializer) (early : List Content) (held₀ : List �
   }
 
   some_then : (given_before given after piece : List ℕ) (before now later : Posted S) (held new : List ℕ) (more : List Content) → Onward given_before given before now held → after ≡ given ++ piece
-      → Reads (held ++ piece) more new → PostsSome s more now later → ReadsSince given_before after before later (IsReadPartly (start s early held₀))
+      → Reads most (held ++ piece) more new → PostsSome s more now later → ReadsSince given_before after before later (IsReadPartly (start s early (deframing held₀)))
   some_then given_before given after piece before now later held new more o grows reads w = record {
     octets = o.octets ++ piece;
     acts = o.acts ++ w.acts;
@@ -93,16 +98,16 @@ module _ {S : Type 0} (s : Serializer) (early : List Content) (held₀ : List �
       octets_are = sym (append-nil (o.octets ++ piece));
       frames = o.frames ++ more;
       new = new;
-      reads = both held₀ o.octets piece held new o.frames more o.reads reads;
+      reads = both most held₀ o.octets piece held new o.frames more o.reads reads;
       done = (early ++ o.frames) ++ w.done;
       left = w.left;
       frames_are = sym (append_assoc early o.frames more) ∙ ap (λ fs. (early ++ o.frames) ++ fs) w.frames_are ∙ sym (append_assoc (early ++ o.frames) w.done w.left);
-      posts = Posts-join s (fault_of held) None (early ++ o.frames) w.done o.acts w.acts GoesOn o.posts w.posts;
+      posts = Posts-join s (fault_of most held) None (early ++ o.frames) w.done o.acts w.acts GoesOn o.posts w.posts;
     });
   }
 
-  pub Onward-ends : (end : ReadEnd) (given_before given after piece : List ℕ) (before now later : Posted S) (held new : List ℕ) → Onward given_before given before now held → after ≡ given ++ piece → length piece ≤ 65536 → IsAdvance (start s [] held) (taking piece new) now later (Err end)
-      → ReadsSince given_before after before later (IsReadUpTo (start s early held₀) end)
+  pub Onward-ends : (end : ReadEnd) (given_before given after piece : List ℕ) (before now later : Posted S) (held new : List ℕ) → Onward given_before given before now held → after ≡ given ++ piece → length piece ≤ 65536 → IsAdvance (start s [] (deframing held)) (taking piece new) now later (Err end)
+      → ReadsSince given_before after before later (IsReadUpTo (start s early (deframing held₀)) end)
   Onward-ends Left given_before given after piece before now later held new o grows few (there, w) = all_then Leaves given_before given after piece before now later held there w.frames o grows few w.reads w.posted
   Onward-ends (Violation f) given_before given after piece before now later held new o grows few (there, w) = all_then (Breaks f) given_before given after piece before now later held there w.frames o grows few w.reads w.posted
   Onward-ends NoMemory given_before given after piece before now later held new o grows few (there, w) = some_then given_before given after piece before now later held there w.frames o grows w.reads w.posted
@@ -112,7 +117,7 @@ module _ {S : Type 0} (s : Serializer) (early : List Content) (held₀ : List �
   Onward-ends TooManyTurns given_before given after piece before now later held new o grows few (there, w) = absurd w.posted
 
   -- the stream ends
-  so_far : (given_before given after : List ℕ) (before now : Posted S) (held : List ℕ) → Onward given_before given before now held → after ≡ given → ReadsSince given_before after before now (IsReadAll (start s early held₀) GoesOn)
+  so_far : (given_before given after : List ℕ) (before now : Posted S) (held : List ℕ) → Onward given_before given before now held → after ≡ given → ReadsSince given_before after before now (IsReadAll (start s early (deframing held₀)) GoesOn)
   so_far given_before given after before now held o same = record {
     octets = o.octets;
     acts = o.acts;
@@ -122,18 +127,18 @@ module _ {S : Type 0} (s : Serializer) (early : List Content) (held₀ : List �
   }
 
   pub Onward-stops : (why : NoOctets) (end : ReadEnd) (given_before given after : List ℕ) (before now : Posted S) (held : List ℕ) → end ≡ end_of why → Onward given_before given before now held → after ≡ given
-      → ReadsSince given_before after before now (IsReadUpTo (start s early held₀) end)
-  Onward-stops why end given_before given after before now held is o same = subst (λ e. ReadsSince given_before after before now (IsReadUpTo (start s early held₀) e)) (sym is) (stops why)
+      → ReadsSince given_before after before now (IsReadUpTo (start s early (deframing held₀)) end)
+  Onward-stops why end given_before given after before now held is o same = subst (λ e. ReadsSince given_before after before now (IsReadUpTo (start s early (deframing held₀)) e)) (sym is) (stops why)
     where
-      stops : (w : NoOctets) → ReadsSince given_before after before now (IsReadUpTo (start s early held₀) (end_of w))
+      stops : (w : NoOctets) → ReadsSince given_before after before now (IsReadUpTo (start s early (deframing held₀)) (end_of w))
       stops no_octets.Ended = so_far given_before given after before now held o same
       stops no_octets.Failed = so_far given_before given after before now held o same
       stops no_octets.TooManyTurns = so_far given_before given after before now held o same
 
-  early_all : (course : Course) (given new : List ℕ) (before now : Posted S) (frames : List Content) → Reads (held₀ ++ []) frames new → PostsAll s (batch (early ++ frames) (fault_of new)) course before now → ReadsSince given given before now (IsReadToEnd (start s early held₀) course)
+  early_all : (course : Course) (given new : List ℕ) (before now : Posted S) (frames : List Content) → Reads most (held₀ ++ []) frames new → PostsAll s (batch (early ++ frames) (fault_of most new)) course before now → ReadsSince given given before now (IsReadToEnd (start s early (deframing held₀)) course)
   early_all course given new before now frames reads w = record { octets = []; acts = w.acts; read = sym (append-nil given); posted = w.posted; holds = record { all = record { frames = frames; new = new; reads = reads; posts = w.posts }; last = inl refl } }
 
-  early_some : (given new : List ℕ) (before now : Posted S) (frames : List Content) → Reads (held₀ ++ []) frames new → PostsSome s (early ++ frames) before now → ReadsSince given given before now (IsReadPartly (start s early held₀))
+  early_some : (given new : List ℕ) (before now : Posted S) (frames : List Content) → Reads most (held₀ ++ []) frames new → PostsSome s (early ++ frames) before now → ReadsSince given given before now (IsReadPartly (start s early (deframing held₀)))
   early_some given new before now frames reads w = record {
     octets = [];
     acts = w.acts;
@@ -142,7 +147,7 @@ module _ {S : Type 0} (s : Serializer) (early : List Content) (held₀ : List �
     holds = inr (record { front = []; back = []; octets_are = refl; frames = frames; new = new; reads = reads; done = w.done; left = w.left; frames_are = w.frames_are; posts = w.posts });
   }
 
-  pub early_ends : (end : ReadEnd) (given new : List ℕ) (before now : Posted S) → IsAdvance (start s early held₀) (taking [] new) before now (Err end) → ReadsSince given given before now (IsReadUpTo (start s early held₀) end)
+  pub early_ends : (end : ReadEnd) (given new : List ℕ) (before now : Posted S) → IsAdvance (start s early (deframing held₀)) (taking [] new) before now (Err end) → ReadsSince given given before now (IsReadUpTo (start s early (deframing held₀)) end)
   early_ends Left given new before now (there, w) = early_all Leaves given there before now w.frames w.reads w.posted
   early_ends (Violation f) given new before now (there, w) = early_all (Breaks f) given there before now w.frames w.reads w.posted
   early_ends NoMemory given new before now (there, w) = early_some given there before now w.frames w.reads w.posted
@@ -165,7 +170,7 @@ module _ {S : Type 0} (s : Serializer) (early : List Content) (held₀ : List �
   moved : (P Q : List ℕ → List (Act S) → Type 0) (given_before given : List ℕ) (before now later : Posted S) → ((octets : List ℕ) (acts : List (Act S)) → P octets acts → Q octets acts) → later ≡ now → ReadsSince given_before given before now P → ReadsSince given_before given before later Q
   moved P Q given_before given before now later to same w = record { octets = w.octets; acts = w.acts; read = w.read; posted = same ∙ w.posted; holds = to w.octets w.acts w.holds }
 
-  all_is_part : (octets : List ℕ) (acts : List (Act S)) → IsReadAll (start s early held₀) GoesOn octets acts → IsReadPartly (start s early held₀) octets acts
+  all_is_part : (octets : List ℕ) (acts : List (Act S)) → IsReadAll (start s early (deframing held₀)) GoesOn octets acts → IsReadPartly (start s early (deframing held₀)) octets acts
   all_is_part octets acts w = inr (record {
     front = octets;
     back = [];
@@ -176,36 +181,36 @@ module _ {S : Type 0} (s : Serializer) (early : List Content) (held₀ : List �
     done = early ++ w.frames;
     left = [];
     frames_are = sym (append-nil (early ++ w.frames));
-    posts = Posts-open s (fault_of w.new) (early ++ w.frames) acts w.posts;
+    posts = Posts-open s (fault_of most w.new) (early ++ w.frames) acts w.posts;
   })
 
-  stream_goes : (end result : ReadEnd) (given_before given : List ℕ) (before now later : Posted S) → ((octets : List ℕ) (acts : List (Act S)) → ThenGone (IsReadAll (start s early held₀) GoesOn octets) acts → IsReadBy (start s early held₀) end octets acts)
-      → ReadsSince given_before given before now (IsReadAll (start s early held₀) GoesOn) → GoesWith end now later result → ReadsSince given_before given before later (IsReadBy (start s early held₀) result)
+  stream_goes : (end result : ReadEnd) (given_before given : List ℕ) (before now later : Posted S) → ((octets : List ℕ) (acts : List (Act S)) → ThenGone (IsReadAll (start s early (deframing held₀)) GoesOn octets) acts → IsReadBy (start s early (deframing held₀)) end octets acts)
+      → ReadsSince given_before given before now (IsReadAll (start s early (deframing held₀)) GoesOn) → GoesWith end now later result → ReadsSince given_before given before later (IsReadBy (start s early (deframing held₀)) result)
   stream_goes end result given_before given before now later to w (inl p) =
-      let so : ReadsSince given_before given before later (λ octets acts. ThenGone (IsReadAll (start s early held₀) GoesOn octets) acts) = gone (IsReadAll (start s early held₀) GoesOn) given_before given before now later p.1 w in
-      subst (λ r. ReadsSince given_before given before later (IsReadBy (start s early held₀) r)) (sym p.0)
+      let so : ReadsSince given_before given before later (λ octets acts. ThenGone (IsReadAll (start s early (deframing held₀)) GoesOn octets) acts) = gone (IsReadAll (start s early (deframing held₀)) GoesOn) given_before given before now later p.1 w in
+      subst (λ r. ReadsSince given_before given before later (IsReadBy (start s early (deframing held₀)) r)) (sym p.0)
       (record { octets = so.octets; acts = so.acts; read = so.read; posted = so.posted; holds = to so.octets so.acts so.holds })
   stream_goes end result given_before given before now later to w (inr p) =
-      subst (λ r. ReadsSince given_before given before later (IsReadBy (start s early held₀) r)) (sym p.0)
-      (moved (IsReadAll (start s early held₀) GoesOn) (IsReadPartly (start s early held₀)) given_before given before now later all_is_part p.1 w)
+      subst (λ r. ReadsSince given_before given before later (IsReadBy (start s early (deframing held₀)) r)) (sym p.0)
+      (moved (IsReadAll (start s early (deframing held₀)) GoesOn) (IsReadPartly (start s early (deframing held₀))) given_before given before now later all_is_part p.1 w)
 
-  stays : (end result : ReadEnd) (P : List ℕ → List (Act S) → Type 0) (given_before given : List ℕ) (before now later : Posted S) → result ≡ end → later ≡ now → ReadsSince given_before given before now (IsReadBy (start s early held₀) end)
-      → ReadsSince given_before given before later (IsReadBy (start s early held₀) result)
+  stays : (end result : ReadEnd) (P : List ℕ → List (Act S) → Type 0) (given_before given : List ℕ) (before now later : Posted S) → result ≡ end → later ≡ now → ReadsSince given_before given before now (IsReadBy (start s early (deframing held₀)) end)
+      → ReadsSince given_before given before later (IsReadBy (start s early (deframing held₀)) result)
   stays end result P given_before given before now later is same w =
-      subst (λ r. ReadsSince given_before given before later (IsReadBy (start s early held₀) r)) (sym is) (moved (IsReadBy (start s early held₀) end) (IsReadBy (start s early held₀) end) given_before given before now later (λ octets acts h. h) same w)
+      subst (λ r. ReadsSince given_before given before later (IsReadBy (start s early (deframing held₀)) r)) (sym is) (moved (IsReadBy (start s early (deframing held₀)) end) (IsReadBy (start s early (deframing held₀)) end) given_before given before now later (λ octets acts h. h) same w)
 
-  pub departs_ends : (end result : ReadEnd) (given_before given : List ℕ) (before now later : Posted S) → ReadsSince given_before given before now (IsReadUpTo (start s early held₀) end) → Departs end now later result
-      → ReadsSince given_before given before later (IsReadBy (start s early held₀) result)
-  departs_ends Left result given_before given before now later w d = stays Left result (IsReadToEnd (start s early held₀) Leaves) given_before given before now later d.0 d.1 w
-  departs_ends (Violation f) result given_before given before now later w d = stays (Violation f) result (IsReadToEnd (start s early held₀) (Breaks f)) given_before given before now later d.0 d.1 w
-  departs_ends ActorGone result given_before given before now later w d = stays ActorGone result (IsReadPartly (start s early held₀)) given_before given before now later d.0 d.1 w
+  pub departs_ends : (end result : ReadEnd) (given_before given : List ℕ) (before now later : Posted S) → ReadsSince given_before given before now (IsReadUpTo (start s early (deframing held₀)) end) → Departs end now later result
+      → ReadsSince given_before given before later (IsReadBy (start s early (deframing held₀)) result)
+  departs_ends Left result given_before given before now later w d = stays Left result (IsReadToEnd (start s early (deframing held₀)) Leaves) given_before given before now later d.0 d.1 w
+  departs_ends (Violation f) result given_before given before now later w d = stays (Violation f) result (IsReadToEnd (start s early (deframing held₀)) (Breaks f)) given_before given before now later d.0 d.1 w
+  departs_ends ActorGone result given_before given before now later w d = stays ActorGone result (IsReadPartly (start s early (deframing held₀))) given_before given before now later d.0 d.1 w
   departs_ends Ended result given_before given before now later w d = stream_goes Ended result given_before given before now later (λ octets acts h. h) w d
   departs_ends Device result given_before given before now later w d = stream_goes Device result given_before given before now later (λ octets acts h. h) w d
   departs_ends TooManyTurns result given_before given before now later w d = stream_goes TooManyTurns result given_before given before now later (λ octets acts h. h) w d
   departs_ends NoMemory result given_before given before now later w (inl p) =
-      subst (λ r. ReadsSince given_before given before later (IsReadBy (start s early held₀) r)) (sym p.0) (gone (IsReadPartly (start s early held₀)) given_before given before now later p.1 w)
+      subst (λ r. ReadsSince given_before given before later (IsReadBy (start s early (deframing held₀)) r)) (sym p.0) (gone (IsReadPartly (start s early (deframing held₀))) given_before given before now later p.1 w)
   departs_ends NoMemory result given_before given before now later w (inr p) =
-      subst (λ r. ReadsSince given_before given before later (IsReadBy (start s early held₀) r)) (sym p.0) (moved (IsReadPartly (start s early held₀)) (IsReadPartly (start s early held₀)) given_before given before now later (λ octets acts h. h) p.1 w)
+      subst (λ r. ReadsSince given_before given before later (IsReadBy (start s early (deframing held₀)) r)) (sym p.0) (moved (IsReadPartly (start s early (deframing held₀))) (IsReadPartly (start s early (deframing held₀))) given_before given before now later (λ octets acts h. h) p.1 w)
 
 -- a reader's end is what it was, unless the actor is gone
 pub departs_same : {S : Type 0} (end result : ReadEnd) (now later : Posted S) → Departs end now later result → result ≢ ActorGone → result ≡ end
@@ -225,7 +230,7 @@ pub departs_as : {S : Type 0} (end result wanted : ReadEnd) (now later : Posted 
 departs_as end result wanted now later d other is = sym (departs_same end result now later d (λ gone. other (sym is ∙ gone))) ∙ is
 
 -- an end by what is posted tells nothing of the stream
-pub posting_told : {S : Type 0} (s : Serializer) (early : List Content) (old piece new : List ℕ) (before now : Posted S) (end : ReadEnd) → IsAdvance (start s early old) (taking piece new) before now (Err end) → read_told end ≡ Fine
+pub posting_told : {S : Type 0} (s : Serializer) (early : List Content) (old : Deframing) (piece new : List ℕ) (before now : Posted S) (end : ReadEnd) → IsAdvance (start s early old) (taking piece new) before now (Err end) → read_told end ≡ Fine
 posting_told s early old piece new before now Left w = refl
 posting_told s early old piece new before now (Violation f) w = refl
 posting_told s early old piece new before now NoMemory w = refl

@@ -2,6 +2,7 @@
 use Rattle.std.specs.Prelude.{◌≡◌, ◌≢◌, ◌⊎◌, ◌≤◌, ℕ, List, [], ◌∷◌, ◌++◌, None, Result, Ok, Err, length}
 use Rattle.std.specs.List.{flat_map, AllByRecursion}
 use Rattle.std.specs.declared.option.Option.{Option}
+use Rattle.rawsocket.specs.Deframer.{Deframing}
 use Rattle.rawsocket.specs.Frames.{Content, IsTaken, Reads, fault_of, spelled}
 use Rattle.rawsocket.specs.declared.fault.Fault as stream
 use Rattle.rawsocket.specs.Steps.{Meter, Told, Fine, Failed, NoTurn, WholeSteps}
@@ -15,14 +16,16 @@ use Rattle.connection.specs.Posts.{Course, GoesOn, Leaves, Breaks, Posts}
 use Rattle.connection.specs.declared.reader.ReadEnd.{ReadEnd}
 use Rattle.connection.specs.declared.reader.ReadEnd.TheVariants.{Left, Violation, Ended, Device, TooManyTurns, NoMemory, ActorGone}
 
--- what a reader begins with: how the client serializes, the frames that were read early, and what the deframer holds behind them
+-- what a reader begins with: how the client serializes, how many octets it may send in a payload, the frames that were read early, and what
+-- the deframer holds behind them
 pub record Start : Type 0 where
   pub serializer : Serializer
+  pub most : ℕ
   pub early : List Content
   pub held : List ℕ
 
-abbrev pub start : Serializer → List Content → List ℕ → Start
-start s early held = record { serializer = s; early = early; held = held }
+abbrev pub start : Serializer → List Content → Deframing → Start
+start s early deframer = record { serializer = s; most = deframer.most; early = early; held = deframer.held }
 
 -- frames, and what is at fault behind the last of them
 pub record Batch : Type 0 where
@@ -45,8 +48,8 @@ module _ {S : Type 0} where
   pub record IsReadAll (begun : Start) (course : Course) (octets : List ℕ) (acts : List (Act S)) : Type 0 where
     pub frames : List Content
     pub new : List ℕ
-    pub reads : Reads (begun.held ++ octets) frames new
-    pub posts : Posts begun.serializer (fault_of new) (begun.early ++ frames) acts course
+    pub reads : Reads begun.most (begun.held ++ octets) frames new
+    pub posts : Posts begun.serializer (fault_of begun.most new) (begun.early ++ frames) acts course
 
   -- the frames still went on after the first of the octets, and what was read behind these is no more than one read takes
   pub record EndsInLast (begun : Start) (octets : List ℕ) (acts : List (Act S)) : Type 0 where
@@ -71,7 +74,7 @@ module _ {S : Type 0} where
     pub octets_are : octets ≡ front ++ back
     pub frames : List Content
     pub new : List ℕ
-    pub reads : Reads (begun.held ++ front) frames new
+    pub reads : Reads begun.most (begun.held ++ front) frames new
     pub done : List Content
     pub left : List Content
     pub frames_are : begun.early ++ frames ≡ done ++ left
@@ -140,17 +143,17 @@ module _ {S : Type 0} where
   IsPosted s given before now (Err _) = ⊥
 
   -- those of the frames at the front of octets were posted, by what ended it, if anything did
-  pub record PostsFront (s : Serializer) (octets rest : List ℕ) (before now : Posted S) (result : Result Unit ReadEnd) : Type 0 where
+  pub record PostsFront (most : ℕ) (s : Serializer) (octets rest : List ℕ) (before now : Posted S) (result : Result Unit ReadEnd) : Type 0 where
     pub frames : List Content
-    pub each : AllByRecursion IsTaken frames
+    pub each : AllByRecursion (IsTaken most) frames
     pub whole : octets ≡ flat_map spelled frames ++ rest
     pub posted : IsPosted s (batch frames None) before now result
 
   -- octets give these frames behind what was held, and they are posted behind the early ones
   pub record Advances (begun : Start) (read : Taking) (before now : Posted S) (result : Result Unit ReadEnd) : Type 0 where
     pub frames : List Content
-    pub reads : Reads (begun.held ++ read.octets) frames read.held
-    pub posted : IsPosted begun.serializer (batch (begun.early ++ frames) (fault_of read.held)) before now result
+    pub reads : Reads begun.most (begun.held ++ read.octets) frames read.held
+    pub posted : IsPosted begun.serializer (batch (begun.early ++ frames) (fault_of begun.most read.held)) before now result
 
   -- where something ended it, the deframer needn't hold what stands behind them
   abbrev pub IsAdvance : Start → Taking → Posted S → Posted S → Result Unit ReadEnd → Type 0

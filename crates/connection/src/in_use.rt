@@ -6,12 +6,12 @@ use std::sync::atomic::{AtomicUsize, Ordering};
 
 // A count for each serialization.
 #[derive(Drop)]
-struct Counts {
+struct UseCounts {
     json: AtomicUsize,
     msgpack: AtomicUsize,
 }
 
-impl Counts {
+impl UseCounts {
     fn of(&self, serializer: Serializer) -> &AtomicUsize {
         match serializer {
             Serializer::Json => &self.json,
@@ -26,7 +26,7 @@ impl Counts {
 /// change a count at any time, so no contract can speak of one.
 #[derive(Drop)]
 pub struct InUse {
-    counts: Arc<Counts>,
+    counts: Arc<UseCounts>,
 }
 
 impl InUse {
@@ -35,7 +35,7 @@ impl InUse {
     /// # Errors
     /// `AllocError` where a growth of memory was refused.
     pub fn new(alloc: Global) -> Result<InUse, AllocError> {
-        let counts = Counts {
+        let counts = UseCounts {
             json: AtomicUsize::new(0),
             msgpack: AtomicUsize::new(0),
         };

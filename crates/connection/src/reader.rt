@@ -12,7 +12,7 @@ ghost use Rattle.connection.specs.Reader.{IsPosted, IsAdvance, PostsFront, IsRea
 use crate::weight::weight_of;
 use message_tree::Octets;
 use rawsocket::devices::{NoOctets, PIECE, Source, Turns, read_piece};
-use rawsocket::{Deframer, Frame, Kind, Serializer, next_frame};
+use rawsocket::{Deframer, Frame, Kind, Serializer};
 use realm_inbox::{Act, Posting, Shut};
 use session::{Fault, Opened, Said, SaidKind, read_payload};
 use std::alloc::Global;
@@ -231,17 +231,18 @@ fn post_whole<'p, R: Wait, S: Shut, P: Posting<S>>(
     rt: &R,
     alloc: Global,
     serializer: Serializer,
+    deframer: &Deframer,
     octets: &'p [u8],
     poster: &mut P,
 ) -> Result<&'p [u8], ReadEnd>
-    ensures front { IfOk result (λ rest. PostsFront serializer octets.now rest.now
+    ensures front { IfOk result (λ rest. PostsFront deframer.now.most serializer octets.now rest.now
         (P.posted poster.old) (P.posted poster.new) (Ok tt)) }
-    ensures short { IfOk result (λ rest. IsShort rest.now) }
-    ensures ended { IfErr result (λ end. (rest : List ℕ) × PostsFront serializer octets.now rest
+    ensures short { IfOk result (λ rest. IsShort deframer.now.most rest.now) }
+    ensures ended { IfErr result (λ end. (rest : List ℕ) × PostsFront deframer.now.most serializer octets.now rest
         (P.posted poster.old) (P.posted poster.new) (Err end)) }
 {
     let mut rest = octets;
-    'frames: while let Some((kind, payload, after)) = next_frame(rest) {
+    'frames: while let Some((kind, payload, after)) = deframer.next_frame(rest) {
         if let Err(end) = post_lying(rt, alloc, serializer, kind, payload, poster) {
             return Err(end);
         }
@@ -259,8 +260,9 @@ fn advance<R: Wait, S: Shut, P: Posting<S>>(
     piece: &[u8],
     poster: &mut P,
 ) -> Result<(), ReadEnd>
-    ensures { IsAdvance (start serializer [] deframer.old) (taking piece.now deframer.new)
+    ensures advances { IsAdvance (start serializer [] deframer.old) (taking piece.now deframer.new.held)
         (P.posted poster.old) (P.posted poster.new) result }
+    ensures most { deframer.new.most ≡ deframer.old.most }
 {
     let (frame, rest) = match deframer.resume(alloc, piece) {
         Ok(resumed) => resumed,
@@ -269,7 +271,7 @@ fn advance<R: Wait, S: Shut, P: Posting<S>>(
     if let Err(end) = post_completed(rt, alloc, serializer, frame, poster) {
         return Err(end);
     }
-    let rest = match post_whole(rt, alloc, serializer, rest, poster) {
+    let rest = match post_whole(rt, alloc, serializer, deframer, rest, poster) {
         Ok(rest) => rest,
         Err(end) => return Err(end),
     };
@@ -288,8 +290,9 @@ fn begin<R: Wait, S: Shut, P: Posting<S>>(
     deframer: &mut Deframer,
     poster: &mut P,
 ) -> Result<(), ReadEnd>
-    ensures { IsAdvance (start serializer (contents early.items) deframer.old)
-        (taking [] deframer.new) (P.posted poster.old) (P.posted poster.new) result }
+    ensures advances { IsAdvance (start serializer (contents early.items) deframer.old)
+        (taking [] deframer.new.held) (P.posted poster.old) (P.posted poster.new) result }
+    ensures most { deframer.new.most ≡ deframer.old.most }
 {
     if let Err(end) = post_frames(rt, alloc, serializer, early, poster) {
         return Err(end);

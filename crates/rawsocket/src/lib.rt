@@ -38,7 +38,7 @@ mod frame;
 mod handshake;
 pub mod laws;
 
-pub use deframer::{Deframer, Fed, next_frame};
+pub use deframer::{Deframer, Fed};
 pub use devices::device::{Sink, Source};
 pub use devices::memory::{MemorySink, MemorySource};
 pub use devices::no_octets::NoOctets;

@@ -4,7 +4,7 @@ use Rattle.std.specs.Prelude.{Option, Some, None, MatchOption, option_to_list}
 use Rattle.std.proofs.lemmas.Bool.{eqb-false}
 use Rattle.std.proofs.lemmas.List.{append-nil, nil_from_length}
 use Rattle.realm_inbox.specs.declared.letter.Post.{Post}
-use Rattle.realm_inbox.specs.declared.line.Line.{Line}
+use Rattle.realm_inbox.specs.declared.seat_line.SeatLine.{SeatLine}
 use Rattle.realm_inbox.specs.SeatLines.{place_of_post, own_part, first_part, line_at, aside_at, waiting_in}
 
 -- what was popped of a list
@@ -13,24 +13,24 @@ popped None old new a b is few count = let none : new ≡ [] = nil_from_length n
 popped (Some p) old new a b is few count = is
 
 module _ {S : Type 0} where
-  pub line_is : (ls : List (Line S)) (i : ℕ) (d : Line S) → i < length ls → line_at ls i ≡ (get_or ls i d).posts.items
+  pub line_is : (ls : List (SeatLine S)) (i : ℕ) (d : SeatLine S) → i < length ls → line_at ls i ≡ (get_or ls i d).posts.items
   line_is [] i d below = absurd (omega (arith, below))
   line_is (l ∷ ls) zero d below = refl
   line_is (l ∷ ls) (suc i) d below = line_is ls i d (omega (arith, below))
 
   -- one line more at the end, with nobody in it
-  pub empty_snoc : (ls : List (Line S)) (y : Line S) → ((k : ℕ) → line_at ls k ≡ []) → y.posts.items ≡ [] → (k : ℕ) → line_at (ls ++ y ∷ []) k ≡ []
+  pub empty_snoc : (ls : List (SeatLine S)) (y : SeatLine S) → ((k : ℕ) → line_at ls k ≡ []) → y.posts.items ≡ [] → (k : ℕ) → line_at (ls ++ y ∷ []) k ≡ []
   empty_snoc [] y none e zero = e
   empty_snoc [] y none e (suc k) = refl
   empty_snoc (l ∷ ls) y none e zero = none zero
   empty_snoc (l ∷ ls) y none e (suc k) = empty_snoc ls y (λ j. none (suc j)) e k
 
-  set_here : (ls : List (Line S)) (i : ℕ) (y : Line S) → i < length ls → line_at (set ls i y) i ≡ y.posts.items
+  set_here : (ls : List (SeatLine S)) (i : ℕ) (y : SeatLine S) → i < length ls → line_at (set ls i y) i ≡ y.posts.items
   set_here [] i y below = absurd (omega (arith, below))
   set_here (l ∷ ls) zero y below = refl
   set_here (l ∷ ls) (suc i) y below = set_here ls i y (omega (arith, below))
 
-  set_elsewhere : (ls : List (Line S)) (i k : ℕ) (y : Line S) → i ≢ k → line_at (set ls i y) k ≡ line_at ls k
+  set_elsewhere : (ls : List (SeatLine S)) (i k : ℕ) (y : SeatLine S) → i ≢ k → line_at (set ls i y) k ≡ line_at ls k
   set_elsewhere [] i k y other = refl
   set_elsewhere (l ∷ ls) zero zero y other = absurd (other refl)
   set_elsewhere (l ∷ ls) zero (suc k) y other = refl
@@ -38,7 +38,7 @@ module _ {S : Type 0} where
   set_elsewhere (l ∷ ls) (suc i) (suc k) y other = set_elsewhere ls i k y (λ e. other (ap suc e))
 
   -- a line grows at its end
-  pub line_longer : (ls : List (Line S)) (i : ℕ) (y : Line S) (part : List (Post S)) → i < length ls → y.posts.items ≡ line_at ls i ++ part
+  pub line_longer : (ls : List (SeatLine S)) (i : ℕ) (y : SeatLine S) (part : List (Post S)) → i < length ls → y.posts.items ≡ line_at ls i ++ part
       → (k : ℕ) → line_at (set ls i y) k ≡ line_at ls k ++ cond (eqb i k) part []
   line_longer ls i y part below e k = by (eqb i k) refl
     where
@@ -47,7 +47,7 @@ module _ {S : Type 0} where
       by false t = set_elsewhere ls i k y (eqb-false i k t) ∙ sym (append-nil (line_at ls k))
 
   -- a line loses its front
-  pub line_shorter : (ls : List (Line S)) (i : ℕ) (y : Line S) (part : List (Post S)) → i < length ls → line_at ls i ≡ part ++ y.posts.items
+  pub line_shorter : (ls : List (SeatLine S)) (i : ℕ) (y : SeatLine S) (part : List (Post S)) → i < length ls → line_at ls i ≡ part ++ y.posts.items
       → (k : ℕ) → line_at ls k ≡ cond (eqb i k) part [] ++ line_at (set ls i y) k
   line_shorter ls i y part below e k = by (eqb i k) refl
     where
@@ -55,27 +55,27 @@ module _ {S : Type 0} where
       by true t = subst (λ n. line_at ls n ≡ part ++ line_at (set ls i y) n) (eqb-true i k t) (e ∙ ap (λ l. part ++ l) (sym (set_here ls i y below)))
       by false t = sym (set_elsewhere ls i k y (eqb-false i k t))
 
-  pub line_same : (ls : List (Line S)) (i : ℕ) (y : Line S) → i < length ls → y.posts.items ≡ line_at ls i → (k : ℕ) → line_at (set ls i y) k ≡ line_at ls k
+  pub line_same : (ls : List (SeatLine S)) (i : ℕ) (y : SeatLine S) → i < length ls → y.posts.items ≡ line_at ls i → (k : ℕ) → line_at (set ls i y) k ≡ line_at ls k
   line_same ls i y below e k = by (eqb i k) refl
     where
       by : (b : Bool) → eqb i k ≡ b → line_at (set ls i y) k ≡ line_at ls k
       by true t = subst (λ n. line_at (set ls i y) n ≡ line_at ls n) (eqb-true i k t) (set_here ls i y below ∙ e)
       by false t = set_elsewhere ls i k y (eqb-false i k t)
 
-  pub line_none : (ls : List (Line S)) (i : ℕ) → length ls ≤ i → line_at ls i ≡ []
+  pub line_none : (ls : List (SeatLine S)) (i : ℕ) → length ls ≤ i → line_at ls i ≡ []
   line_none [] i beyond = refl
   line_none (l ∷ ls) zero beyond = absurd (omega (arith, beyond))
   line_none (l ∷ ls) (suc i) beyond = line_none ls i (omega (arith, beyond))
 
   -- a post was popped of a line
-  pub popped_from : (ls : List (Line S)) (i : ℕ) (old y : Line S) (r : Option (Post S)) → i < length ls → line_at ls i ≡ old.posts.items
+  pub popped_from : (ls : List (SeatLine S)) (i : ℕ) (old y : SeatLine S) (r : Option (Post S)) → i < length ls → line_at ls i ≡ old.posts.items
       → MatchOption r ((old.posts.items ≡ []) × (y.posts.items ≡ [])) (λ p. old.posts.items ≡ p ∷ y.posts.items)
       → MatchOption r ((line_at ls i ≡ []) × ((k : ℕ) → line_at (set ls i y) k ≡ line_at ls k)) (λ p. (k : ℕ) → line_at ls k ≡ first_part i k p ++ line_at (set ls i y) k)
   popped_from ls i old y None below is e = (is ∙ e.0, line_same ls i y below (e.1 ∙ sym (is ∙ e.0)))
   popped_from ls i old y (Some p) below is e = line_shorter ls i y (p ∷ []) below (is ∙ e)
 
   -- a post was pushed into a line, or came back
-  pub pushed_into : (ls : List (Line S)) (i : ℕ) (old y : Line S) (p : Post S) (r : Option (Post S)) → i ≡ place_of_post p → i < length ls → line_at ls i ≡ old.posts.items
+  pub pushed_into : (ls : List (SeatLine S)) (i : ℕ) (old y : SeatLine S) (p : Post S) (r : Option (Post S)) → i ≡ place_of_post p → i < length ls → line_at ls i ≡ old.posts.items
       → MatchOption r (y.posts.items ≡ old.posts.items ++ p ∷ []) (λ back. (back ≡ p) × (y.posts.items ≡ old.posts.items))
       → MatchOption r ((k : ℕ) → line_at (set ls i y) k ≡ line_at ls k ++ own_part k p) (λ back. (back ≡ p) × ((k : ℕ) → line_at (set ls i y) k ≡ line_at ls k))
   pushed_into ls i old y p None place below is e = λ k.
@@ -83,7 +83,7 @@ module _ {S : Type 0} where
   pushed_into ls i old y p (Some back) place below is e = (e.0, line_same ls i y below (e.1 ∙ sym is))
 
   -- where nothing stood aside, a post is added to what waits
-  pub added : (ls ls' : List (Line S)) (before after : Option (Post S)) (p : Post S) → before ≡ None
+  pub added : (ls ls' : List (SeatLine S)) (before after : Option (Post S)) (p : Post S) → before ≡ None
       → MatchOption after ((k : ℕ) → line_at ls' k ≡ line_at ls k ++ own_part k p) (λ back. (back ≡ p) × ((k : ℕ) → line_at ls' k ≡ line_at ls k))
       → (k : ℕ) → waiting_in ls' after k ≡ waiting_in ls before k ++ own_part k p
   added ls ls' before None p none e = λ k.
@@ -92,11 +92,11 @@ module _ {S : Type 0} where
       ap (λ l. l ++ own_part k back) (e.1 k) ∙ ap (λ b. line_at ls k ++ own_part k b) e.0 ∙ ap (λ l. l ++ own_part k p) (sym (ap (λ a. line_at ls k ++ aside_at k a) none ∙ append-nil (line_at ls k)))
 
   -- the first post that waits, of a line
-  pub first_in_line : (ls ls' : List (Line S)) (a : Option (Post S)) (place : ℕ) (p : Post S) → ((k : ℕ) → line_at ls k ≡ first_part place k p ++ line_at ls' k)
+  pub first_in_line : (ls ls' : List (SeatLine S)) (a : Option (Post S)) (place : ℕ) (p : Post S) → ((k : ℕ) → line_at ls k ≡ first_part place k p ++ line_at ls' k)
       → (k : ℕ) → waiting_in ls a k ≡ first_part place k p ++ waiting_in ls' a k
   first_in_line ls ls' a place p e k = ap (λ l. l ++ aside_at k a) (e k) ∙ append_assoc (first_part place k p) (line_at ls' k) (aside_at k a)
 
-  aside_by : (ls ls' : List (Line S)) (place : ℕ) (p : Post S) → (line_at ls place ≡ []) × ((k : ℕ) → line_at ls' k ≡ line_at ls k)
+  aside_by : (ls ls' : List (SeatLine S)) (place : ℕ) (p : Post S) → (line_at ls place ≡ []) × ((k : ℕ) → line_at ls' k ≡ line_at ls k)
       → (k : ℕ) (b : Bool) → eqb place k ≡ b → line_at ls k ++ cond b (p ∷ []) [] ≡ cond b (p ∷ []) [] ++ (line_at ls' k ++ [])
   aside_by ls ls' place p none k true t =
       let here : line_at ls k ≡ [] = subst (λ n. line_at ls n ≡ []) (eqb-true place k t) none.0 in
@@ -104,7 +104,7 @@ module _ {S : Type 0} where
   aside_by ls ls' place p none k false t = append-nil (line_at ls k) ∙ sym (append-nil (line_at ls' k) ∙ none.1 k)
 
   -- and of what stands aside, where the line has none
-  pub first_aside : (ls ls' : List (Line S)) (a a' : Option (Post S)) (place : ℕ) (r : Option (Post S)) → (line_at ls place ≡ []) × ((k : ℕ) → line_at ls' k ≡ line_at ls k)
+  pub first_aside : (ls ls' : List (SeatLine S)) (a a' : Option (Post S)) (place : ℕ) (r : Option (Post S)) → (line_at ls place ≡ []) × ((k : ℕ) → line_at ls' k ≡ line_at ls k)
       → MatchOption r (a' ≡ a) (λ p. (a ≡ Some p) × (place_of_post p ≡ place) × (a' ≡ None))
       → MatchOption r ((k : ℕ) → waiting_in ls' a' k ≡ waiting_in ls a k) (λ p. (k : ℕ) → waiting_in ls a k ≡ first_part place k p ++ waiting_in ls' a' k)
   first_aside ls ls' a a' place None none e = λ k. ap (λ l. l ++ aside_at k a') (none.1 k) ∙ ap (λ x. line_at ls k ++ aside_at k x) e
@@ -115,5 +115,5 @@ module _ {S : Type 0} where
       ∙ ap (λ x. first_part place k p ++ (line_at ls' k ++ aside_at k x)) (sym e.2)))
 
   -- nobody waits at a place where nobody does in its line, and nothing stands aside
-  pub free : (ls : List (Line S)) (a : Option (Post S)) (k : ℕ) → a ≡ None → line_at ls k ≡ [] → waiting_in ls a k ≡ []
+  pub free : (ls : List (SeatLine S)) (a : Option (Post S)) (k : ℕ) → a ≡ None → line_at ls k ≡ [] → waiting_in ls a k ≡ []
   free ls a k none line = ap (λ l. l ++ aside_at k a) line ∙ ap (λ x. aside_at k x) none

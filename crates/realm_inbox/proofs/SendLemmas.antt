@@ -57,7 +57,7 @@ use Rattle.realm_inbox.specs.contracts.history.RealmMomentOwedItem.TheImpl as mo
 use Rattle.realm_inbox.specs.contracts.joining.Joining as Joining
 use Rattle.realm_inbox.specs.contracts.letter.Letter as Letter
 use Rattle.realm_inbox.specs.contracts.letter.Post as Post
-use Rattle.realm_inbox.specs.contracts.line.Line as Line
+use Rattle.realm_inbox.specs.contracts.seat_line.SeatLine as SeatLine
 use Rattle.realm_inbox.specs.contracts.room_bell.RoomBell as RoomBell
 use Rattle.realm_inbox.specs.contracts.rule.InTurn as InTurn
 use Rattle.realm_inbox.specs.contracts.rule.InTurnProtocolPostInboxView.TheImpl as in_turn
@@ -150,12 +150,12 @@ module _ (S : RattleType) where
   post_send : IsSend S → IsSend (Post.the_row S)
   post_send s = variants_send (Post.enum S) ((letter_send s, tt), ((search (crosses, sendable) depth 60, tt), tt))
 
-  line_send : IsSend S → IsSend (Line.the_row S)
-  line_send s = declared_send (Line.the_type S) (as_row_send (Deque.the_field (Post.the_row S) Global.the_row global.ghosts) (heap.Deque-send _ (post_send s)), tt)
+  line_send : IsSend S → IsSend (SeatLine.the_row S)
+  line_send s = declared_send (SeatLine.the_type S) (as_row_send (Deque.the_field (Post.the_row S) Global.the_row global.ghosts) (heap.Deque-send _ (post_send s)), tt)
 
   lines_send : IsSend S → IsSend (SeatLines.the_row S)
   lines_send s = declared_send (SeatLines.the_type S)
-      (as_row_send (Vec.the_field (Line.the_row S) Global.the_row global.ghosts) (heap.Vec-send _ (line_send s)), (option_send (Post.the_row S) (post_send s), search sendable))
+      (as_row_send (Vec.the_field (SeatLine.the_row S) Global.the_row global.ghosts) (heap.Vec-send _ (line_send s)), (option_send (Post.the_row S) (post_send s), search sendable))
 
 module _ (S : RattleType) (shut : Ghosts S.Denot) where
   abbrev post : RattleType

@@ -3,7 +3,7 @@ use Rattle.std.specs.Prelude.{◌≡◌, Option, Some, None, ℕ, zero, suc, ◌
 use Rattle.atomic_table.specs.Seated.{TableId}
 use Rattle.wamp_ids.specs.Numbers.{seat_of}
 use Rattle.realm_inbox.specs.declared.letter.Post.{Post}
-use Rattle.realm_inbox.specs.declared.line.Line.{Line}
+use Rattle.realm_inbox.specs.declared.seat_line.SeatLine.{SeatLine}
 use Rattle.realm_inbox.specs.declared.seat_lines.SeatLines.{SeatLines}
 use Rattle.realm_inbox.specs.declared.letter.Post.TheVariants as post
 use Rattle.realm_inbox.specs.Seats.{at_seat, InOrder, EachHomed}
@@ -28,7 +28,7 @@ module _ {S : Type 0} where
   AllAt k (p ∷ ps) = (place_of_post p ≡ k) × AllAt k ps
 
   -- the line of the place k
-  abbrev pub line_at : List (Line S) → ℕ → List (Post S)
+  abbrev pub line_at : List (SeatLine S) → ℕ → List (Post S)
   line_at [] k = []
   line_at (l ∷ ls) zero = l.posts.items
   line_at (l ∷ ls) (suc k) = line_at ls k
@@ -38,7 +38,7 @@ module _ {S : Type 0} where
   aside_at k (Some p) = own_part k p
 
   -- what waits at the place k: its line, and what stands aside for want of memory
-  abbrev pub waiting_in : List (Line S) → Option (Post S) → ℕ → List (Post S)
+  abbrev pub waiting_in : List (SeatLine S) → Option (Post S) → ℕ → List (Post S)
   waiting_in lines aside k = line_at lines k ++ aside_at k aside
 
   abbrev pub waiting : SeatLines S → ℕ → List (Post S)

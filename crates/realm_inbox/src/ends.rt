@@ -77,7 +77,8 @@ pub struct Inbox<S: Shut> {
     pub(crate) pass: Ticket<S>,
     ghost at: { IsSeatAt (receives_on receiver) pass },
     ghost reads: { is_reader next (view pass) ≡ true },
-    ghost dealt: { ∥ IsDealt (home_in (view pass)) (received_in (view pass)) (items_of given) (waiting lines) ∥₁ },
+    ghost dealt: { ∥ IsDealt (home_in (view pass)) (received_in (view pass)) (items_of given)
+        (waiting lines) ∥₁ },
 }
 
 impl<S: Shut> Inbox<S> {

@@ -3,8 +3,8 @@ ghost use Rattle.std.specs.Prelude.{◌≡◌, ℕ, ◌++◌, ◌∷◌, [], Non
 ghost use Rattle.realm_inbox.specs.SeatLines.{first_part, line_at, own_part, place_of_post, waiting, waiting_in};
 
 use crate::letter::Post;
-use crate::line::Line;
 use crate::schedule::Schedule;
+use crate::seat_line::SeatLine;
 use crate::transport::Shut;
 use std::alloc::{AllocError, Global};
 use wamp_ids::{SEATS, seat};
@@ -23,7 +23,7 @@ pub(crate) fn place_of<S: Shut>(post: &Post<S>) -> u64
 #[derive(Drop)]
 pub(crate) struct SeatLines<S: Shut> {
     // Of each place from 0 to 256.
-    pub(crate) lines: Vec<Line<S>>,
+    pub(crate) lines: Vec<SeatLine<S>>,
     // A post for which its line found no memory. It waits behind that line.
     pub(crate) aside: Option<Post<S>>,
     // How many wait.
@@ -116,18 +116,18 @@ impl<S: Shut> SeatLines<S> {
 }
 
 // A line for each place, with nobody in it.
-fn empty_lines<S: Shut>(alloc: Global) -> Result<Vec<Line<S>>, AllocError>
+fn empty_lines<S: Shut>(alloc: Global) -> Result<Vec<SeatLine<S>>, AllocError>
     ensures { IfOk result (λ lines. (k : ℕ) → line_at lines.items k ≡ []) }
 {
     let mut lines = Vec::with_capacity(alloc, SEATS as usize + 1)?;
     for _place in 0..=SEATS {
-        lines.push(Line::new(alloc))?;
+        lines.push(SeatLine::new(alloc))?;
     }
     Ok(lines)
 }
 
 // Whether nobody waits in the line of a place.
-fn is_empty_at<S: Shut>(lines: &Vec<Line<S>>, place: u64) -> bool
+fn is_empty_at<S: Shut>(lines: &Vec<SeatLine<S>>, place: u64) -> bool
     ensures { result ≡ true → line_at lines.now.items place ≡ [] }
 {
     let place = place as usize;
@@ -139,7 +139,7 @@ fn is_empty_at<S: Shut>(lines: &Vec<Line<S>>, place: u64) -> bool
 
 // The first post that waits at a place, which leaves: of its line, or the one that stands aside.
 fn first_of<S: Shut>(
-    lines: &mut Vec<Line<S>>,
+    lines: &mut Vec<SeatLine<S>>,
     aside: &mut Option<Post<S>>,
     place: u64,
 ) -> Option<Post<S>>
@@ -156,10 +156,11 @@ fn first_of<S: Shut>(
 }
 
 // Puts a post behind its line. It comes back where there was no memory for that.
-fn into_line<S: Shut>(lines: &mut Vec<Line<S>>, post: Post<S>) -> Option<Post<S>>
+fn into_line<S: Shut>(lines: &mut Vec<SeatLine<S>>, post: Post<S>) -> Option<Post<S>>
     ensures { MatchOption result
         ((k : ℕ) → line_at lines.new.items k ≡ line_at lines.old.items k ++ own_part k post)
-        (λ back. (back ≡ post) × ((k : ℕ) → line_at lines.new.items k ≡ line_at lines.old.items k)) }
+        (λ back. (back ≡ post)
+        × ((k : ℕ) → line_at lines.new.items k ≡ line_at lines.old.items k)) }
 {
     let place = place_of(&post) as usize;
     if lines.len() <= place {
@@ -169,10 +170,11 @@ fn into_line<S: Shut>(lines: &mut Vec<Line<S>>, post: Post<S>) -> Option<Post<S>
 }
 
 // The first post of a line, which leaves.
-fn out_of_line<S: Shut>(lines: &mut Vec<Line<S>>, place: u64) -> Option<Post<S>>
+fn out_of_line<S: Shut>(lines: &mut Vec<SeatLine<S>>, place: u64) -> Option<Post<S>>
     ensures { MatchOption result ((line_at lines.old.items place ≡ [])
         × ((k : ℕ) → line_at lines.new.items k ≡ line_at lines.old.items k))
-        (λ p. (k : ℕ) → line_at lines.old.items k ≡ first_part place k p ++ line_at lines.new.items k) }
+        (λ p. (k : ℕ) → line_at lines.old.items k
+        ≡ first_part place k p ++ line_at lines.new.items k) }
 {
     let place = place as usize;
     if lines.len() <= place {

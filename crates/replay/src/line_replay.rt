@@ -42,7 +42,11 @@ impl Model for LineReplay {
 
     ghost use Rattle.replay.specs.LineReplays.{IsLineReplay};
 
-    ghost view = { λ s. record { realm = s.name; named = s.named.items; history = s.world.history } };
+    ghost view = { λ s. record {
+      realm = s.name;
+      named = s.named.items;
+      history = s.world.history;
+    } };
 
     ghost invariant = { λ s.
         IsLineReplay (record { realm = s.name; named = s.named.items; history = s.world.history })

@@ -34,7 +34,12 @@ impl Model for ReplayInput {
 
     ghost coded = { told_code };
 
-    ghost view = { λ t. record { replay = t.script; rest = t.rest.items; count = t.count; out = t.out.items } };
+    ghost view = { λ t. record {
+      replay = t.script;
+      rest = t.rest.items;
+      count = t.count;
+      out = t.out.items;
+    } };
 }
 
 impl ReplayInput {

@@ -1,6 +1,6 @@
 -- A conversation with a client, in its midst.
 use Rattle.std.proofs.Common.{◌≡◌, ◌⊎◌, ℕ, List, [], ◌∷◌, ◌++◌, Option, Some, None, Result, Err, inl, inr, refl, sym, ap, ◌∙◌, subst, append_assoc, append-nil}
-use Rattle.rawsocket.specs.Frames.{Content, spelled, fault_of, Reads}
+use Rattle.rawsocket.specs.Frames.{Content, spelled, fault_of, Reads, router_takes}
 use Rattle.rawsocket.specs.declared.fault.Fault as stream
 use Rattle.rawsocket.specs.declared.frame.Kind.{Kind}
 use Rattle.rawsocket.specs.declared.frame.Kind.TheVariants.{Message, Ping, Pong}
@@ -41,10 +41,10 @@ module _ (s : Serializer) (limit : ℕ) (realms : List (List ℕ)) where
     pub frames : List Content
     pub read : given ≡ given_before ++ octets
     pub wrote : taken ≡ taken_before ++ written
-    pub reads : Reads octets frames held
-    pub leads : Leads (terms s limit realms) (fault_of held) frames written v
+    pub reads : Reads router_takes octets frames held
+    pub leads : Leads (terms s limit realms) (fault_of router_takes held) frames written v
 
-  pub Conversing-start : (given taken held : List ℕ) → held ≡ [] → Reads [] [] held → Conversing given given taken taken held Undecided
+  pub Conversing-start : (given taken held : List ℕ) → held ≡ [] → Reads router_takes [] [] held → Conversing given given taken taken held Undecided
   Conversing-start given taken held empty reads = record {
     octets = [];
     written = [];
@@ -52,7 +52,7 @@ module _ (s : Serializer) (limit : ℕ) (realms : List (List ℕ)) where
     read = sym (append-nil given);
     wrote = sym (append-nil taken);
     reads = reads;
-    leads = subst (λ h. Leads (terms s limit realms) (fault_of h) [] [] Undecided) (sym empty) (refl, refl);
+    leads = subst (λ h. Leads (terms s limit realms) (fault_of router_takes h) [] [] Undecided) (sym empty) (refl, refl);
   }
 
   pub Conversing-more : (given_before given after taken_before taken taken_after held new piece : List ℕ) (v : Verdict) → after ≡ given ++ piece
@@ -63,8 +63,8 @@ module _ (s : Serializer) (limit : ℕ) (realms : List (List ℕ)) where
     frames = so_far.frames ++ goes.frames;
     read = more ∙ (ap (λ g. g ++ piece) so_far.read ∙ append_assoc given_before so_far.octets piece);
     wrote = goes.wrote ∙ (ap (λ t. t ++ goes.out) so_far.wrote ∙ append_assoc taken_before so_far.written goes.out);
-    reads = pieces_join so_far.octets piece held new so_far.frames goes.frames so_far.reads goes.reads;
-    leads = Leads-join (fault_of held) (fault_of new) so_far.frames goes.frames so_far.written goes.out v so_far.leads goes.leads;
+    reads = pieces_join router_takes so_far.octets piece held new so_far.frames goes.frames so_far.reads goes.reads;
+    leads = Leads-join (fault_of router_takes held) (fault_of router_takes new) so_far.frames goes.frames so_far.written goes.out v so_far.leads goes.leads;
   }
 
   pub Conversing-answered : (given_before given taken_before taken held : List ℕ) (v : Verdict) (answer : Result Session Fault) → Conversing given_before given taken_before taken held v

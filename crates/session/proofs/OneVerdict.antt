@@ -3,7 +3,7 @@ use Rattle.std.proofs.Common.{◌≡◌, ◌⊎◌, ℕ, List, [], ◌∷◌, �
 use Rattle.message_tree.specs.Data.{Data}
 use Rattle.json_codec.proofs.Lemmas.{deep-no-other, one-tree, readable}
 use Rattle.msgpack_codec.proofs.Lemmas.{one_spelling, spelled-not-deep}
-use Rattle.rawsocket.specs.Frames.{Content, fault_of, Reads, kept, spelled}
+use Rattle.rawsocket.specs.Frames.{Content, fault_of, Reads, kept, spelled, router_takes}
 use Rattle.rawsocket.specs.Handshakes.{accepting, answered}
 use Rattle.rawsocket.specs.declared.fault.Fault as stream
 use Rattle.rawsocket.specs.declared.frame.Kind.{Kind}
@@ -174,16 +174,16 @@ leads-once s limit realms fault (c ∷ frames) out told v w x y =
     by-kind s limit realms c.payload frames (Leads (terms s limit realms) fault frames) (leads-once s limit realms fault frames) c.kind out told v w x y
 
 -- octets are split in one way, and one rest is held
-reads-once : (octets : List ℕ) (frames others : List Content) (held left : List ℕ) → Reads octets frames held → Reads octets others left → (others ≡ frames) × (left ≡ held)
+reads-once : (octets : List ℕ) (frames others : List Content) (held left : List ℕ) → Reads router_takes octets frames held → Reads router_takes octets others left → (others ≡ frames) × (left ≡ held)
 reads-once octets frames others held left x y =
-    let same = one_split others frames octets y.rest x.rest y.splits x.splits in
-    (same.0, y.held_is ∙ (ap kept same.1 ∙ sym x.held_is))
+    let same = one_split router_takes others frames octets y.rest x.rest y.splits x.splits in
+    (same.0, y.held_is ∙ (ap (kept router_takes) same.1 ∙ sym x.held_is))
 
 pub one-verdict : OneVerdict
 one-verdict s limit realms octets frames others held left written told v w x y leads other =
     let same = reads-once octets frames others held left x y in
-    leads-once s limit realms (fault_of held) frames written told v w leads
-    (subst (λ fs. Leads (terms s limit realms) (fault_of held) fs told w) same.0 (subst (λ h. Leads (terms s limit realms) (fault_of h) others told w) same.1 other))
+    leads-once s limit realms (fault_of router_takes held) frames written told v w leads
+    (subst (λ fs. Leads (terms s limit realms) (fault_of router_takes held) fs told w) same.0 (subst (λ h. Leads (terms s limit realms) (fault_of router_takes h) others told w) same.1 other))
 
 one-answer : (s : Serializer) (limit : ℕ) (held : List ℕ) (v : Verdict) (a b : Result Session Fault) → IsAnswer s limit held v a → IsAnswer s limit held v b → AreAlike a b
 one-answer s limit held Undecided a b x y = inr (x, y)

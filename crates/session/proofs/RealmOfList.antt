@@ -5,7 +5,7 @@ use Rattle.std.specs.Option.{option_map}
 use Rattle.std.specs.List.{position}
 use Rattle.std.specs.Str.{bytes_eq}
 use Rattle.std.proofs.lemmas.List.Quantifiers.{position-Some}
-use Rattle.rawsocket.specs.Frames.{Content, fault_of}
+use Rattle.rawsocket.specs.Frames.{Content, fault_of, router_takes}
 use Rattle.rawsocket.specs.declared.fault.Fault as stream
 use Rattle.rawsocket.specs.declared.frame.Kind.{Kind}
 use Rattle.rawsocket.specs.declared.frame.Kind.TheVariants.{Message, Ping, Pong}
@@ -60,4 +60,4 @@ module _ (s : Serializer) (limit : ℕ) (realms : List (List ℕ)) where
   answer_within held (Refuses f) session within e = absurd (cc)
 
   pub opened_within : (octets written : List ℕ) (session : Session) → Converses (terms s limit realms) octets written (Ok session) → session.realm < length realms
-  opened_within octets written session c = answer_within c.held c.verdict session (Leads-within (fault_of c.held) c.frames written c.verdict c.leads) c.answers
+  opened_within octets written session c = answer_within c.held c.verdict session (Leads-within (fault_of router_takes c.held) c.frames written c.verdict c.leads) c.answers

@@ -2,7 +2,7 @@
 use Rattle.std.proofs.Common.{◌≡◌, ◌⊎◌, List, [], ◌++◌, length, drop, ℕ, Result, Ok, Err, inl, inr, refl, sym, ap, ◌∙◌, subst, arith, append_assoc, append-nil}
 use Rattle.std.proofs.lemmas.List.{drop_all}
 use Rattle.rawsocket.specs.Devices.{GrowsByBeginning}
-use Rattle.rawsocket.specs.Frames.{fault_of, Reads}
+use Rattle.rawsocket.specs.Frames.{fault_of, Reads, router_takes}
 use Rattle.rawsocket.specs.Handshakes.{accepting, answered, reply_of}
 use Rattle.rawsocket.specs.declared.handshake.Serializer.{Serializer}
 use Rattle.rawsocket.specs.declared.handshake.Handshake.{Handshake}
@@ -19,7 +19,7 @@ use Rattle.session.proofs.OpenSessionLemmas.{accepted_opening}
 -- an answer that a verdict allows
 abbrev answer_of : Serializer → ℕ → List ℕ → Verdict → Result Session Fault
 answer_of s limit held Undecided = Err Ended
-answer_of s limit held (Opens realm authid early) = Ok (record { serializer = s; limit = limit; realm = realm; authid = authid; early = early; held = held })
+answer_of s limit held (Opens realm authid early) = Ok (record { serializer = s; limit = limit; realm = realm; authid = authid; early = early; held = record { most = router_takes; held = held } })
 answer_of s limit held (Refuses fault) = Err fault
 
 answer_is : (s : Serializer) (limit : ℕ) (held : List ℕ) (v : Verdict) → IsAnswer s limit held v (answer_of s limit held v)
@@ -53,9 +53,9 @@ module _ (s : Serializer) (limit : ℕ) (realms : List (List ℕ)) where
     converses = record {
       frames = so_far.frames ++ goes.frames;
       held = goes.new;
-      reads = pieces_join so_far.octets piece held goes.new so_far.frames goes.frames so_far.reads goes.reads;
+      reads = pieces_join router_takes so_far.octets piece held goes.new so_far.frames goes.frames so_far.reads goes.reads;
       verdict = goes.verdict;
-      leads = Leads-join s limit realms (fault_of held) (fault_of goes.new) so_far.frames goes.frames so_far.written goes.out goes.verdict so_far.leads goes.leads;
+      leads = Leads-join s limit realms (fault_of router_takes held) (fault_of router_takes goes.new) so_far.frames goes.frames so_far.written goes.out goes.verdict so_far.leads goes.leads;
       answers = answer_is s limit goes.new goes.verdict;
     };
   }
@@ -77,7 +77,7 @@ follows_alone : (realms : List (List ℕ)) (a : Handshake) (octets : List ℕ) �
 follows_alone realms (Accept s most) octets e = record {
   more = [];
   written_is = sym (append-nil (accepting s));
-  converses = record { frames = []; held = []; reads = subst (λ x. Reads x [] []) (sym e) (nothing_read [] refl); verdict = Undecided; leads = (refl, refl); answers = inl refl };
+  converses = record { frames = []; held = []; reads = subst (λ x. Reads router_takes x [] []) (sym e) (nothing_read router_takes [] refl); verdict = Undecided; leads = (refl, refl); answers = inl refl };
 }
 follows_alone realms (Refuse f) octets e = (refl, refl)
 follows_alone realms Dropped octets e = (refl, refl)

@@ -2,7 +2,7 @@
 use Rattle.std.specs.Prelude.{◌≡◌, ◌<◌, ◌⊎◌, ℕ, List, ◌++◌, length, Result, option_map, string_bytes}
 use Rattle.std.specs.declared.option.Option.{Option}
 use Rattle.rawsocket.specs.Devices.{GrowsByBeginning}
-use Rattle.rawsocket.specs.Frames.{Content, contents, fault_of, Reads}
+use Rattle.rawsocket.specs.Frames.{Content, contents, fault_of, Reads, router_takes}
 use Rattle.rawsocket.specs.declared.fault.Fault as stream
 use Rattle.session.specs.Opened.{Converses, Exchange, Leads, Session, Terms, Verdict, Undecided, Opens, Refuses}
 use Rattle.session.specs.declared.fault.Fault.{Fault}
@@ -48,20 +48,20 @@ stand held taken = record { held = held; taken = taken }
 -- the next octets complete frames that decide so, and what is written for them is written
 pub record GoesOn (t : Terms) (piece : List ℕ) (before now : Stand) (v : Verdict) : Type 0 where
   pub frames : List Content
-  pub reads : Reads (before.held ++ piece) frames now.held
+  pub reads : Reads router_takes (before.held ++ piece) frames now.held
   pub out : List ℕ
   pub wrote : now.taken ≡ before.taken ++ out
-  pub leads : Leads t (fault_of now.held) frames out v
+  pub leads : Leads t (fault_of router_takes now.held) frames out v
 
 -- of what is written for the frames that the next octets complete a beginning is written
 pub record GoesOnPartly (t : Terms) (piece : List ℕ) (before : Stand) (taken : List ℕ) : Type 0 where
   pub new : List ℕ
   pub frames : List Content
-  pub reads : Reads (before.held ++ piece) frames new
+  pub reads : Reads router_takes (before.held ++ piece) frames new
   pub verdict : Verdict
   pub out : List ℕ
   pub wrote : GrowsByBeginning before.taken taken out
-  pub leads : Leads t (fault_of new) frames out verdict
+  pub leads : Leads t (fault_of router_takes new) frames out verdict
 
 -- the octets after a handshake, of what was read and written since
 pub record ConversesSince (t : Terms) (before now : Exchange) (answer : Result Session Fault) : Type 0 where

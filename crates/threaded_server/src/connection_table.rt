@@ -70,10 +70,14 @@ pub struct ConnectionTable<
     ghost same: { arc_value plan ≡ roster.over.plan.value },
     ghost free: { Stand (places_of (realms_of realms)) (lists_of posters) } by { Prim.hlevel (codes, history_code, data_code, entries_code, trail_code) },
     ghost served: { Stand (places_of (realms_of realms)) (lists_at roster.entries.items) } by { Prim.hlevel (codes, history_code, data_code, entries_code, trail_code) },
-    ghost say: { ∥ AllSay posted (length roster.over.plan.value.realms.items) (length (realms_of realms)) (λ realm number. posts_at realm number (items_of roster.over.streams)) (lists_of posters) (lists_at roster.entries.items) ∥₁ },
+    ghost say: { ∥ AllSay posted (length roster.over.plan.value.realms.items)
+        (length (realms_of realms))
+        (λ realm number. posts_at realm number (items_of roster.over.streams))
+        (lists_of posters) (lists_at roster.entries.items) ∥₁ },
     ghost numbered: { Numbered seats roster.entries.items (items_of roster.over.streams) },
     ghost seated: { AreSeated seats roster.entries.items (items_of roster.lent) },
-    ghost kept: { ∥ All (λ over. OverKept (realms_of realms) over) (items_of roster.over.streams) ∥₁ },
+    ghost kept: { ∥ All (λ over. OverKept (realms_of realms) over)
+        (items_of roster.over.streams) ∥₁ },
     ghost grants: { All (λ realm. HasGrants roster.over.plan.value realm) (realms_of realms) },
 }
 
@@ -194,7 +198,8 @@ impl<
         ensures runs { All
             (λ run. IsRun (pairs_of self.roster.over.plan.value.config.value.grants.items) run)
             (items_of result) }
-        ensures only_posted { ∥ OnlyPosted (items_of result) (items_of self.roster.over.streams) ∥₁ }
+        ensures only_posted { ∥ OnlyPosted (items_of result)
+            (items_of self.roster.over.streams) ∥₁ }
         ensures apart { AreApart (conns_of (items_of self.roster.over.streams)) }
         ensures tied { ∥ All (λ over. OverTied (items_of result) over)
             (items_of self.roster.over.streams) ∥₁ }

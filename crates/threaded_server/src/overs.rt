@@ -16,7 +16,8 @@ use std::snapshot::Snapshot;
 pub struct Overs<I: Source, O: Sink, S: Shut> {
     plan: Snapshot<Plan>,
     streams: GhostList<Over<I, O, S>>,
-    ghost went: { All (λ it. ∥ Went (sight I.seen O.seen) (offer_of plan.value) it ∥₁) (items_of streams) },
+    ghost went: { All (λ it. ∥ Went (sight I.seen O.seen) (offer_of plan.value) it ∥₁)
+        (items_of streams) },
 }
 
 impl<I: Source, O: Sink, S: Shut> Overs<I, O, S> {

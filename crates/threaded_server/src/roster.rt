@@ -31,8 +31,10 @@ pub struct Roster<
     entries: Vec<Option<Connection<I, O, S>>>,
     lent: GhostList<(I, O)>,
     over: Overs<I, O, S>,
-    ghost own: { All (λ slot. ForSome slot (λ entry. IsOfPlan over.plan.value entry)) entries.items },
-    ghost balance: { ∥ Balances (items_of lent) (map before_of (items_of over.streams)) (map halves_of (in_slots entries.items)) ∥₁ },
+    ghost own: { All (λ slot. ForSome slot (λ entry. IsOfPlan over.plan.value entry))
+        entries.items },
+    ghost balance: { ∥ Balances (items_of lent) (map before_of (items_of over.streams))
+        (map halves_of (in_slots entries.items)) ∥₁ },
     ghost found: { ∥ AllFound (items_of lent) (items_of over.streams) ∥₁ },
 }
 

@@ -82,7 +82,8 @@ pub struct TcpAcceptor<R: Clock + Drop> {
     answers: GhostList<Answer>,
     account: Account<ReadSource<TcpHandle>, WriteSink<TcpHandle>>,
     made: GhostCount,
-    pub ghost named: { AreNamed (shown account.lent) made (λ h. h.0.name.value) (λ h. h.1.name.value) },
+    pub ghost named: { AreNamed (shown account.lent) made (λ h. h.0.name.value)
+        (λ h. h.1.name.value) },
 }
 
 impl<R: Clock + Drop> TcpAcceptor<R> {

@@ -9,8 +9,8 @@ use Rattle.msgpack_cursor.specs.Standing.{value_in, rest_in}
 use Rattle.rawsocket.specs.declared.handshake.Serializer.TheVariants.{Json}
 use Rattle.arguments.specs.Arguments.{Arguments, FitMessages, is_all_carried}
 use Rattle.arguments.specs.Endings.{IsEndingIfAny}
-use Rattle.arguments.specs.declared.held.Given.{Given}
-use Rattle.arguments.specs.declared.held.Given.TheVariants.{Spelled, Trees, Written}
+use Rattle.arguments.specs.declared.held.HeldArguments.{HeldArguments}
+use Rattle.arguments.specs.declared.held.HeldArguments.TheVariants.{Spelled, Trees, Written}
 
 -- the first value of octets, and the second
 abbrev pub first_in : List ℕ → Data
@@ -22,7 +22,7 @@ second_in octets = value_in 100 (rest_in 100 octets)
 abbrev pub written_in : List ℕ → Bool → Arguments
 written_in octets has_kwargs = record { args = Some (first_in octets); kwargs = if has_kwargs then Some (second_in octets) else None }
 
-abbrev pub arguments_in : Given → Arguments
+abbrev pub arguments_in : HeldArguments → Arguments
 arguments_in (Trees args kwargs) = record { args = Some args; kwargs = kwargs }
 arguments_in (Written octets has_kwargs) = written_in octets has_kwargs
 arguments_in (Spelled octets has_kwargs) = written_in octets has_kwargs
@@ -56,22 +56,22 @@ pub record AreSpelled (octets : List ℕ) (has_kwargs : Bool) : Type 0 where
   pub values : HasValues octets has_kwargs
   pub uncarried : is_all_carried (written_in octets has_kwargs) ≡ false
 
-abbrev pub IsGiven : Given → Type 0
+abbrev pub IsGiven : HeldArguments → Type 0
 IsGiven (Trees args kwargs) = ⊤
 IsGiven (Written octets has_kwargs) = AreWritten octets has_kwargs
 IsGiven (Spelled octets has_kwargs) = AreSpelled octets has_kwargs
 
 -- arguments that are there, and what they are in JSON where that is kept
-pub record AreHeld (given : Given) (json : Option (List ℕ)) : Type 0 where
+pub record AreHeld (given : HeldArguments) (json : Option (List ℕ)) : Type 0 where
   pub fit : FitMessages (arguments_in given)
   pub is_given : IsGiven given
   pub json_is : IsEndingIfAny Json (arguments_in given) json
 
 -- the arguments that are held, where any are
-abbrev pub held_arguments : Option Given → Arguments
+abbrev pub held_arguments : Option HeldArguments → Arguments
 held_arguments None = record { args = None; kwargs = None }
 held_arguments (Some given) = arguments_in given
 
-abbrev pub AreHeldIfAny : Option Given → Option (List ℕ) → Type 0
+abbrev pub AreHeldIfAny : Option HeldArguments → Option (List ℕ) → Type 0
 AreHeldIfAny None json = ⊤
 AreHeldIfAny (Some given) json = AreHeld given json

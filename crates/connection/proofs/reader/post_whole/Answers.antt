@@ -4,18 +4,18 @@ use Rattle.connection.proofs.PiecePosted.{front_next, front_start}
 use Rattle.connection.proofs.reader.post_whole.Goals as goal
 
 pub frames-init : goal.frames-init
-frames-init g c = front_start c.args.serializer c.args.octets.now (g.P.Posting.posted c.args.poster.now)
+frames-init g c = front_start c.args.deframer.now.most c.args.serializer c.args.octets.now (g.P.Posting.posted c.args.poster.now)
 
 pub frames-preserved : goal.frames-preserved
 frames-preserved g c =
     let frame : Content = record { kind = c.in-Some.kind; payload = c.in-Some.payload.now } in
-    front_next c.args.serializer (Ok tt) frame c.args.octets.now c.frames.rest.now c.in-Some.after.now (g.P.Posting.posted c.args.poster.now) (g.P.Posting.posted c.frames.poster) (g.P.Posting.posted c.post_lying.new.poster)
+    front_next c.args.deframer.now.most c.args.serializer (Ok tt) frame c.args.octets.now c.frames.rest.now c.in-Some.after.now (g.P.Posting.posted c.args.poster.now) (g.P.Posting.posted c.frames.poster) (g.P.Posting.posted c.post_lying.new.poster)
     c.in-Some.ensures.len c.in-Some.ensures.found c.frames.invariant c.in_default-post_lying.ensures
 
 pub returns-in-Err-clause-ended : goal.returns-in-Err-clause-ended
 returns-in-Err-clause-ended g c =
     let frame : Content = record { kind = c.in-Some.kind; payload = c.in-Some.payload.now } in (
       c.in-Some.after.now,
-      front_next c.args.serializer (Err c.in-Err.end) frame c.args.octets.now c.frames.rest.now c.in-Some.after.now (g.P.Posting.posted c.args.poster.now) (g.P.Posting.posted c.frames.poster)
+      front_next c.args.deframer.now.most c.args.serializer (Err c.in-Err.end) frame c.args.octets.now c.frames.rest.now c.in-Some.after.now (g.P.Posting.posted c.args.poster.now) (g.P.Posting.posted c.frames.poster)
           (g.P.Posting.posted c.post_lying.new.poster) c.in-Some.ensures.len c.in-Some.ensures.found c.frames.invariant c.in-Err.ensures,
     )

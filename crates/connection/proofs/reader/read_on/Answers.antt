@@ -1,4 +1,5 @@
-use Rattle.std.proofs.Common.{ap, take, Err, [], arith}
+use Rattle.std.proofs.Common.{ap, ◌∙◌, take, Ok, Err, [], subst, arith}
+use Rattle.connection.specs.Reader.{IsAdvance, start, taking}
 use Rattle.std.proofs.lemmas.List.{length-take-le}
 use Rattle.rawsocket.specs.Frames.{contents}
 use Rattle.rawsocket.proofs.Lemmas.{all_turns, no_steps, then_steps, told_fine}
@@ -7,37 +8,39 @@ use Rattle.connection.proofs.reader.read_on.Goals as goal
 
 pub pieces-init : goal.pieces-init
 pieces-init g c = record {
-  onward = Onward-start c.args.serializer (contents c.args.early.items) c.args.deframer (g.I.Source.seen c.args.source.now).given (g.P.Posting.posted c.args.poster.now) (g.P.Posting.posted c.begin.new.poster) c.begin.new.deframer c.in_default.ensures;
+  onward = Onward-start c.args.serializer (contents c.args.early.items) c.args.deframer.most c.args.deframer.held (g.I.Source.seen c.args.source.now).given (g.P.Posting.posted c.args.poster.now) (g.P.Posting.posted c.begin.new.poster) c.begin.new.deframer.held c.in_default.ensures.advances;
+  most = c.in_default.ensures.most;
   steps = all_turns c.new-turns.ensures;
 }
 
 pub pieces-preserved : goal.pieces-preserved
 pieces-preserved g c = record {
-  onward = Onward-more c.args.serializer (contents c.args.early.items) c.args.deframer (g.I.Source.seen c.args.source.now).given (g.I.Source.seen c.pieces.source).given (g.I.Source.seen c.read_piece.new.source).given (take c.in-Ok.count c.read_piece.new.buffer)
-      (g.P.Posting.posted c.args.poster.now) (g.P.Posting.posted c.pieces.poster) (g.P.Posting.posted c.advance.new.poster) c.pieces.deframer c.advance.new.deframer c.pieces.invariant.onward c.in-Ok.ensures.given
-      c.in_default-advance.ensures;
+  onward = Onward-more c.args.serializer (contents c.args.early.items) c.args.deframer.most c.args.deframer.held (g.I.Source.seen c.args.source.now).given (g.I.Source.seen c.pieces.source).given (g.I.Source.seen c.read_piece.new.source).given (take c.in-Ok.count c.read_piece.new.buffer)
+      (g.P.Posting.posted c.args.poster.now) (g.P.Posting.posted c.pieces.poster) (g.P.Posting.posted c.advance.new.poster) c.pieces.deframer.held c.advance.new.deframer.held c.pieces.invariant.onward c.in-Ok.ensures.given
+      (subst (λ most. IsAdvance (start c.args.serializer [] (record { most = most; held = c.pieces.deframer.held })) (taking (take c.in-Ok.count c.read_piece.new.buffer) c.advance.new.deframer.held) (g.P.Posting.posted c.pieces.poster) (g.P.Posting.posted c.advance.new.poster) (Ok tt)) c.pieces.invariant.most c.in_default-advance.ensures.advances);
+  most = c.in_default-advance.ensures.most ∙ c.pieces.invariant.most;
   steps = then_steps c.pieces.invariant.steps c.in-Ok.ensures.steps;
 }
 
 pub returns-in-Err-clause-posted : goal.returns-in-Err-clause-posted
 returns-in-Err-clause-posted g c =
-    early_ends c.args.serializer (contents c.args.early.items) c.args.deframer c.in-Err.end (g.I.Source.seen c.args.source.now).given c.begin.new.deframer (g.P.Posting.posted c.args.poster.now) (g.P.Posting.posted c.begin.new.poster) c.in-Err.ensures
+    early_ends c.args.serializer (contents c.args.early.items) c.args.deframer.most c.args.deframer.held c.in-Err.end (g.I.Source.seen c.args.source.now).given c.begin.new.deframer.held (g.P.Posting.posted c.args.poster.now) (g.P.Posting.posted c.begin.new.poster) c.in-Err.ensures.advances
 
 pub returns-in-Err-read_piece-clause-posted : goal.returns-in-Err-read_piece-clause-posted
 returns-in-Err-read_piece-clause-posted g c =
-    Onward-stops c.args.serializer (contents c.args.early.items) c.args.deframer c.in-Err-read_piece.none c.from.result (g.I.Source.seen c.args.source.now).given (g.I.Source.seen c.pieces.source).given (g.I.Source.seen c.read_piece.new.source).given
-    (g.P.Posting.posted c.args.poster.now) (g.P.Posting.posted c.pieces.poster) c.pieces.deframer c.from.ensures c.pieces.invariant.onward c.in-Err-read_piece.ensures.kept
+    Onward-stops c.args.serializer (contents c.args.early.items) c.args.deframer.most c.args.deframer.held c.in-Err-read_piece.none c.from.result (g.I.Source.seen c.args.source.now).given (g.I.Source.seen c.pieces.source).given (g.I.Source.seen c.read_piece.new.source).given
+    (g.P.Posting.posted c.args.poster.now) (g.P.Posting.posted c.pieces.poster) c.pieces.deframer.held c.from.ensures c.pieces.invariant.onward c.in-Err-read_piece.ensures.kept
 
 pub returns-in-Err-advance-clause-posted : goal.returns-in-Err-advance-clause-posted
 returns-in-Err-advance-clause-posted g c =
-    Onward-ends c.args.serializer (contents c.args.early.items) c.args.deframer c.in-Err-advance.end (g.I.Source.seen c.args.source.now).given (g.I.Source.seen c.pieces.source).given (g.I.Source.seen c.read_piece.new.source).given (take c.in-Ok.count c.read_piece.new.buffer)
-    (g.P.Posting.posted c.args.poster.now) (g.P.Posting.posted c.pieces.poster) (g.P.Posting.posted c.advance.new.poster) c.pieces.deframer c.advance.new.deframer c.pieces.invariant.onward c.in-Ok.ensures.given
+    Onward-ends c.args.serializer (contents c.args.early.items) c.args.deframer.most c.args.deframer.held c.in-Err-advance.end (g.I.Source.seen c.args.source.now).given (g.I.Source.seen c.pieces.source).given (g.I.Source.seen c.read_piece.new.source).given (take c.in-Ok.count c.read_piece.new.buffer)
+    (g.P.Posting.posted c.args.poster.now) (g.P.Posting.posted c.pieces.poster) (g.P.Posting.posted c.advance.new.poster) c.pieces.deframer.held c.advance.new.deframer.held c.pieces.invariant.onward c.in-Ok.ensures.given
     (omega (arith, length-take-le c.in-Ok.count c.read_piece.new.buffer c.in-Ok.ensures.within, c.in-Ok.ensures.within, c.requires.piece, c.read_piece.auto.buffer, c.pieces.auto.buffer))
-    c.in-Err-advance.ensures
+    (subst (λ most. IsAdvance (start c.args.serializer [] (record { most = most; held = c.pieces.deframer.held })) (taking (take c.in-Ok.count c.read_piece.new.buffer) c.advance.new.deframer.held) (g.P.Posting.posted c.pieces.poster) (g.P.Posting.posted c.advance.new.poster) (Err c.in-Err-advance.end)) c.pieces.invariant.most c.in-Err-advance.ensures.advances)
 
 pub returns-in-Err-clause-reads : goal.returns-in-Err-clause-reads
 returns-in-Err-clause-reads g c =
-    let told = posting_told c.args.serializer (contents c.args.early.items) c.args.deframer [] c.begin.new.deframer (g.P.Posting.posted c.args.poster.now) (g.P.Posting.posted c.begin.new.poster) c.in-Err.end c.in-Err.ensures in
+    let told = posting_told c.args.serializer (contents c.args.early.items) c.args.deframer [] c.begin.new.deframer.held (g.P.Posting.posted c.args.poster.now) (g.P.Posting.posted c.begin.new.poster) c.in-Err.end c.in-Err.ensures.advances in
     record { left = 4294967296; steps = told_fine told (no_steps _) }
 
 pub returns-in-Err-read_piece-clause-reads : goal.returns-in-Err-read_piece-clause-reads
@@ -49,5 +52,5 @@ returns-in-Err-read_piece-clause-ended g c = λ is. c.in-Err-read_piece.ensures.
 
 pub returns-in-Err-advance-clause-reads : goal.returns-in-Err-advance-clause-reads
 returns-in-Err-advance-clause-reads g c =
-    let told = posting_told c.args.serializer [] c.pieces.deframer (take c.in-Ok.count c.read_piece.new.buffer) c.advance.new.deframer (g.P.Posting.posted c.pieces.poster) (g.P.Posting.posted c.advance.new.poster) c.in-Err-advance.end c.in-Err-advance.ensures in
+    let told = posting_told c.args.serializer [] c.pieces.deframer (take c.in-Ok.count c.read_piece.new.buffer) c.advance.new.deframer.held (g.P.Posting.posted c.pieces.poster) (g.P.Posting.posted c.advance.new.poster) c.in-Err-advance.end c.in-Err-advance.ensures.advances in
     record { left = c.read_piece.new.turns; steps = told_fine told (then_steps c.pieces.invariant.steps c.in-Ok.ensures.steps) }

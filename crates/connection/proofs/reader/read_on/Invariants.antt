@@ -1,3 +1,4 @@
+use Rattle.std.proofs.Common.{◌≡◌}
 use Rattle.rawsocket.specs.Frames.{contents}
 use Rattle.rawsocket.specs.Steps.{Fine, Steps, read_meter}
 use Rattle.connection.proofs.ReaderProgress.{Onward}
@@ -5,7 +6,8 @@ use Rattle.connection.proofs.reader.read_on.Given as goal
 
 abbrev pub invariant-pieces : goal.invariant-pieces
 invariant-pieces g l = record {
-  onward : Onward l.serializer (contents l.fn.early.items) l.fn.deframer (g.I.Source.seen l.fn.source).given (g.I.Source.seen l.source).given (g.P.Posting.posted l.fn.poster) (g.P.Posting.posted l.poster) l.deframer;
+  onward : Onward l.serializer (contents l.fn.early.items) l.fn.deframer.most l.fn.deframer.held (g.I.Source.seen l.fn.source).given (g.I.Source.seen l.source).given (g.P.Posting.posted l.fn.poster) (g.P.Posting.posted l.poster) l.deframer.held;
+  most : l.deframer.most ≡ l.fn.deframer.most;
   steps : Steps (read_meter (g.I.Source.seen l.fn.source) 4294967296) (read_meter (g.I.Source.seen l.source) l.turns) Fine;
 }
 

@@ -7,7 +7,7 @@ use Rattle.connection.proofs.reader.read_posts.Goals as goal
 
 pub returns-clause-posted : goal.returns-clause-posted
 returns-clause-posted g c =
-    departs_ends c.args.opened.serializer (contents c.args.opened.early.items) c.args.opened.deframer c.read_up_to-end.result c.leave.result (g.I.Source.seen c.args.source.now).given (g.I.Source.seen c.read_up_to-end.new.source).given
+    departs_ends c.args.opened.serializer (contents c.args.opened.early.items) c.args.opened.deframer.most c.args.opened.deframer.held c.read_up_to-end.result c.leave.result (g.I.Source.seen c.args.source.now).given (g.I.Source.seen c.read_up_to-end.new.source).given
     (g.P.Posting.posted c.args.poster.now) (g.P.Posting.posted c.read_up_to-end.new.poster) (g.P.Posting.posted c.leave.new.poster) c.read_up_to-end.ensures.posted c.leave.ensures
 
 pub returns-clause-ended : goal.returns-clause-ended

@@ -8,6 +8,7 @@ invariant_of-self g c =
     let rest = drop (length now) c.self.inside.buffer.items in
     record {
       fits = c.self.invariant.fits;
+      most = c.hear_next.ensures.most;
       steady = let next = c.hear_next.ensures.next in reads_held _ _ _ next.reads;
       room = omega (
         arith,

@@ -8,16 +8,16 @@ use std::collections::VecDeque;
 
 /// A line of posts, the oldest first.
 #[derive(Drop)]
-pub(crate) struct Line<S: Shut> {
+pub(crate) struct SeatLine<S: Shut> {
     pub(crate) posts: VecDeque<Post<S>>,
 }
 
-impl<S: Shut> Line<S> {
+impl<S: Shut> SeatLine<S> {
     /// Nobody waits. It takes no memory.
-    pub(crate) fn new(alloc: Global) -> Line<S>
+    pub(crate) fn new(alloc: Global) -> SeatLine<S>
         ensures { result.posts.items ≡ [] }
     {
-        Line {
+        SeatLine {
             posts: VecDeque::new(alloc),
         }
     }

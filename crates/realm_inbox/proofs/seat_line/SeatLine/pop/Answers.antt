@@ -1,6 +1,6 @@
 use Rattle.std.specs.VecDeque.{deque_len}
 use Rattle.realm_inbox.proofs.LinePlaces.{popped}
-use Rattle.realm_inbox.proofs.line.Line.pop.Goals as goal
+use Rattle.realm_inbox.proofs.seat_line.SeatLine.pop.Goals as goal
 
 pub returns : goal.returns
 returns g c =
