@@ -1,16 +1,7 @@
 -- Octets that are written in four pieces.
-use Rattle.std.proofs.Common.{◌≡◌, ◌++◌, ℕ, List, length, take, sym, ap, ◌∙◌, arith, append_assoc, length-append}
-use Rattle.std.proofs.lemmas.List.{take-append-le}
+use Rattle.std.proofs.Common.{◌≡◌, ◌++◌, ℕ, List, ap, ◌∙◌, append_assoc}
 use Rattle.rawsocket.specs.Devices.{GrowsByBeginning}
-use Rattle.rawsocket.proofs.Lemmas.{grown_further}
-
--- a beginning of the first piece is one of the whole
-pub grown_within : (before now piece more : List ℕ) → GrowsByBeginning before now piece → GrowsByBeginning before now (piece ++ more)
-grown_within before now piece more g = (g.0, omega (arith, g.1, length-append piece more), g.2 ∙ ap (λ t. before ++ t) (sym (take-append-le g.0 piece more g.1)))
-
--- the second piece is being written
-pub grown_second : (before one now a b more : List ℕ) → one ≡ before ++ a → GrowsByBeginning one now b → GrowsByBeginning before now (a ++ (b ++ more))
-grown_second before one now a b more e g = grown_further before one now a (b ++ more) e (grown_within one now b more g)
+use Rattle.rawsocket.proofs.Lemmas.{grown_further, grown_second}
 
 -- the third piece is being written
 pub grown_third : (before one two now a b c more : List ℕ) → one ≡ before ++ a → two ≡ one ++ b → GrowsByBeginning two now c → GrowsByBeginning before now (a ++ (b ++ (c ++ more)))

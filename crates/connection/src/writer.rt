@@ -1,16 +1,17 @@
 //! The writer of a connection: it takes items and writes their frames.
-ghost use Rattle.std.specs.Prelude.{◌≡◌, ◌≢◌, ◌≤◌, ◌<◌, ◌++◌, ◌∷◌, ◌⊎◌, [], length, IfOk, IfErr, OnOk, OnErr, ⊤};
+ghost use Rattle.std.specs.Prelude.{◌≡◌, ◌≢◌, ◌≤◌, ◌<◌, ◌++◌, ◌∷◌, ◌⊎◌, [], length, IfOk, IfErr, OnOk, OnErr, Some, ⊤};
 ghost use Rattle.rawsocket.specs.Devices.{Takes, TakesBeginning};
 ghost use Rattle.rawsocket.specs.Steps.{Steps, WriteSteps, told_by, write_meter};
 ghost use Rattle.outbox_queue.specs.Ends.{TookUnvouched, TookWhole};
 ghost use Rattle.outbox_queue.specs.Outbox.{MatchDrained};
+ghost use Rattle.session.specs.LargeFrames.{octets_in};
 ghost use Rattle.connection.specs.Writer.{IsWrittenBy, WritesSince, IsLater, write_told};
 ghost use Rattle.connection.specs.body.Writer.{IsOfDevice, HandsOver, EndsBetween, EndsWith, AddsFrame, BreaksAt, Passes, EndsFrom, output};
 
 use outbox_queue::{Drain, Drained, Next, Owed, Waited};
 use rawsocket::Serializer;
 use rawsocket::devices::{Sink, Turns, write_all};
-use session::{Fault, Item, write_item};
+use session::{Fault, FrameEnd, Item, write_unless_large};
 use std::alloc::Global;
 use std::sync::Wait;
 
@@ -99,6 +100,21 @@ impl Gathered {
     }
 }
 
+/// Writes octets from where they lie.
+fn write<S: Sink>(sink: &mut S, octets: &[u8], turns: &mut Turns) -> Result<(), WriteEnd>
+    ensures passed { OnOk result (Takes (S.seen sink.old) (S.seen sink.new) octets.now) }
+    ensures begun { TakesBeginning (S.seen sink.old) (S.seen sink.new) octets.now }
+    ensures which { IfErr result IsOfDevice }
+    ensures steps { Steps (write_meter (S.seen sink.old) turns.old)
+        (write_meter (S.seen sink.new) turns.new) (told_by write_told result) }
+{
+    match write_all(sink, octets, turns) {
+        Ok(()) => Ok(()),
+        Err(rawsocket::Fault::WriteFault) => Err(WriteEnd::Device),
+        Err(_) => Err(WriteEnd::TooManyTurns),
+    }
+}
+
 /// Hands what is gathered to the device. Nothing is gathered then, and no large buffer is kept.
 fn hand_over<S: Sink>(sink: &mut S, gathered: &mut Gathered) -> Result<(), WriteEnd>
     ensures passed { OnOk result
@@ -109,10 +125,8 @@ fn hand_over<S: Sink>(sink: &mut S, gathered: &mut Gathered) -> Result<(), Write
     ensures steps { Steps (write_meter (S.seen sink.old) gathered.old.turns)
         (write_meter (S.seen sink.new) gathered.new.turns) (told_by write_told result) }
 {
-    match write_all(sink, gathered.frames.as_slice(), &mut gathered.turns) {
-        Ok(()) => {}
-        Err(rawsocket::Fault::WriteFault) => return Err(WriteEnd::Device),
-        Err(_) => return Err(WriteEnd::TooManyTurns),
+    if let Err(end) = write(sink, gathered.frames.as_slice(), &mut gathered.turns) {
+        return Err(end);
     }
     if gathered.frames.capacity() > KEPT {
         gathered.frames = Vec::new(gathered.alloc);
@@ -120,6 +134,30 @@ fn hand_over<S: Sink>(sink: &mut S, gathered: &mut Gathered) -> Result<(), Write
         gathered.frames.clear();
     }
     Ok(())
+}
+
+/// Hands over what is gathered, and behind it the end of its last frame, which is copied nowhere.
+fn hand_over_large<S: Sink>(
+    sink: &mut S,
+    gathered: &mut Gathered,
+    end: FrameEnd,
+) -> Result<(), WriteEnd>
+    ensures passed { OnOk result (Takes (S.seen sink.old) (S.seen sink.new)
+        (gathered.old.frames.items ++ octets_in (Some end))) }
+    ensures empty { OnOk result (gathered.new.frames.items ≡ []) }
+    ensures begun { TakesBeginning (S.seen sink.old) (S.seen sink.new)
+        (gathered.old.frames.items ++ octets_in (Some end)) }
+    ensures which { IfErr result IsOfDevice }
+    ensures steps { Steps (write_meter (S.seen sink.old) gathered.old.turns)
+        (write_meter (S.seen sink.new) gathered.new.turns) (told_by write_told result) }
+{
+    if let Err(end) = hand_over(sink, gathered) {
+        return Err(end);
+    }
+    if let Err(end) = write(sink, end.arguments, &mut gathered.turns) {
+        return Err(end);
+    }
+    write(sink, end.closing, &mut gathered.turns)
 }
 
 /// Hands over what is gathered, and tells the device to pass on what it holds itself.
@@ -217,7 +255,7 @@ fn give_up<S: Sink>(sink: &mut S, gathered: &mut Gathered, fault: Fault) -> Writ
     }
 }
 
-/// Makes the frame of an item behind what is gathered. That is handed over once it is long.
+/// Makes the frame of an item behind what is gathered. That is handed over once it is long, and where the frame's end lies elsewhere.
 fn add_frame<S: Sink, W: Watch>(
     sink: &mut S,
     client: ClientTerms,
@@ -235,20 +273,21 @@ fn add_frame<S: Sink, W: Watch>(
     ensures steps { Steps (write_meter (S.seen sink.old) gathered.old.turns)
         (write_meter (S.seen sink.new) gathered.new.turns) (told_by write_told result) }
 {
-    if let Err(fault) = write_item(
+    match write_unless_large(
         gathered.alloc,
         client.serializer,
         client.limit,
         item,
         &mut gathered.frames,
     ) {
-        watch.gives_up(item, fault);
-        return Err(give_up(sink, gathered, fault));
+        Ok(None) if gathered.frames.len() < HELD => Ok(()),
+        Ok(None) => hand_over(sink, gathered),
+        Ok(Some(end)) => hand_over_large(sink, gathered, end),
+        Err(fault) => {
+            watch.gives_up(item, fault);
+            Err(give_up(sink, gathered, fault))
+        }
     }
-    if gathered.frames.len() < HELD {
-        return Ok(());
-    }
-    hand_over(sink, gathered)
 }
 
 /// Takes the next item, and makes its frame.

@@ -1,4 +1,4 @@
--- An EVENT without details, by its parts.
+-- An EVENT by its parts.
 use Rattle.std.proofs.Common.{◌≡◌, ◌+◌, ◌^◌, ℕ, suc, List, ◌++◌, Option, Some, None, Bool, true, false, nat_lt, refl, sym, ap, ◌∙◌, subst, append_assoc}
 use Rattle.std.specs.Prelude.{codes}
 use Rattle.message_tree.specs.Data.{Data, list, dict, text, flag, item, Entries, no_entries}
@@ -9,7 +9,7 @@ use Rattle.wamp_messages.specs.Arguments.{last_items}
 use Rattle.session.specs.ToClient.{number, event, event_details, put_if}
 use Rattle.session.specs.Serializer.{serialized}
 use Rattle.arguments.specs.Endings.{IsEnding}
-use Rattle.session.specs.body.EventHead.{event_front}
+use Rattle.session.specs.body.EventHead.{event_beginning, event_front}
 use Rattle.session.specs.body.SerializedParts.{has_spelling, list_opening, list_closing, separator, further}
 use Rattle.wamp_messages.specs.declared.item.Publication.{Publication}
 use Rattle.session.proofs.ListParts.{whole_list}
@@ -34,20 +34,29 @@ joined : (opened type sep n m details rest closed : List ℕ)
 joined opened type sep n m details rest closed = simp append_assoc
 
 -- what stands before the arguments, the arguments, and the end of the list
-pub event_octets : (s : Serializer) (subscription : ℕ) (p : Publication) (tail : List ℕ) → IsEnding s p.args tail → p.disclosed ≡ false
-    → event_front s (4 + item_count (last_items p.args.args p.args.kwargs)) subscription p.id ++ (tail ++ list_closing s) ≡ serialized s (event subscription p false false)
-event_octets s subscription p tail t plain =
+pub event_whole : (s : Serializer) (subscription : ℕ) (p : Publication) (with_topic retained : Bool)
+    → event_beginning s (4 + item_count (last_items p.args.args p.args.kwargs)) subscription p.id (dict (event_details p with_topic retained))
+    ++ (further s (last_items p.args.args p.args.kwargs) ++ list_closing s) ≡ serialized s (event subscription p with_topic retained)
+event_whole s subscription p with_topic retained =
     let rest = last_items p.args.args p.args.kwargs in
     let type = number 36 in
     let n = number subscription in
     let m = number p.id in
-    let ds = item n (item m (item (dict no_entries) rest)) in
-    let front = event_front s (4 + item_count rest) subscription p.id in
-    ap (λ o. front ++ (o ++ list_closing s)) t.octets_are
-    ∙ joined (list_opening s (4 + item_count rest)) (serialized s type) (separator s) (serialized s n) (serialized s m) (serialized s (dict no_entries)) (further s rest) (list_closing s)
+    let details = dict (event_details p with_topic retained) in
+    let ds = item n (item m (item details rest)) in
+    joined (list_opening s (4 + item_count rest)) (serialized s type) (separator s) (serialized s n) (serialized s m) (serialized s details) (further s rest) (list_closing s)
     ∙ ap (λ k. list_opening s k ++ (serialized s type ++ (further s ds ++ list_closing s))) (counted p.args.args p.args.kwargs)
     ∙ sym (whole_list s type ds)
-    ∙ ap (λ es. serialized s (list (item type (item n (item m (item (dict es) rest)))))) (sym (no_details p plain))
+
+-- the same where there are no details
+pub event_octets : (s : Serializer) (subscription : ℕ) (p : Publication) (tail : List ℕ) → IsEnding s p.args tail → p.disclosed ≡ false
+    → event_front s (4 + item_count (last_items p.args.args p.args.kwargs)) subscription p.id ++ (tail ++ list_closing s) ≡ serialized s (event subscription p false false)
+event_octets s subscription p tail t plain =
+    let rest = last_items p.args.args p.args.kwargs in
+    let count = 4 + item_count rest in
+    ap (λ o. event_front s count subscription p.id ++ (o ++ list_closing s)) t.octets_are
+    ∙ ap (λ es. event_beginning s count subscription p.id (dict es) ++ (further s rest ++ list_closing s)) (sym (no_details p plain))
+    ∙ event_whole s subscription p false false
 
 few : (a k : Option Data) → nat_lt (suc (suc (suc (suc (item_count (last_items a k)))))) (2 ^ 32) ≡ true
 few None k = refl

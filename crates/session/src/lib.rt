@@ -40,4 +40,5 @@ pub use wamp_messages::{
     Said, SaidKind, SubscribeOptions, Who,
 };
 pub use wire::item_frames::{write_item, write_payload};
+pub use wire::large_frames::{FrameEnd, write_unless_large};
 pub use wire::serializer::decode;

@@ -1,16 +1,17 @@
 //! Items as octets, written straight from what they hold.
 ghost use Rattle.std.specs.Prelude.{◌≡◌, ◌≤◌, ◌<◌, ◌+◌, ◌++◌, ◌⊎◌, length, take, OnOk, OnErr, IfErr, IfSome, Some, true, false};
-ghost use Rattle.message_tree.specs.Data.{item, no_items};
+ghost use Rattle.message_tree.specs.Data.{dict, item, no_items};
 ghost use Rattle.msgpack_codec.specs.Short.{item_count};
 ghost use Rattle.rawsocket.specs.Frames.{spelled};
 ghost use Rattle.rawsocket.specs.declared.frame.Kind.TheVariants.{Message};
 ghost use Rattle.rawsocket.specs.declared.handshake.Serializer.{Serializer};
 ghost use Rattle.session.specs.ItemFrames.{frame_of, octets_of, Fits, IsSpelled, IsUnspelled, IsTooLong};
 ghost use Rattle.arguments.specs.Endings.{IsEnding};
+ghost use Rattle.session.specs.body.EventHead.{event_beginning};
 ghost use Rattle.session.specs.body.SerializedParts.{has_spelling, items_have_spelling, list_opening, list_closing, further};
 ghost use Rattle.session.specs.Serializer.{serialized};
 ghost use Rattle.wamp_messages.specs.Arguments.{is_all_carried, last_items};
-ghost use Rattle.session.specs.ToClient.{number, event, triple, unsubscribed, message_of};
+ghost use Rattle.session.specs.ToClient.{number, event, event_details, triple, unsubscribed, message_of};
 
 use crate::fault::Fault;
 use crate::messages::to_client::item_message;
@@ -65,6 +66,34 @@ fn put_tail(
     Ok(carried.args().put(alloc, serializer, out)?)
 }
 
+/// What stands before the arguments of an EVENT.
+pub(crate) fn put_beginning(
+    out: &mut Appender,
+    alloc: Global,
+    serializer: Serializer,
+    subscription: Id,
+    made: &Publication,
+    with_topic: bool,
+    retained: bool,
+) -> Result<(), Fault>
+    ensures ok { OnOk result (out.new.since ≡ out.old.since ++ event_beginning serializer
+        (4 + item_count (last_items made.now.args.args made.now.args.kwargs)) subscription
+        made.now.id (dict (event_details made.now with_topic retained))) }
+    ensures spelled { OnOk result
+        (has_spelling serializer (dict (event_details made.now with_topic retained)) ≡ true) }
+    ensures unspelled { result ≡ Err Fault.TooLongForClient
+        → has_spelling serializer (dict (event_details made.now with_topic retained)) ≡ false }
+    ensures before { out.new.before ≡ out.old.before }
+    ensures fault { IfErr result (λ f. (f ≡ Fault.NoMemory) ⊎ (f ≡ Fault.TooLongForClient)) }
+{
+    let count = 4 + made.args.args().count();
+    let numbers = (36, subscription.value(), made.id.value());
+    put_numbers(out, serializer, count, numbers)?;
+    separate(out, serializer)?;
+    put_details(out, alloc, serializer, made, with_topic, retained)?;
+    Ok(())
+}
+
 /// An EVENT.
 fn put_event(
     out: &mut Appender,
@@ -84,11 +113,15 @@ fn put_event(
     ensures before { out.new.before ≡ out.old.before }
     ensures fault { IfErr result (λ f. (f ≡ Fault.NoMemory) ⊎ (f ≡ Fault.TooLongForClient)) }
 {
-    let count = 4 + made.args.args().count();
-    let numbers = (36, subscription.value(), made.id.value());
-    put_numbers(out, serializer, count, numbers)?;
-    separate(out, serializer)?;
-    put_details(out, alloc, serializer, made, with_topic, retained)?;
+    put_beginning(
+        out,
+        alloc,
+        serializer,
+        subscription,
+        made,
+        with_topic,
+        retained,
+    )?;
     put_tail(out, alloc, serializer, &made.args)?;
     Ok(close_list(out, serializer)?)
 }

@@ -1,9 +1,8 @@
 use Rattle.std.proofs.Common.{sym, ap}
 use Rattle.std.proofs.lemmas.Result.{err_from_is_err_and}
 use Rattle.rawsocket.specs.Steps.{device_told}
-use Rattle.rawsocket.proofs.Lemmas.{at_told, then_steps, grown_further}
+use Rattle.rawsocket.proofs.Lemmas.{at_told, then_steps, grown_further, grown_within}
 use Rattle.command_line.specs.Commands.{fault_line}
-use Rattle.command_line.proofs.WrittenPieces.{grown_within}
 use Rattle.command_line.proofs.diagnostics.write_failure.Goals as goal
 
 pub returns-in_err-write_fault-clause-begun : goal.returns-in_err-write_fault-clause-begun

@@ -2,10 +2,10 @@ use Rattle.std.proofs.Common.{◌≡◌, ◌∙◌, ◌++◌, ◌∷◌, [], cod
 use Rattle.std.specs.Prelude.{OnOk}
 use Rattle.std.proofs.lemmas.Result.{err_from_is_err_and}
 use Rattle.rawsocket.specs.Steps.{device_told}
-use Rattle.rawsocket.proofs.Lemmas.{at_told, then_steps}
+use Rattle.rawsocket.proofs.Lemmas.{at_told, then_steps, grown_within, grown_second}
 use Rattle.rawsocket.specs.Devices.{GrowsByBeginning}
 use Rattle.command_line.specs.Commands.{fault_line, line_number, name_of}
-use Rattle.command_line.proofs.WrittenPieces.{grown_within, grown_second, grown_third, grown_last, written_all}
+use Rattle.command_line.proofs.WrittenPieces.{grown_third, grown_last, written_all}
 use Rattle.command_line.proofs.diagnostics.write_fault.Goals as goal
 
 pub returns-in_err-write_all-clause-begun : goal.returns-in_err-write_all-clause-begun
