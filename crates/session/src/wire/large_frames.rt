@@ -1,5 +1,5 @@
 //! Frames of large EVENTs, whose arguments aren't copied: all that share a publication write them from where they lie.
-ghost use Rattle.std.specs.Prelude.{◌≡◌, ◌≤◌, ◌<◌, ◌++◌, ◌⊎◌, length, take, OnOk, OnErr, IfErr, IfOk, true, false};
+ghost use Rattle.std.specs.Prelude.{◌≡◌, ◌≤◌, ◌<◌, ◌++◌, ◌⊎◌, length, take, OnOk, OnErr, IfErr, IfOk, false, true};
 ghost use Rattle.arguments.specs.Endings.{IsEnding};
 ghost use Rattle.rawsocket.specs.Frames.{spelled};
 ghost use Rattle.rawsocket.specs.declared.frame.Kind.TheVariants.{Message};

@@ -1,4 +1,4 @@
-use Rattle.std.proofs.Common.{◌≡◌, ◌+◌, ◌++◌, List, ℕ, ap, ◌∙◌, append_assoc}
+use Rattle.std.proofs.Common.{◌+◌, ◌++◌, ap, ◌∙◌, append_assoc}
 use Rattle.message_tree.specs.Data.{dict}
 use Rattle.msgpack_codec.specs.Short.{item_count}
 use Rattle.session.specs.body.EventHead.{event_beginning}
