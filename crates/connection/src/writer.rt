@@ -151,13 +151,16 @@ fn hand_over_large<S: Sink>(
     ensures steps { Steps (write_meter (S.seen sink.old) gathered.old.turns)
         (write_meter (S.seen sink.new) gathered.new.turns) (told_by write_told result) }
 {
-    if let Err(end) = hand_over(sink, gathered) {
-        return Err(end);
+    if let Err(fault) = hand_over(sink, gathered) {
+        return Err(fault);
     }
-    if let Err(end) = write(sink, end.arguments, &mut gathered.turns) {
-        return Err(end);
+    if let Err(fault) = write(sink, end.arguments, &mut gathered.turns) {
+        return Err(fault);
     }
-    write(sink, end.closing, &mut gathered.turns)
+    if let Err(fault) = write(sink, end.closing, &mut gathered.turns) {
+        return Err(fault);
+    }
+    Ok(())
 }
 
 /// Hands over what is gathered, and tells the device to pass on what it holds itself.
