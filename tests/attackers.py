@@ -264,6 +264,18 @@ def publish_unread(these, rounds):
         these.leave()
 
 
+def publish_to_silent(these, count):
+    """So many don't read in JSON what is published once in MessagePack: a text of control characters, six octets for each."""
+    silent = these.join(count)
+    for it in silent:
+        it.ask([32, 1, {}, "long"], SUBSCRIBED)
+    these.serializer = "msgpack"
+    (publisher,) = these.join(1)
+    publisher.send(frame(these.serializer, [16, 1, {}, "long", ["\x01" * 1_000_000]]))
+    publisher.ask([32, 2, {}, "all.was.read"], SUBSCRIBED)
+    time.sleep(2)
+
+
 def exclude_many(these, times):
     """The ids are in no order, and none is that of a session here; so each taker is looked up in the whole list."""
     ids = random.Random(1).sample(range(2**32, 2**53), 100_000)

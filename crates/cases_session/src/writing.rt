@@ -5,15 +5,17 @@
 //!   client that takes so many octets. Further marks are `j`, by which what its arguments are in JSON
 //!   is kept beside them, and `m`, which changes nothing: what is kept of them is MessagePack.
 //!
-//! A frame is written behind the octets `ab`, and compared with the frame of the payload alone and
-//! with that of the item's message. Of more than 300 octets their number, the first 12 and the last
+//! A number in place of JSON stands for a PUBLISH of one text of so many `x`.
+//!
+//! A frame is written behind the octets `ab`, and compared with the frame of the payload alone, with
+//! that of the item's message, and with what is written of a frame whose end isn't copied, and that end. Of more than 300 octets their number, the first 12 and the last
 //! 4 are printed.
 use crate::publishing::event_item;
 use crate::telling::each_kind;
-use case_text::{line_of, spell};
+use case_text::{line_of, number_of, spell};
 use message_tree::Message;
 use rawsocket::{Kind, Serializer, write_frame};
-use session::{Item, item_message, write_item, write_payload};
+use session::{Item, item_message, write_item, write_payload, write_unless_large};
 use std::alloc::Global;
 use std::io;
 
@@ -51,8 +53,22 @@ pub fn frame(alloc: Global, words: &str) -> io::Result<String> {
     let Some((marks, json)) = rest.split_once(' ') else {
         return line_of(alloc, "no message");
     };
-    let item = event_item(alloc, json, marks);
+    let json = message_of(alloc, json)?;
+    let item = event_item(alloc, json.as_str(), marks);
     told_if(alloc, serializer_of(serializer), limit_of(limit), item)
+}
+
+/// The PUBLISH that is told, or that of one text of so many letters.
+fn message_of(alloc: Global, told: &str) -> io::Result<String> {
+    if told.starts_with('[') {
+        return Ok(String::from_str(alloc, told)?);
+    }
+    let mut message = String::from_str(alloc, "[16,1,{},\"a\",[\"")?;
+    for _ in 0..number_of(told) {
+        message.push('x')?;
+    }
+    message.push_str("\"]]")?;
+    Ok(message)
 }
 
 fn limit_of(word: &str) -> u32 {
@@ -108,7 +124,8 @@ fn others_mark(is_alike: Option<bool>) -> &'static str {
 fn is_alike(alloc: Global, serializer: Serializer, item: &Item, out: &[u8]) -> Option<bool> {
     let payload = by_payload(alloc, serializer, item)?;
     let message = by_message(alloc, serializer, item)?;
-    Some(payload.as_slice() == out && message.as_slice() == out)
+    let parts = by_parts(alloc, serializer, item)?;
+    Some(payload.as_slice() == out && message.as_slice() == out && parts.as_slice() == out)
 }
 
 fn kind_of(item: &Item) -> Kind {
@@ -129,6 +146,16 @@ fn by_payload(alloc: Global, serializer: Serializer, item: &Item) -> Option<Vec<
     let mut payload = Vec::new(alloc);
     write_payload(alloc, serializer, item, &mut payload).ok()?;
     framed(alloc, item, &payload)
+}
+
+/// What is written of the frame, and behind it the end that isn't.
+fn by_parts(alloc: Global, serializer: Serializer, item: &Item) -> Option<Vec<u8>> {
+    let mut out = begun(alloc).ok()?;
+    if let Some(end) = write_unless_large(alloc, serializer, MOST, item, &mut out).ok()? {
+        out.extend_from_slice(end.arguments).ok()?;
+        out.extend_from_slice(end.closing).ok()?;
+    }
+    Some(out)
 }
 
 fn by_message(alloc: Global, serializer: Serializer, item: &Item) -> Option<Vec<u8>> {
