@@ -1,5 +1,6 @@
 -- Frames that are posted one by one.
 use Rattle.std.proofs.Common.{◌≡◌, ◌≢◌, ◌⊎◌, ℕ, List, [], ◌∷◌, ◌++◌, Option, Some, None, Result, Ok, Err, IfErr, OnOk, OnErr, true, false, inl, inr, refl, sym, ap, ◌∙◌, subst, append_assoc, append-nil}
+use Rattle.rawsocket.specs.Deframer.{Deframing}
 use Rattle.rawsocket.specs.Frames.{Content}
 use Rattle.rawsocket.specs.declared.fault.Fault as stream
 use Rattle.rawsocket.specs.declared.frame.Kind.{Kind}
@@ -17,6 +18,10 @@ use Rattle.realm_inbox.specs.declared.act.Act.{Act}
 use Rattle.realm_inbox.specs.declared.act.Act.TheVariants as act
 use Rattle.connection.specs.declared.reader.ReadEnd.{ReadEnd}
 use Rattle.connection.specs.declared.reader.ReadEnd.TheVariants as reader
+
+-- a deframer that takes so many octets, and holds these
+abbrev pub deframing : ℕ → List ℕ → Deframing
+deframing most held = record { most = most; held = held }
 
 -- the posts of a frame of this kind, and of those behind it
 abbrev PostsBy : {S : Type 0} → Serializer → List ℕ → (List (Act S) → Course → Type 0) → Kind → List (Act S) → Course → Type 0

@@ -15,17 +15,13 @@ use Rattle.realm_inbox.specs.declared.act.Act.{Act}
 use Rattle.realm_inbox.specs.declared.act.Act.TheVariants.{Gone}
 use Rattle.connection.specs.declared.reader.ReadEnd.{ReadEnd}
 use Rattle.connection.specs.declared.reader.ReadEnd.TheVariants.{Left, Violation, Ended, Device, TooManyTurns, NoMemory, ActorGone}
-use Rattle.connection.proofs.FramesPosted.{Posts-join, Posts-open}
+use Rattle.connection.proofs.FramesPosted.{deframing, Posts-join, Posts-open}
 
 -- the frames of both
 both : (most : ℕ) (before octets piece held new : List ℕ) (frames more : List Content) → Reads most (before ++ octets) frames held → Reads most (held ++ piece) more new → Reads most (before ++ (octets ++ piece)) (frames ++ more) new
 both most before octets piece held new frames more a b = subst (λ o. Reads most o (frames ++ more) new) (append_assoc before octets piece) (pieces_join most (before ++ octets) piece held new frames more a b)
 
 module _ {S : Type 0} (s : Serializer) (early : List Content) (most : ℕ) (held₀ : List ℕ) where
-  -- a deframer that takes so many octets, and holds these
-  abbrev deframing : List ℕ → Deframing
-  deframing held = record { most = most; held = held }
-
   -- what was read so far is posted, and this is held
   pub record Onward (given_before given : List ℕ) (before now : Posted S) (held : List ℕ) : Type 0 where
     pub octets : List ℕ
@@ -36,7 +32,7 @@ module _ {S : Type 0} (s : Serializer) (early : List Content) (most : ℕ) (held
     pub reads : Reads most (held₀ ++ octets) frames held
     pub posts : Posts s (fault_of most held) (early ++ frames) acts GoesOn
 
-  pub Onward-start : (given : List ℕ) (before now : Posted S) (new : List ℕ) → IsAdvance (start s early (deframing held₀)) (taking [] new) before now (Ok tt) → Onward given given before now new
+  pub Onward-start : (given : List ℕ) (before now : Posted S) (new : List ℕ) → IsAdvance (start s early (deframing most held₀)) (taking [] new) before now (Ok tt) → Onward given given before now new
   Onward-start given before now new w = record {
     octets = [];
     frames = w.frames;
@@ -51,7 +47,7 @@ module _ {S : Type 0} (s : Serializer) (early : List Content) (most : ℕ) (held
       → Posts s (fault_of most new) (early ++ (frames ++ more)) (acts ++ others) course
   posts_both held new frames more acts others course a b = subst (λ fs. Posts s (fault_of most new) fs (acts ++ others) course) (append_assoc early frames more) (Posts-join s (fault_of most held) (fault_of most new) (early ++ frames) more acts others course a b)
 
-  pub Onward-more : (given_before given after piece : List ℕ) (before now later : Posted S) (held new : List ℕ) → Onward given_before given before now held → after ≡ given ++ piece → IsAdvance (start s [] (deframing held)) (taking piece new) now later (Ok tt)
+  pub Onward-more : (given_before given after piece : List ℕ) (before now later : Posted S) (held new : List ℕ) → Onward given_before given before now held → after ≡ given ++ piece → IsAdvance (start s [] (deframing most held)) (taking piece new) now later (Ok tt)
       → Onward given_before after before later new
   Onward-more given_before given after piece before now later held new o more w = record {
     octets = o.octets ++ piece;
@@ -64,7 +60,7 @@ module _ {S : Type 0} (s : Serializer) (early : List Content) (most : ℕ) (held
   }
 
   all_then : (course : Course) (given_before given after piece : List ℕ) (before now later : Posted S) (held new : List ℕ) (more : List Content) → Onward given_before given before now held → after ≡ given ++ piece
-      → length piece ≤ 65536 → Reads most (held ++ piece) more new → PostsAll s (batch more (fault_of most new)) course now later → ReadsSince given_before after before later (IsReadToEnd (start s early (deframing held₀)) course)
+      → length piece ≤ 65536 → Reads most (held ++ piece) more new → PostsAll s (batch more (fault_of most new)) course now later → ReadsSince given_before after before later (IsReadToEnd (start s early (deframing most held₀)) course)
   all_then course given_before given after piece before now later held new more o grows few reads w = record {
     octets = o.octets ++ piece;
     acts = o.acts ++ w.acts;
@@ -86,7 +82,7 @@ module _ {S : Type 0} (s : Serializer) (early : List Content) (most : ℕ) (held
   }
 
   some_then : (given_before given after piece : List ℕ) (before now later : Posted S) (held new : List ℕ) (more : List Content) → Onward given_before given before now held → after ≡ given ++ piece
-      → Reads most (held ++ piece) more new → PostsSome s more now later → ReadsSince given_before after before later (IsReadPartly (start s early (deframing held₀)))
+      → Reads most (held ++ piece) more new → PostsSome s more now later → ReadsSince given_before after before later (IsReadPartly (start s early (deframing most held₀)))
   some_then given_before given after piece before now later held new more o grows reads w = record {
     octets = o.octets ++ piece;
     acts = o.acts ++ w.acts;
@@ -106,8 +102,8 @@ module _ {S : Type 0} (s : Serializer) (early : List Content) (most : ℕ) (held
     });
   }
 
-  pub Onward-ends : (end : ReadEnd) (given_before given after piece : List ℕ) (before now later : Posted S) (held new : List ℕ) → Onward given_before given before now held → after ≡ given ++ piece → length piece ≤ 65536 → IsAdvance (start s [] (deframing held)) (taking piece new) now later (Err end)
-      → ReadsSince given_before after before later (IsReadUpTo (start s early (deframing held₀)) end)
+  pub Onward-ends : (end : ReadEnd) (given_before given after piece : List ℕ) (before now later : Posted S) (held new : List ℕ) → Onward given_before given before now held → after ≡ given ++ piece → length piece ≤ 65536 → IsAdvance (start s [] (deframing most held)) (taking piece new) now later (Err end)
+      → ReadsSince given_before after before later (IsReadUpTo (start s early (deframing most held₀)) end)
   Onward-ends Left given_before given after piece before now later held new o grows few (there, w) = all_then Leaves given_before given after piece before now later held there w.frames o grows few w.reads w.posted
   Onward-ends (Violation f) given_before given after piece before now later held new o grows few (there, w) = all_then (Breaks f) given_before given after piece before now later held there w.frames o grows few w.reads w.posted
   Onward-ends NoMemory given_before given after piece before now later held new o grows few (there, w) = some_then given_before given after piece before now later held there w.frames o grows w.reads w.posted
@@ -117,7 +113,7 @@ module _ {S : Type 0} (s : Serializer) (early : List Content) (most : ℕ) (held
   Onward-ends TooManyTurns given_before given after piece before now later held new o grows few (there, w) = absurd w.posted
 
   -- the stream ends
-  so_far : (given_before given after : List ℕ) (before now : Posted S) (held : List ℕ) → Onward given_before given before now held → after ≡ given → ReadsSince given_before after before now (IsReadAll (start s early (deframing held₀)) GoesOn)
+  so_far : (given_before given after : List ℕ) (before now : Posted S) (held : List ℕ) → Onward given_before given before now held → after ≡ given → ReadsSince given_before after before now (IsReadAll (start s early (deframing most held₀)) GoesOn)
   so_far given_before given after before now held o same = record {
     octets = o.octets;
     acts = o.acts;
@@ -127,18 +123,18 @@ module _ {S : Type 0} (s : Serializer) (early : List Content) (most : ℕ) (held
   }
 
   pub Onward-stops : (why : NoOctets) (end : ReadEnd) (given_before given after : List ℕ) (before now : Posted S) (held : List ℕ) → end ≡ end_of why → Onward given_before given before now held → after ≡ given
-      → ReadsSince given_before after before now (IsReadUpTo (start s early (deframing held₀)) end)
-  Onward-stops why end given_before given after before now held is o same = subst (λ e. ReadsSince given_before after before now (IsReadUpTo (start s early (deframing held₀)) e)) (sym is) (stops why)
+      → ReadsSince given_before after before now (IsReadUpTo (start s early (deframing most held₀)) end)
+  Onward-stops why end given_before given after before now held is o same = subst (λ e. ReadsSince given_before after before now (IsReadUpTo (start s early (deframing most held₀)) e)) (sym is) (stops why)
     where
-      stops : (w : NoOctets) → ReadsSince given_before after before now (IsReadUpTo (start s early (deframing held₀)) (end_of w))
+      stops : (w : NoOctets) → ReadsSince given_before after before now (IsReadUpTo (start s early (deframing most held₀)) (end_of w))
       stops no_octets.Ended = so_far given_before given after before now held o same
       stops no_octets.Failed = so_far given_before given after before now held o same
       stops no_octets.TooManyTurns = so_far given_before given after before now held o same
 
-  early_all : (course : Course) (given new : List ℕ) (before now : Posted S) (frames : List Content) → Reads most (held₀ ++ []) frames new → PostsAll s (batch (early ++ frames) (fault_of most new)) course before now → ReadsSince given given before now (IsReadToEnd (start s early (deframing held₀)) course)
+  early_all : (course : Course) (given new : List ℕ) (before now : Posted S) (frames : List Content) → Reads most (held₀ ++ []) frames new → PostsAll s (batch (early ++ frames) (fault_of most new)) course before now → ReadsSince given given before now (IsReadToEnd (start s early (deframing most held₀)) course)
   early_all course given new before now frames reads w = record { octets = []; acts = w.acts; read = sym (append-nil given); posted = w.posted; holds = record { all = record { frames = frames; new = new; reads = reads; posts = w.posts }; last = inl refl } }
 
-  early_some : (given new : List ℕ) (before now : Posted S) (frames : List Content) → Reads most (held₀ ++ []) frames new → PostsSome s (early ++ frames) before now → ReadsSince given given before now (IsReadPartly (start s early (deframing held₀)))
+  early_some : (given new : List ℕ) (before now : Posted S) (frames : List Content) → Reads most (held₀ ++ []) frames new → PostsSome s (early ++ frames) before now → ReadsSince given given before now (IsReadPartly (start s early (deframing most held₀)))
   early_some given new before now frames reads w = record {
     octets = [];
     acts = w.acts;
@@ -147,7 +143,7 @@ module _ {S : Type 0} (s : Serializer) (early : List Content) (most : ℕ) (held
     holds = inr (record { front = []; back = []; octets_are = refl; frames = frames; new = new; reads = reads; done = w.done; left = w.left; frames_are = w.frames_are; posts = w.posts });
   }
 
-  pub early_ends : (end : ReadEnd) (given new : List ℕ) (before now : Posted S) → IsAdvance (start s early (deframing held₀)) (taking [] new) before now (Err end) → ReadsSince given given before now (IsReadUpTo (start s early (deframing held₀)) end)
+  pub early_ends : (end : ReadEnd) (given new : List ℕ) (before now : Posted S) → IsAdvance (start s early (deframing most held₀)) (taking [] new) before now (Err end) → ReadsSince given given before now (IsReadUpTo (start s early (deframing most held₀)) end)
   early_ends Left given new before now (there, w) = early_all Leaves given there before now w.frames w.reads w.posted
   early_ends (Violation f) given new before now (there, w) = early_all (Breaks f) given there before now w.frames w.reads w.posted
   early_ends NoMemory given new before now (there, w) = early_some given there before now w.frames w.reads w.posted
@@ -170,7 +166,7 @@ module _ {S : Type 0} (s : Serializer) (early : List Content) (most : ℕ) (held
   moved : (P Q : List ℕ → List (Act S) → Type 0) (given_before given : List ℕ) (before now later : Posted S) → ((octets : List ℕ) (acts : List (Act S)) → P octets acts → Q octets acts) → later ≡ now → ReadsSince given_before given before now P → ReadsSince given_before given before later Q
   moved P Q given_before given before now later to same w = record { octets = w.octets; acts = w.acts; read = w.read; posted = same ∙ w.posted; holds = to w.octets w.acts w.holds }
 
-  all_is_part : (octets : List ℕ) (acts : List (Act S)) → IsReadAll (start s early (deframing held₀)) GoesOn octets acts → IsReadPartly (start s early (deframing held₀)) octets acts
+  all_is_part : (octets : List ℕ) (acts : List (Act S)) → IsReadAll (start s early (deframing most held₀)) GoesOn octets acts → IsReadPartly (start s early (deframing most held₀)) octets acts
   all_is_part octets acts w = inr (record {
     front = octets;
     back = [];
@@ -184,33 +180,33 @@ module _ {S : Type 0} (s : Serializer) (early : List Content) (most : ℕ) (held
     posts = Posts-open s (fault_of most w.new) (early ++ w.frames) acts w.posts;
   })
 
-  stream_goes : (end result : ReadEnd) (given_before given : List ℕ) (before now later : Posted S) → ((octets : List ℕ) (acts : List (Act S)) → ThenGone (IsReadAll (start s early (deframing held₀)) GoesOn octets) acts → IsReadBy (start s early (deframing held₀)) end octets acts)
-      → ReadsSince given_before given before now (IsReadAll (start s early (deframing held₀)) GoesOn) → GoesWith end now later result → ReadsSince given_before given before later (IsReadBy (start s early (deframing held₀)) result)
+  stream_goes : (end result : ReadEnd) (given_before given : List ℕ) (before now later : Posted S) → ((octets : List ℕ) (acts : List (Act S)) → ThenGone (IsReadAll (start s early (deframing most held₀)) GoesOn octets) acts → IsReadBy (start s early (deframing most held₀)) end octets acts)
+      → ReadsSince given_before given before now (IsReadAll (start s early (deframing most held₀)) GoesOn) → GoesWith end now later result → ReadsSince given_before given before later (IsReadBy (start s early (deframing most held₀)) result)
   stream_goes end result given_before given before now later to w (inl p) =
-      let so : ReadsSince given_before given before later (λ octets acts. ThenGone (IsReadAll (start s early (deframing held₀)) GoesOn octets) acts) = gone (IsReadAll (start s early (deframing held₀)) GoesOn) given_before given before now later p.1 w in
-      subst (λ r. ReadsSince given_before given before later (IsReadBy (start s early (deframing held₀)) r)) (sym p.0)
+      let so : ReadsSince given_before given before later (λ octets acts. ThenGone (IsReadAll (start s early (deframing most held₀)) GoesOn octets) acts) = gone (IsReadAll (start s early (deframing most held₀)) GoesOn) given_before given before now later p.1 w in
+      subst (λ r. ReadsSince given_before given before later (IsReadBy (start s early (deframing most held₀)) r)) (sym p.0)
       (record { octets = so.octets; acts = so.acts; read = so.read; posted = so.posted; holds = to so.octets so.acts so.holds })
   stream_goes end result given_before given before now later to w (inr p) =
-      subst (λ r. ReadsSince given_before given before later (IsReadBy (start s early (deframing held₀)) r)) (sym p.0)
-      (moved (IsReadAll (start s early (deframing held₀)) GoesOn) (IsReadPartly (start s early (deframing held₀))) given_before given before now later all_is_part p.1 w)
+      subst (λ r. ReadsSince given_before given before later (IsReadBy (start s early (deframing most held₀)) r)) (sym p.0)
+      (moved (IsReadAll (start s early (deframing most held₀)) GoesOn) (IsReadPartly (start s early (deframing most held₀))) given_before given before now later all_is_part p.1 w)
 
-  stays : (end result : ReadEnd) (P : List ℕ → List (Act S) → Type 0) (given_before given : List ℕ) (before now later : Posted S) → result ≡ end → later ≡ now → ReadsSince given_before given before now (IsReadBy (start s early (deframing held₀)) end)
-      → ReadsSince given_before given before later (IsReadBy (start s early (deframing held₀)) result)
+  stays : (end result : ReadEnd) (P : List ℕ → List (Act S) → Type 0) (given_before given : List ℕ) (before now later : Posted S) → result ≡ end → later ≡ now → ReadsSince given_before given before now (IsReadBy (start s early (deframing most held₀)) end)
+      → ReadsSince given_before given before later (IsReadBy (start s early (deframing most held₀)) result)
   stays end result P given_before given before now later is same w =
-      subst (λ r. ReadsSince given_before given before later (IsReadBy (start s early (deframing held₀)) r)) (sym is) (moved (IsReadBy (start s early (deframing held₀)) end) (IsReadBy (start s early (deframing held₀)) end) given_before given before now later (λ octets acts h. h) same w)
+      subst (λ r. ReadsSince given_before given before later (IsReadBy (start s early (deframing most held₀)) r)) (sym is) (moved (IsReadBy (start s early (deframing most held₀)) end) (IsReadBy (start s early (deframing most held₀)) end) given_before given before now later (λ octets acts h. h) same w)
 
-  pub departs_ends : (end result : ReadEnd) (given_before given : List ℕ) (before now later : Posted S) → ReadsSince given_before given before now (IsReadUpTo (start s early (deframing held₀)) end) → Departs end now later result
-      → ReadsSince given_before given before later (IsReadBy (start s early (deframing held₀)) result)
-  departs_ends Left result given_before given before now later w d = stays Left result (IsReadToEnd (start s early (deframing held₀)) Leaves) given_before given before now later d.0 d.1 w
-  departs_ends (Violation f) result given_before given before now later w d = stays (Violation f) result (IsReadToEnd (start s early (deframing held₀)) (Breaks f)) given_before given before now later d.0 d.1 w
-  departs_ends ActorGone result given_before given before now later w d = stays ActorGone result (IsReadPartly (start s early (deframing held₀))) given_before given before now later d.0 d.1 w
+  pub departs_ends : (end result : ReadEnd) (given_before given : List ℕ) (before now later : Posted S) → ReadsSince given_before given before now (IsReadUpTo (start s early (deframing most held₀)) end) → Departs end now later result
+      → ReadsSince given_before given before later (IsReadBy (start s early (deframing most held₀)) result)
+  departs_ends Left result given_before given before now later w d = stays Left result (IsReadToEnd (start s early (deframing most held₀)) Leaves) given_before given before now later d.0 d.1 w
+  departs_ends (Violation f) result given_before given before now later w d = stays (Violation f) result (IsReadToEnd (start s early (deframing most held₀)) (Breaks f)) given_before given before now later d.0 d.1 w
+  departs_ends ActorGone result given_before given before now later w d = stays ActorGone result (IsReadPartly (start s early (deframing most held₀))) given_before given before now later d.0 d.1 w
   departs_ends Ended result given_before given before now later w d = stream_goes Ended result given_before given before now later (λ octets acts h. h) w d
   departs_ends Device result given_before given before now later w d = stream_goes Device result given_before given before now later (λ octets acts h. h) w d
   departs_ends TooManyTurns result given_before given before now later w d = stream_goes TooManyTurns result given_before given before now later (λ octets acts h. h) w d
   departs_ends NoMemory result given_before given before now later w (inl p) =
-      subst (λ r. ReadsSince given_before given before later (IsReadBy (start s early (deframing held₀)) r)) (sym p.0) (gone (IsReadPartly (start s early (deframing held₀))) given_before given before now later p.1 w)
+      subst (λ r. ReadsSince given_before given before later (IsReadBy (start s early (deframing most held₀)) r)) (sym p.0) (gone (IsReadPartly (start s early (deframing most held₀))) given_before given before now later p.1 w)
   departs_ends NoMemory result given_before given before now later w (inr p) =
-      subst (λ r. ReadsSince given_before given before later (IsReadBy (start s early (deframing held₀)) r)) (sym p.0) (moved (IsReadPartly (start s early (deframing held₀))) (IsReadPartly (start s early (deframing held₀))) given_before given before now later (λ octets acts h. h) p.1 w)
+      subst (λ r. ReadsSince given_before given before later (IsReadBy (start s early (deframing most held₀)) r)) (sym p.0) (moved (IsReadPartly (start s early (deframing most held₀))) (IsReadPartly (start s early (deframing most held₀))) given_before given before now later (λ octets acts h. h) p.1 w)
 
 -- a reader's end is what it was, unless the actor is gone
 pub departs_same : {S : Type 0} (end result : ReadEnd) (now later : Posted S) → Departs end now later result → result ≢ ActorGone → result ≡ end

@@ -143,10 +143,10 @@ fn hand_over_large<S: Sink>(
     end: FrameEnd,
 ) -> Result<(), WriteEnd>
     ensures passed { OnOk result (Takes (S.seen sink.old) (S.seen sink.new)
-        (gathered.old.frames.items ++ octets_in (Some end))) }
+        (gathered.old.frames.items ++ octets_in (Some end.entry))) }
     ensures empty { OnOk result (gathered.new.frames.items ≡ []) }
     ensures begun { TakesBeginning (S.seen sink.old) (S.seen sink.new)
-        (gathered.old.frames.items ++ octets_in (Some end)) }
+        (gathered.old.frames.items ++ octets_in (Some end.entry)) }
     ensures which { IfErr result IsOfDevice }
     ensures steps { Steps (write_meter (S.seen sink.old) gathered.old.turns)
         (write_meter (S.seen sink.new) gathered.new.turns) (told_by write_told result) }
