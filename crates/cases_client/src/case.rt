@@ -80,6 +80,10 @@ impl Case {
                 self.stream.is_slow = true;
                 Ok(String::new(alloc))
             }
+            "looks" => {
+                self.stream.is_looking = true;
+                Ok(String::new(alloc))
+            }
             "link" => self.stream.told(alloc),
             "reads" => self.stream.told_of_reads(alloc),
             "writes" => self.stream.told_of_writes(alloc),

@@ -44,6 +44,8 @@ pub struct Stream {
     pub octets: Vec<u8>,
     pub sayings: Vec<String>,
     pub is_slow: bool,
+    /// Whether the client hears by single looks.
+    pub is_looking: bool,
     pub failing_read: u64,
     pub failing_write: u64,
 }
@@ -55,6 +57,7 @@ impl Stream {
             octets: Vec::new(alloc),
             sayings: Vec::new(alloc),
             is_slow: false,
+            is_looking: false,
             failing_read: u64::MAX,
             failing_write: u64::MAX,
         }
@@ -139,6 +142,7 @@ impl Stream {
     ) -> io::Result<Talk> {
         match Link::connect(alloc, source, sink, self.serializer) {
             Ok(mut link) => match say_all(alloc, &link, sink, &self.sayings)? {
+                None if self.is_looking => look_on(alloc, &mut link, source, sink),
                 None => hear_all(alloc, &mut link, source, sink),
                 Some(end) => ended(alloc, end),
             },
@@ -212,6 +216,35 @@ fn hear_all<I: Source, O: Sink>(
         count: u64::MAX,
         end,
     })
+}
+
+// Looks until a fault ends it, and tells of each look.
+fn look_on<I: Source, O: Sink>(
+    alloc: Global,
+    link: &mut Link,
+    source: &mut I,
+    sink: &mut O,
+) -> io::Result<Talk> {
+    let mut lines = String::new(alloc);
+    let mut count = 0;
+    for _ in 0..u64::MAX {
+        match link.listen(alloc, source, sink) {
+            Ok(Some(heard)) => {
+                lines.push_str(in_words(alloc, heard)?.as_str())?;
+                count += 1;
+            }
+            Ok(None) => lines.push_str("nothing yet\n")?,
+            Err(fault) => {
+                let end = fault_line(alloc, fault)?;
+                return Ok(Talk { lines, count, end });
+            }
+        }
+        if !link.is_quiet() {
+            lines.push_str("more waits\n")?;
+        }
+    }
+    let end = String::new(alloc);
+    Ok(Talk { lines, count, end })
 }
 
 fn fault_line(alloc: Global, fault: Fault) -> io::Result<String> {

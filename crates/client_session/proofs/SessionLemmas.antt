@@ -1,12 +1,12 @@
 -- What a session is told, and what it isn't.
-use Rattle.std.proofs.Common.{◌≡◌, List, ℕ, Result, Ok, Err, inr, refl, sym, subst}
+use Rattle.std.proofs.Common.{◌≡◌, List, ℕ, Option, Some, None, Result, Ok, Err, inr, refl, sym, subst}
 use Rattle.rawsocket.specs.Steps.{Fine}
 use Rattle.client_messages.specs.declared.client_message.ClientMessage.{ClientMessage}
 use Rattle.client_messages.specs.declared.heard.Heard.{Heard}
 use Rattle.client_session.specs.Faults.{write_told}
-use Rattle.client_session.specs.Hearing.{Ear, HearsNext, Line, Terms, ear}
+use Rattle.client_session.specs.Hearing.{Ear, HearsNext, Line, ListensNext, Terms, ear}
 use Rattle.client_session.specs.Saying.{IsUnsaid}
-use Rattle.client_session.specs.Sessions.{HearsInSession, IsGreeting, IsJudged, IsUnwelcome}
+use Rattle.client_session.specs.Sessions.{HearsInSession, IsGreeting, IsJudged, IsUnwelcome, ListensInSession}
 use Rattle.client_session.specs.declared.fault.Fault.{Fault}
 use Rattle.client_session.specs.declared.fault.Fault.TheVariants.{NoMemory, Refused, NoBroker, FrameTooLong, FrameType, TooDeep, Malformed, NoBrokerMessage, Unsayable, TooLongForBroker, Ended, ReadFault, WriteFault, TooManyReads, TooManyWrites}
 use Rattle.client_session.specs.declared.welcomed.NoSession.{NoSession}
@@ -40,6 +40,11 @@ heard_judged t before now given given_now heard (Ok told) next w =
     subst (λ (h : Heard). HearsInSession t before now given given_now (Ok h)) (sym w.0) (next, w.1, w.2)
 heard_judged t before now given given_now heard (Err ForeignEvent) next w = (record { heard = heard; next = next; foreign = w.0 }, w.1)
 heard_judged t before now given given_now heard (Err (Failed fault)) next w = (inr (record { heard = heard; next = next; memory = w.0 }), w.1)
+
+-- what a session hears by a look its link does
+pub listened_in_session : (t : Terms) (before now : Ear) (given given_now : List ℕ) (told : Option Heard) → ListensInSession t before now given given_now (Ok told) → ListensNext t before now (Ok told)
+listened_in_session t before now given given_now (Some heard) w = w.0
+listened_in_session t before now given given_now None w = w.0
 
 -- what answers HELLO is no WELCOME
 pub unwelcome : (t : Terms) (before : Ear) (l : Line) (given taken : List ℕ) (heard : Heard) (refusal : NoSession) → HearsNext t before (ear l.waiting l.held given taken) (Ok heard) → IsGreeting heard (Err refusal)

@@ -1,11 +1,12 @@
 -- What the octets of a broker say to a client, and how the client answers them.
-use Rattle.std.specs.Prelude.{◌≡◌, ◌≢◌, ◌≤◌, ◌<◌, ⊤, ℕ, List, [], ◌∷◌, ◌++◌, length, None, Some, Result, Ok, Err}
+use Rattle.std.specs.Prelude.{◌≡◌, ◌≢◌, ◌≤◌, ◌<◌, ◌⊎◌, ⊤, ℕ, List, [], ◌∷◌, ◌++◌, length, None, Some, Result, Ok, Err}
 use Rattle.std.specs.declared.option.Option.{Option}
 use Rattle.std.specs.List.{flat_map, AllByRecursion}
 use Rattle.message_tree.specs.Data.{Data}
 use Rattle.rawsocket.specs.Devices.{GrowsByBeginning, Reading, Writing}
 use Rattle.rawsocket.specs.Deframer.{Deframing}
 use Rattle.rawsocket.specs.Frames.{Content, spelled, fault_of, Reads}
+use Rattle.rawsocket.specs.Steps.{Told, Steps, read_meter}
 use Rattle.rawsocket.specs.declared.fault.Fault.TheVariants as stream
 use Rattle.rawsocket.specs.declared.frame.Kind.{Kind}
 use Rattle.rawsocket.specs.declared.frame.Kind.TheVariants as kind
@@ -256,6 +257,29 @@ pub record HearsNext (t : Terms) (before now : Ear) (result : Result Heard Fault
   pub frames : List Content
   pub reads : Reads client_takes (before.held ++ octets) frames now.held
   pub next : IsNext t (stand (before.waiting ++ frames) before.taken) (stand now.waiting now.taken) now.held result
+
+-- octets were read behind those that are held, and no message is among the frames that waited and those that the octets complete:
+-- none of them waits any more, and each PING is answered
+pub record HearsNone (t : Terms) (before now : Ear) : Type 0 where
+  pub octets : List ℕ
+  pub read : now.given ≡ before.given ++ octets
+  pub frames : List Content
+  pub reads : Reads client_takes (before.held ++ octets) frames now.held
+  pub quiet : IsQuiet t (stand (before.waiting ++ frames) before.taken) (stand now.waiting now.taken)
+
+-- what is heard by one look at the stream: the next message, or that none is here yet
+abbrev pub ListensNext : Terms → Ear → Ear → Result (Option Heard) Fault → Type 0
+ListensNext t before now (Ok (Some heard)) = HearsNext t before now (Ok heard)
+ListensNext t before now (Ok None) = HearsNone t before now
+ListensNext t before now (Err fault) = HearsNext t before now (Err fault)
+
+-- such looks, as many as there were, heard no message
+abbrev pub HearsNoneYet : Terms → Ear → Ear → Type 0
+HearsNoneYet t before now = (now ≡ before) ⊎ HearsNone t before now
+
+-- what a look did to the stream, for which it has one turn
+abbrev pub LookSteps : Reading → Reading → Told → Type 0
+LookSteps before after told = (left : ℕ) × Steps (read_meter before 1) (read_meter after left) told
 
 -- a link to a broker: its terms, the frames that came from it and are not heard yet, and what is held of the octets behind them
 pub record Line : Type 0 where

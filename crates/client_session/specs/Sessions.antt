@@ -1,11 +1,12 @@
 -- A session that a broker welcomed, and the subscriptions that it was given.
-use Rattle.std.specs.Prelude.{◌≡◌, ⊤, ◌⊎◌, ℕ, Bool, true, false, List, [], ◌∷◌, ◌++◌, Contains, Result, Ok, Err}
+use Rattle.std.specs.Prelude.{◌≡◌, ⊤, ◌⊎◌, ℕ, Bool, true, false, List, [], ◌∷◌, ◌++◌, Contains, None, Some, Result, Ok, Err}
+use Rattle.std.specs.declared.option.Option.{Option}
 use Rattle.rawsocket.specs.Frames.{Content}
 use Rattle.rawsocket.specs.Steps.{Told, Fine}
 use Rattle.client_messages.specs.declared.heard.Heard.{Heard}
 use Rattle.client_messages.specs.declared.heard.Heard.TheVariants.{Welcome, Abort, Subscribed, Event}
 use Rattle.client_session.specs.Faults.{read_told, write_told}
-use Rattle.client_session.specs.Hearing.{Ear, HearsNext, Line, Terms, ear}
+use Rattle.client_session.specs.Hearing.{Ear, HearsNext, HearsNone, Line, Terms, ear}
 use Rattle.client_session.specs.declared.fault.Fault.{Fault}
 use Rattle.client_session.specs.declared.fault.Fault.TheVariants.{NoMemory}
 use Rattle.client_session.specs.declared.welcomed.NoSession.{NoSession}
@@ -57,6 +58,12 @@ HearsInSession t before now given given_now (Ok heard) = HearsNext t before now 
 HearsInSession t before now given given_now (Err unheard.ForeignEvent) = HearsForeign t before now given × (given_now ≡ given)
 HearsInSession t before now given given_now (Err (unheard.Failed fault)) =
     (HearsNext t before now (Err fault) ⊎ HearsLost t before now fault) × (given_now ≡ given)
+
+-- what a session hears by one look at the stream
+abbrev pub ListensInSession : Terms → Ear → Ear → List ℕ → List ℕ → Result (Option Heard) Unheard → Type 0
+ListensInSession t before now given given_now (Ok (Some heard)) = HearsInSession t before now given given_now (Ok heard)
+ListensInSession t before now given given_now (Ok None) = HearsNone t before now × (given_now ≡ given)
+ListensInSession t before now given given_now (Err unheard) = HearsInSession t before now given given_now (Err unheard)
 
 -- what answers HELLO
 abbrev pub is_answer : Heard → Bool

@@ -3,7 +3,7 @@ ghost use Rattle.std.specs.Prelude.{◌≡◌, ◌≢◌, ◌≤◌, ◌<◌, �
 ghost use Rattle.rawsocket.specs.Frames.{contents, fault_of, Reads};
 ghost use Rattle.rawsocket.specs.Steps.{Fine, Steps, read_meter, told_by, write_meter};
 ghost use Rattle.client_session.specs.Faults.{read_told, write_told};
-ghost use Rattle.client_session.specs.Hearing.{ReadsMore, ReadStops, IsLost, HearsNext, ear, terms, client_takes};
+ghost use Rattle.client_session.specs.Hearing.{ReadsMore, ReadStops, IsLost, HearsNext, ListensNext, ear, terms, client_takes};
 
 use crate::fault::Fault;
 use crate::hearing::hear_waiting;
@@ -80,6 +80,46 @@ fn read_more<I: Source>(
     }
 }
 
+/// What the next message says of the frames that wait; or of those that one read completes, where none waits. It may say that none
+/// is here yet.
+pub(crate) fn listen_next<I: Source, O: Sink>(
+    alloc: Global,
+    broker: BrokerTerms,
+    inbox: &mut UnheardFrames,
+    source: &mut I,
+    sink: &mut O,
+    buffer: &mut [u8],
+    reading: &mut Turns,
+    writing: &mut Turns,
+) -> Result<Option<Heard>, Fault>
+    requires fits { broker.limit ≤ 16777215 }
+    requires some { 0 < length buffer.old }
+    requires most { inbox.old.deframer.most ≡ client_takes }
+    requires steady { Reads client_takes inbox.old.deframer.held [] inbox.old.deframer.held }
+    ensures most { inbox.new.deframer.most ≡ client_takes }
+    ensures next { ListensNext (terms broker.serializer broker.limit) (ear
+        (contents inbox.old.waiting.items) inbox.old.deframer.held (I.seen source.old).given
+        (O.seen sink.old).taken) (ear (contents inbox.new.waiting.items) inbox.new.deframer.held
+        (I.seen source.new).given (O.seen sink.new).taken) result }
+    ensures unread { contents inbox.old.waiting.items ≢ [] →
+        I.seen source.new ≡ I.seen source.old }
+    ensures once { OnOk result (contents inbox.old.waiting.items ≡ [] →
+        (I.seen source.new).calls ≡ (I.seen source.old).calls + 1) }
+    ensures ended { result ≡ Err Fault.Ended → (I.seen source.new).is_ended ≡ true }
+    ensures reads { Steps (read_meter (I.seen source.old) reading.old)
+        (read_meter (I.seen source.new) reading.new) (told_by read_told result) }
+    ensures writes { Steps (write_meter (O.seen sink.old) writing.old)
+        (write_meter (O.seen sink.new) writing.new) (told_by write_told result) }
+{
+    if inbox.waiting.is_empty() {
+        match read_more(alloc, &mut inbox.deframer, source, buffer, reading) {
+            Ok(frames) => inbox.waiting = frames,
+            Err(fault) => return Err(fault),
+        }
+    }
+    hear_waiting(alloc, broker, &mut inbox.waiting, sink, writing)
+}
+
 /// What the next message says of the frames that wait and of those that come.
 pub(crate) fn hear_next<I: Source, O: Sink>(
     alloc: Global,
@@ -106,14 +146,10 @@ pub(crate) fn hear_next<I: Source, O: Sink>(
     ensures writes { Steps (write_meter (O.seen sink.old) writing.old)
         (write_meter (O.seen sink.new) writing.new) (told_by write_told result) }
 {
-    'pieces: loop {
-        match hear_waiting(alloc, broker, &mut inbox.waiting, sink, writing) {
+    'looks: loop {
+        match listen_next(alloc, broker, inbox, source, sink, buffer, reading, writing) {
             Ok(Some(heard)) => return Ok(heard),
             Ok(None) => {}
-            Err(fault) => return Err(fault),
-        }
-        match read_more(alloc, &mut inbox.deframer, source, buffer, reading) {
-            Ok(frames) => inbox.waiting = frames,
             Err(fault) => return Err(fault),
         }
     }

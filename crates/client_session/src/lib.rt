@@ -7,6 +7,7 @@
 //! // as in cases_client/src/talking.rt
 //! match Link::connect(alloc, source, sink, self.serializer) {
 //!     Ok(mut link) => match say_all(alloc, &link, sink, &self.sayings)? {
+//!         None if self.is_looking => look_on(alloc, &mut link, source, sink),
 //!         None => hear_all(alloc, &mut link, source, sink),
 //!         Some(end) => ended(alloc, end),
 //!     },
@@ -20,6 +21,18 @@
 //! // hear_all, up to the fault that ends it:
 //! match link.hear(alloc, source, sink) {
 //!     Ok(heard) => lines.push_str(in_words(alloc, heard)?.as_str())?,
+//!     Err(fault) => {
+//!         let end = fault_line(alloc, fault)?;
+//!         return Ok(Talk { lines, count, end });
+//!     }
+//! }
+//! // look_on, which waits for nothing but octets:
+//! match link.listen(alloc, source, sink) {
+//!     Ok(Some(heard)) => {
+//!         lines.push_str(in_words(alloc, heard)?.as_str())?;
+//!         count += 1;
+//!     }
+//!     Ok(None) => lines.push_str("nothing yet\n")?,
 //!     Err(fault) => {
 //!         let end = fault_line(alloc, fault)?;
 //!         return Ok(Talk { lines, count, end });

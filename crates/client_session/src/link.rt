@@ -1,17 +1,17 @@
 //! A link to a broker.
-ghost use Rattle.std.specs.Prelude.{◌≡◌, ◌≤◌, ◌++◌, [], length, IfOk, IfErr, OnOk, Ok, Err, true};
+ghost use Rattle.std.specs.Prelude.{◌≡◌, ◌≢◌, ◌≤◌, ◌+◌, ◌++◌, ◌↔◌, [], length, IfOk, IfErr, IsTrue, OnOk, Ok, Err, true};
 ghost use Rattle.rawsocket.specs.Steps.{ReadSteps, WriteSteps, told_by};
 ghost use Rattle.session.specs.Opened.{exchanged};
 ghost use Rattle.client_session.specs.Faults.{read_told, write_told};
 ghost use Rattle.client_session.specs.Handshake.{IsRefused, Replies};
-ghost use Rattle.client_session.specs.Hearing.{HearsNext, heard_at, terms};
+ghost use Rattle.client_session.specs.Hearing.{HearsNext, ListensNext, LookSteps, heard_at, terms};
 ghost use Rattle.client_session.specs.Saying.{payload_of, saying, IsCutShort};
 ghost use Rattle.rawsocket.specs.Devices.{Takes};
 
 use crate::encoding::frame_of;
 use crate::fault::Fault;
 use crate::handshake::shake_hands;
-use crate::inbox::{BrokerTerms, UnheardFrames, hear_next};
+use crate::inbox::{BrokerTerms, UnheardFrames, hear_next, listen_next};
 use crate::sending::send;
 use client_messages::{ClientMessage, Heard};
 use rawsocket::devices::{PIECE, Sink, Source, Turns};
@@ -128,6 +128,54 @@ impl Link {
         };
         let mut writing = Turns::new();
         send(sink, &frame, &mut writing)
+    }
+
+    /// Whether all frames that came are heard: none waits for the next call.
+    pub fn is_quiet(&self) -> bool
+        ensures { IsTrue result ↔ (self.now.waiting ≡ []) }
+    {
+        self.inbox.waiting.is_empty()
+    }
+
+    /// Hears what the broker says by one look: at the frames that wait, or, where none waits, at the next octets of the stream, by one
+    /// read. It is the next message, or nothing, where none is here yet. PINGs and PONGs are taken as by [`Link::hear`], and
+    /// nothing is lost.
+    ///
+    /// # Errors
+    /// As [`Link::hear`].
+    pub fn listen<I: Source, O: Sink>(
+        &mut self,
+        alloc: Global,
+        source: &mut I,
+        sink: &mut O,
+    ) -> Result<Option<Heard>, Fault>
+        ensures next { ListensNext (terms self.old.serializer self.old.limit)
+            (heard_at self.old (I.seen source.old) (O.seen sink.old))
+            (heard_at self.new (I.seen source.new) (O.seen sink.new)) result }
+        ensures unread { self.old.waiting ≢ [] → I.seen source.new ≡ I.seen source.old }
+        ensures once { OnOk result (self.old.waiting ≡ [] →
+            (I.seen source.new).calls ≡ (I.seen source.old).calls + 1) }
+        ensures serializer { self.new.serializer ≡ self.old.serializer }
+        ensures limit { self.new.limit ≡ self.old.limit }
+        ensures ended { result ≡ Err Fault.Ended → (I.seen source.new).is_ended ≡ true }
+        ensures reads { LookSteps (I.seen source.old) (I.seen source.new)
+            (told_by read_told result) }
+        ensures writes { WriteSteps (O.seen sink.old) (O.seen sink.new)
+            (told_by write_told result) }
+    {
+        let broker = self.broker;
+        let mut reading = Turns::of(1);
+        let mut writing = Turns::new();
+        listen_next(
+            alloc,
+            broker,
+            &mut self.inbox,
+            source,
+            sink,
+            &mut self.buffer,
+            &mut reading,
+            &mut writing,
+        )
     }
 
     /// Hears the next message of the broker. A PING before it is answered by a PONG, a PONG is passed over.

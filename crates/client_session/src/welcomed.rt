@@ -1,9 +1,9 @@
 //! A session that a broker welcomed.
-ghost use Rattle.std.specs.Prelude.{◌≡◌, ◌↔◌, [], Contains, IfOk, IfErr, IsTrue, Ok, Err, true};
+ghost use Rattle.std.specs.Prelude.{◌≡◌, ◌≢◌, ◌+◌, ◌↔◌, [], Contains, IfOk, IfErr, IsTrue, OnOk, Ok, Err, true};
 ghost use Rattle.rawsocket.specs.Steps.{ReadSteps, WriteSteps, told_by};
 ghost use Rattle.client_session.specs.Faults.{read_told, write_told};
-ghost use Rattle.client_session.specs.Hearing.{HearsNext, heard_at, terms};
-ghost use Rattle.client_session.specs.Sessions.{HearsInSession, IsGreeting, IsJudged, IsUnwelcome, opening_read_told, opening_write_told, session_read_told, session_write_told};
+ghost use Rattle.client_session.specs.Hearing.{HearsNext, LookSteps, heard_at, terms};
+ghost use Rattle.client_session.specs.Sessions.{HearsInSession, ListensInSession, IsGreeting, IsJudged, IsUnwelcome, opening_read_told, opening_write_told, session_read_told, session_write_told};
 
 use crate::fault::Fault;
 use crate::link::Link;
@@ -146,6 +146,43 @@ impl ClientSession {
         ensures { result.now ≡ self.now.line }
     {
         &self.link
+    }
+
+    /// Hears what the broker says by one look, as [`Link::listen`].
+    ///
+    /// # Errors
+    /// As [`ClientSession::hear`].
+    pub fn listen<I: Source, O: Sink>(
+        &mut self,
+        alloc: Global,
+        source: &mut I,
+        sink: &mut O,
+    ) -> Result<Option<Heard>, Unheard>
+        ensures next { ListensInSession (terms self.old.line.serializer self.old.line.limit)
+            (heard_at self.old.line (I.seen source.old) (O.seen sink.old))
+            (heard_at self.new.line (I.seen source.new) (O.seen sink.new))
+            self.old.subscriptions self.new.subscriptions result }
+        ensures unread { self.old.line.waiting ≢ [] → I.seen source.new ≡ I.seen source.old }
+        ensures once { OnOk result (self.old.line.waiting ≡ [] →
+            (I.seen source.new).calls ≡ (I.seen source.old).calls + 1) }
+        ensures id { self.new.id ≡ self.old.id }
+        ensures serializer { self.new.line.serializer ≡ self.old.line.serializer }
+        ensures limit { self.new.line.limit ≡ self.old.line.limit }
+        ensures ended { result ≡ Err (Unheard.Failed Fault.Ended) → (I.seen source.new).is_ended ≡
+            true }
+        ensures reads { LookSteps (I.seen source.old) (I.seen source.new)
+            (told_by session_read_told result) }
+        ensures writes { WriteSteps (O.seen sink.old) (O.seen sink.new)
+            (told_by session_write_told result) }
+    {
+        match self.link.listen(alloc, source, sink) {
+            Ok(Some(heard)) => match judge(&mut self.subscriptions, heard) {
+                Ok(heard) => Ok(Some(heard)),
+                Err(unheard) => Err(unheard),
+            },
+            Ok(None) => Ok(None),
+            Err(fault) => Err(Unheard::Failed(fault)),
+        }
     }
 
     /// Hears the next message of the session, as [`Link::hear`].

@@ -1,58 +1,30 @@
-use Rattle.std.proofs.Common.{ap, subst, sym, List, ℕ, [], Err}
-use Rattle.rawsocket.specs.Deframer.{Deframing}
-use Rattle.rawsocket.specs.Frames.{Content, contents}
+use Rattle.std.proofs.Common.{inl, refl}
+use Rattle.rawsocket.specs.Frames.{contents}
 use Rattle.rawsocket.proofs.Lemmas.{no_steps, then_steps}
-use Rattle.client_session.specs.Hearing.{HearsNext, IsQuiet, ear, stand, terms}
-use Rattle.client_session.proofs.HearingLemmas.{listening_hears, listening_more, listening_silent, listening_start, listening_stops}
+use Rattle.client_session.specs.Hearing.{HearsNone, ear, terms}
+use Rattle.client_session.proofs.HearingLemmas.{hears_later, none_later, reads_held}
 use Rattle.client_session.proofs.inbox.hear_next.Goals as goal
 
-pub pieces-init : goal.pieces-init
-pieces-init g c = record {
-  listening = listening_start (terms c.args.broker.serializer c.args.broker.limit)
-      (ear (contents c.args.inbox.now.waiting.items) c.args.inbox.now.deframer.held (g.I.Source.seen c.args.source.now).given (g.O.Sink.seen c.args.sink.now).taken) c.requires.steady;
-  most = c.requires.most;
-  reads = no_steps _;
-  writes = no_steps _;
-}
+pub looks-init : goal.looks-init
+looks-init g c = record { yet = inl refl; most = c.requires.most; steady = c.requires.steady; reads = no_steps _; writes = no_steps _ }
 
 pub returns-in-Ok-Some-clause-next : goal.returns-in-Ok-Some-clause-next
 returns-in-Ok-Some-clause-next g c =
-    listening_hears (terms c.args.broker.serializer c.args.broker.limit)
-    (ear (contents c.args.inbox.now.waiting.items) c.args.inbox.now.deframer.held (g.I.Source.seen c.args.source.now).given (g.O.Sink.seen c.args.sink.now).taken)
-    (contents c.pieces.inbox.waiting.items) (contents c.hear_waiting.new.waiting.items) c.pieces.inbox.deframer.held (g.I.Source.seen c.pieces.source).given (g.O.Sink.seen c.pieces.sink).taken (g.O.Sink.seen c.hear_waiting.new.sink).taken
-    c.in-Ok-Some.heard c.pieces.invariant.listening (rw c.in-Ok-Some.field-0-is at c.in-Ok-Some.ensures.gives)
+    hears_later (terms c.args.broker.serializer c.args.broker.limit) _ _ _ _ c.looks.invariant.yet (rw c.in-Ok-Some.field-0-is at c.in-Ok-Some.ensures.next)
 
 pub returns-in-Err-clause-next : goal.returns-in-Err-clause-next
-returns-in-Err-clause-next g c =
-    listening_stops (terms c.args.broker.serializer c.args.broker.limit)
-    (ear (contents c.args.inbox.now.waiting.items) c.args.inbox.now.deframer.held (g.I.Source.seen c.args.source.now).given (g.O.Sink.seen c.args.sink.now).taken)
-    (contents c.pieces.inbox.waiting.items) (contents c.hear_waiting.new.waiting.items) c.pieces.inbox.deframer.held (g.I.Source.seen c.pieces.source).given (g.O.Sink.seen c.pieces.sink).taken (g.O.Sink.seen c.hear_waiting.new.sink).taken
-    c.in-Err.fault c.pieces.invariant.listening c.in-Err.ensures.gives
+returns-in-Err-clause-next g c = hears_later (terms c.args.broker.serializer c.args.broker.limit) _ _ _ _ c.looks.invariant.yet c.in-Err.ensures.next
 
-pub pieces-preserved : goal.pieces-preserved
-pieces-preserved g c =
+pub looks-preserved : goal.looks-preserved
+looks-preserved g c =
     let t = terms c.args.broker.serializer c.args.broker.limit in
-    let quiet : IsQuiet t (stand (contents c.pieces.inbox.waiting.items) (g.O.Sink.seen c.pieces.sink).taken) (stand (contents c.hear_waiting.new.waiting.items) (g.O.Sink.seen c.hear_waiting.new.sink).taken) =
-    rw c.in-Ok-None.field-0-is at c.in-Ok-None.ensures.gives in
-    let emptied : IsQuiet t (stand (contents c.pieces.inbox.waiting.items) (g.O.Sink.seen c.pieces.sink).taken) (stand [] (g.O.Sink.seen c.hear_waiting.new.sink).taken) =
-    subst (λ (w : List Content). IsQuiet t (stand (contents c.pieces.inbox.waiting.items) (g.O.Sink.seen c.pieces.sink).taken) (stand w (g.O.Sink.seen c.hear_waiting.new.sink).taken)) quiet.none quiet in
+    let mid = ear (contents c.looks.inbox.waiting.items) c.looks.inbox.deframer.held (g.I.Source.seen c.looks.source).given (g.O.Sink.seen c.looks.sink).taken in
+    let now = ear (contents c.listen_next.new.inbox.waiting.items) c.listen_next.new.inbox.deframer.held (g.I.Source.seen c.listen_next.new.source).given (g.O.Sink.seen c.listen_next.new.sink).taken in
+    let none : HearsNone t mid now = rw c.in-Ok-None.field-0-is at c.in-Ok-None.ensures.next in
     record {
-      listening = listening_more t (ear (contents c.args.inbox.now.waiting.items) c.args.inbox.now.deframer.held (g.I.Source.seen c.args.source.now).given (g.O.Sink.seen c.args.sink.now).taken)
-          (contents c.pieces.inbox.waiting.items) (contents c.in-Ok.frames.items) c.pieces.inbox.deframer.held c.read_more.new.deframer.held (g.I.Source.seen c.pieces.source).given (g.I.Source.seen c.read_more.new.source).given
-          (g.O.Sink.seen c.pieces.sink).taken (g.O.Sink.seen c.hear_waiting.new.sink).taken c.pieces.invariant.listening emptied c.in-Ok.ensures.more;
-      most = c.in-Ok.ensures.most;
-      reads = then_steps c.pieces.invariant.reads c.in-Ok.ensures.reads;
-      writes = then_steps c.pieces.invariant.writes c.in-Ok-None.ensures.writes;
+      yet = none_later t _ mid now c.looks.invariant.yet none;
+      most = c.listen_next.ensures.most;
+      steady = reads_held _ _ _ none.reads;
+      reads = then_steps c.looks.invariant.reads c.in-Ok-None.ensures.reads;
+      writes = then_steps c.looks.invariant.writes c.in-Ok-None.ensures.writes;
     }
-
-pub returns-in-Err-read_more-clause-next : goal.returns-in-Err-read_more-clause-next
-returns-in-Err-read_more-clause-next g c =
-    let t = terms c.args.broker.serializer c.args.broker.limit in
-    let quiet : IsQuiet t (stand (contents c.pieces.inbox.waiting.items) (g.O.Sink.seen c.pieces.sink).taken) (stand (contents c.hear_waiting.new.waiting.items) (g.O.Sink.seen c.hear_waiting.new.sink).taken) =
-    rw c.in-Ok-None.field-0-is at c.in-Ok-None.ensures.gives in
-    subst (λ (h : List ℕ). HearsNext t
-    (ear (contents c.args.inbox.now.waiting.items) c.args.inbox.now.deframer.held (g.I.Source.seen c.args.source.now).given (g.O.Sink.seen c.args.sink.now).taken)
-    (ear (contents c.hear_waiting.new.waiting.items) h (g.I.Source.seen c.read_more.new.source).given (g.O.Sink.seen c.hear_waiting.new.sink).taken) (Err c.in-Err-read_more.fault)) (ap (λ (d : Deframing). d.held) (sym c.in-Err-read_more.ensures.same))
-    (listening_silent t (ear (contents c.args.inbox.now.waiting.items) c.args.inbox.now.deframer.held (g.I.Source.seen c.args.source.now).given (g.O.Sink.seen c.args.sink.now).taken)
-    (contents c.pieces.inbox.waiting.items) (contents c.hear_waiting.new.waiting.items) c.pieces.inbox.deframer.held (g.I.Source.seen c.pieces.source).given (g.I.Source.seen c.read_more.new.source).given
-    (g.O.Sink.seen c.pieces.sink).taken (g.O.Sink.seen c.hear_waiting.new.sink).taken c.in-Err-read_more.fault c.pieces.invariant.listening quiet c.in-Err-read_more.ensures.stops c.in-Err-read_more.ensures.lost)
