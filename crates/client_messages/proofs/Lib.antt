@@ -3,3 +3,4 @@ pub mod HeardAsMeant
 pub mod Wished
 pub mod TextItems
 pub mod NumberItems
+mod InJson

@@ -37,3 +37,17 @@ impl<T: Drop> From<AllocFailed<T>> for Fault {
         Fault::NoMemory
     }
 }
+
+impl From<arguments::Fault> for Fault {
+    ghost use Rattle.client_messages.specs.Faults.{arguments_fault};
+    ghost use Rattle.std.specs.Prelude.{◌≡◌};
+
+    ghost from_gives = { λ of fault. fault ≡ arguments_fault of };
+
+    fn from(fault: arguments::Fault) -> Fault {
+        match fault {
+            arguments::Fault::NoMemory => Fault::NoMemory,
+            arguments::Fault::Shape | arguments::Fault::TooLong => Fault::NoBrokerMessage,
+        }
+    }
+}

@@ -8,6 +8,7 @@
 mod client_message;
 mod dictionaries;
 mod elements;
+mod events;
 mod fault;
 mod heard;
 mod hearing;
@@ -16,6 +17,7 @@ mod saying;
 mod wishes;
 
 pub use client_message::ClientMessage;
+pub use events::read_event;
 pub use fault::Fault;
 pub use heard::{EventDetails, Heard};
 pub use hearing::read_heard;

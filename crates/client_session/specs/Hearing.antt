@@ -16,6 +16,8 @@ use Rattle.session.specs.Serializer.{Decodes, IsUndecodable}
 use Rattle.session.specs.declared.fault.Fault.TheVariants as session
 use Rattle.client_messages.specs.FromBroker.{heard_of}
 use Rattle.client_messages.specs.declared.heard.Heard.{Heard}
+-- the payload is a message of a broker, which says this
+pub use Rattle.client_messages.specs.Says.{Says}
 use Rattle.client_session.specs.declared.fault.Fault.{Fault}
 use Rattle.client_session.specs.declared.fault.Fault.TheVariants.{NoMemory, FrameTooLong, FrameType, TooDeep, Malformed, NoBrokerMessage, TooLongForBroker, Ended, ReadFault, WriteFault, TooManyReads, TooManyWrites}
 
@@ -30,12 +32,6 @@ pub record Terms : Type 0 where
 
 abbrev pub terms : Serializer → ℕ → Terms
 terms s limit = record { serializer = s; limit = limit }
-
--- the payload is a message of a broker, which says this
-pub record Says (s : Serializer) (payload : List ℕ) (heard : Heard) : Type 0 where
-  pub message : Data
-  pub decodes : Decodes s payload message
-  pub says : heard_of message ≡ Some heard
 
 -- it is a message, but of no broker
 pub record IsForeign (s : Serializer) (payload : List ℕ) : Type 0 where

@@ -8,15 +8,27 @@ ghost use Rattle.client_session.specs.Hearing.{Says, SaysNothing, first_kind, st
 use crate::fault::Fault;
 use crate::inbox::BrokerTerms;
 use crate::sending::send;
-use client_messages::{Heard, read_heard};
+use client_messages::{Heard, read_event, read_heard};
 use rawsocket::devices::{Sink, Turns};
 use rawsocket::{Frame, Kind, Serializer, write_frame};
 use session::decode;
 use std::alloc::Global;
 use std::collections::VecDeque;
 
-/// What the payload of a message says.
+/// What the payload of a message says: of an event at once, and of another message by its tree.
 fn read_message(alloc: Global, serializer: Serializer, payload: &[u8]) -> Result<Heard, Fault>
+    ensures ok { IfOk result (λ heard. Says serializer payload.now heard) }
+    ensures bad { IfErr result (λ f. f ≢ Fault.NoMemory → SaysNothing serializer payload.now f) }
+{
+    match read_event(alloc, serializer, payload) {
+        Ok(heard) => Ok(heard),
+        Err(client_messages::Fault::NoMemory) => Err(Fault::NoMemory),
+        Err(_) => read_tree(alloc, serializer, payload),
+    }
+}
+
+/// What the tree of a message says.
+fn read_tree(alloc: Global, serializer: Serializer, payload: &[u8]) -> Result<Heard, Fault>
     ensures ok { IfOk result (λ heard. Says serializer payload.now heard) }
     ensures bad { IfErr result (λ f. f ≢ Fault.NoMemory → SaysNothing serializer payload.now f) }
 {
