@@ -17,6 +17,7 @@ mod connecting;
 mod dialer;
 mod due_stream;
 mod failure;
+mod keepalive;
 mod patient_stream;
 mod places;
 
