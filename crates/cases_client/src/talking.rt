@@ -226,12 +226,12 @@ fn look_on<I: Source, O: Sink>(
     sink: &mut O,
 ) -> io::Result<Talk> {
     let mut lines = String::new(alloc);
-    let mut count = 0;
+    let mut count = 0u64;
     for _ in 0..u64::MAX {
         match link.listen(alloc, source, sink) {
             Ok(Some(heard)) => {
                 lines.push_str(in_words(alloc, heard)?.as_str())?;
-                count += 1;
+                count = count.saturating_add(1);
             }
             Ok(None) => lines.push_str("nothing yet\n")?,
             Err(fault) => {

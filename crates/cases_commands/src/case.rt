@@ -1,19 +1,21 @@
 //! From a line to its answer.
 use crate::connections::Connections;
 use crate::faults::faults;
-use crate::timings::Told;
+use crate::timings::{Coming, Told};
 use crate::told::Outcome;
 use crate::values::value;
 use case_devices::{FailsAt, OneByOne};
 use case_text::{Table, is_refused, line_of, number_of, octets_of};
 use client_commands::{
-    Arguments, Contact, Fault, LineForm, Listener, PublishCommand, PublishWishes, Serializer,
-    SubscribeCommand, SubscribeWishes, publish, resubscribe, subscribe, value_of, whole_input,
+    Arguments, Arrival, Contact, Fault, LineForm, Listener, PublishCommand, PublishWishes,
+    Serializer, SubscribeCommand, SubscribeWishes, publish, resubscribe, subscribe, value_of,
+    whole_input,
 };
 use message_tree::{Content, Text, Tree};
 use rawsocket::devices::{MemorySource, Sink, Source, WriteSink};
 use rawsocket::{Kind, write_frame};
 use std::alloc::Global;
+use std::collections::VecDeque;
 use std::io;
 use wamp_ids::Policy;
 
@@ -75,8 +77,10 @@ pub struct Case {
     connections: Vec<Option<Vec<u8>>>,
     octets: Vec<u8>,
     is_slow: bool,
+    is_typed: bool,
     is_plain: bool,
     is_timed: bool,
+    coming: Vec<Coming>,
     failing: Failing,
 }
 
@@ -101,8 +105,10 @@ impl Case {
             connections: Vec::new(alloc),
             octets: Vec::new(alloc),
             is_slow: false,
+            is_typed: false,
             is_plain: false,
             is_timed: false,
+            coming: Vec::new(alloc),
             failing: NONE,
         }
     }
@@ -159,6 +165,7 @@ impl Case {
         match word {
             "octets" => self.octets.extend_from_slice(&octets_of(alloc, text)?)?,
             "repeat" => self.repeat(text)?,
+            "comes" => self.add_coming(text)?,
             "input" => match text.split_once(' ') {
                 Some((call, "fails")) => {
                     self.failing = self.failing.with(word, number_of(call));
@@ -179,6 +186,20 @@ impl Case {
         Ok(())
     }
 
+    /// What comes while the command waits, so many times, as in `2 input`.
+    fn add_coming(&mut self, text: &str) -> io::Result<()> {
+        let (count, word) = text.split_once(' ').unwrap_or((text, ""));
+        let coming = match word {
+            "broker" => Coming::From(Arrival::Broker),
+            "held" => Coming::Held,
+            _ => Coming::From(Arrival::Input),
+        };
+        for _ in 0..number_of(count) {
+            self.coming.push(coming)?;
+        }
+        Ok(())
+    }
+
     fn take_word(&mut self, alloc: Global, word: &str) -> io::Result<String> {
         match word {
             "msgpack" => self.serializer = Serializer::MsgPack,
@@ -188,6 +209,7 @@ impl Case {
             "lines" => self.is_lines = true,
             "file" => self.is_file = true,
             "slowly" => self.is_slow = true,
+            "typed" => self.is_typed = true,
             "plain" => self.is_plain = true,
             "timed" => self.is_timed = true,
             "next" => self.end_connection(alloc)?,
@@ -301,13 +323,12 @@ impl Case {
         source: &mut I,
         sink: &mut O,
     ) -> io::Result<Outcome> {
-        let input = MemorySource::new(self.input.as_slice().to_vec(alloc)?);
         let output = WriteSink::new(Vec::with_capacity(alloc, ROOM)?);
-        let mut input = FailsAt::new(input, failing.input);
         let notes = WriteSink::new(Vec::with_capacity(alloc, ROOM)?);
         let mut output = FailsAt::new(output, failing.output);
         let mut notes = FailsAt::new(notes, failing.notes);
-        let mut timing = Told::new(alloc, self.is_timed);
+        let coming = self.coming.as_slice().to_vec(alloc)?;
+        let mut timing = Told::with(alloc, self.is_timed, VecDeque::from_vec(coming));
         let end = match command {
             "subscribe" => {
                 let command = self.subscribing(alloc)?;
@@ -324,7 +345,7 @@ impl Case {
                 );
                 end_of(alloc, ran)?
             }
-            _ => self.run_publish(alloc, source, sink, &mut input, &mut timing)?,
+            _ => self.run_publish(alloc, failing, source, sink, &mut timing)?,
         };
         Ok(Outcome {
             written: Vec::new(alloc),
@@ -335,8 +356,26 @@ impl Case {
         })
     }
 
+    /// Publishes from an input that comes at once, or one octet at a time.
+    fn run_publish<I: Source, O: Sink>(
+        &self,
+        alloc: Global,
+        failing: Failing,
+        source: &mut I,
+        sink: &mut O,
+        timing: &mut Told,
+    ) -> io::Result<String> {
+        let input = MemorySource::new(self.input.as_slice().to_vec(alloc)?);
+        if self.is_typed {
+            let mut input = FailsAt::new(OneByOne::new(input), failing.input);
+            return self.publish_from(alloc, source, sink, &mut input, timing);
+        }
+        let mut input = FailsAt::new(input, failing.input);
+        self.publish_from(alloc, source, sink, &mut input, timing)
+    }
+
     /// Publishes, and tells what came last. A file is read whole before.
-    fn run_publish<I: Source, O: Sink, J: Source>(
+    fn publish_from<I: Source, O: Sink, J: Source>(
         &self,
         alloc: Global,
         source: &mut I,

@@ -7,7 +7,7 @@ use Rattle.client_session.specs.Hearing.{Ear, Terms}
 use Rattle.client_session.specs.Saying.{saying}
 use Rattle.client_session.specs.Sessions.{Welcomed}
 use Rattle.client_commands.specs.Acts.{Continues, EndsByMessage, Joins, exchange_of, standing, terms_of, writing}
-use Rattle.client_commands.specs.Ends.{AreFirstLines, EndsAtLine, EndsInAll, EndsInLines, EndsPublishing, IsOver, IsUnanswered, IsWhole}
+use Rattle.client_commands.specs.Ends.{AreFirstLines, EndsAtLine, EndsInAll, EndsInLines, EndsPublishing, HearsUnawaited, IsOver, IsUnanswered, IsWhole}
 use Rattle.client_commands.specs.Faults.{IsOfNoContents, is_blamed, is_of_contents, is_of_message}
 use Rattle.client_commands.specs.Lines.{ended}
 use Rattle.client_commands.specs.Pacing.{AllAnswered, IsPaced}
@@ -44,12 +44,12 @@ module _ (command : PublishCommand) (t : Terms) (before : Ear) where
       whole = whole;
       stops = stops;
     })
-    | inr unanswered ↦ inr (record {
+    | inr unanswered ↦ inr (inl (record {
       lines = p.lines;
       first = inl (rest ++ behind, split ∙ ap (λ xs. xs ++ behind) p.split ∙ append_assoc (ended p.lines) rest behind);
       clean = p.lines_clean;
       unanswered = unanswered;
-    })
+    }))
   ]
 
   -- the line behind those that were published ends it
@@ -66,24 +66,24 @@ module _ (command : PublishCommand) (t : Terms) (before : Ear) where
       → IsPublishedOf command t before mid input rest count answered
       → ((b : Ear) (ls : List (List ℕ)) → length ls ≡ count → IsPaced command u b mid ls answered → IsUnanswered command u b now ls fault)
       → EndsInLines command t before now octets over fault
-  ends-by-answer u mid now input behind rest octets count answered over fault e split p ends = inr (record {
+  ends-by-answer u mid now input behind rest octets count answered over fault e split p ends = inr (inl (record {
     lines = p.lines;
     first = inl (rest ++ behind, split ∙ ap (λ xs. xs ++ behind) p.split ∙ append_assoc (ended p.lines) rest behind);
     clean = p.lines_clean;
     unanswered = subst (λ x. IsUnanswered command x before now p.lines fault) e (ends before p.lines (sym p.counted) (subst (λ x. IsPaced command x before mid p.lines answered) (sym e) p.publishes));
-  })
+  }))
 
   -- or the answer to one up to the last one, which needs no LF
   pub ends-by-last : (mid now : Ear) (input rest : List ℕ) (count answered : ℕ) (fault : Fault) → 0 < length rest
       → IsPublishedOf command t before mid input rest count answered
       → ((ls : List (List ℕ)) → length ls ≡ count → IsPaced command t before mid ls answered → IsUnanswered command t before now (rest ∷ ls) fault)
       → EndsInLines command t before now input true fault
-  ends-by-last mid now input rest count answered fault some p ends = inr (record {
+  ends-by-last mid now input rest count answered fault some p ends = inr (inl (record {
     lines = rest ∷ p.lines;
     first = inr (refl, (p.split, some));
     clean = (p.rest_clean, p.lines_clean);
     unanswered = ends p.lines (sym p.counted) p.publishes;
-  })
+  }))
 
   -- a line that is longer than 2 ^ 20 octets ends it, whether or not LF comes
   pub ends-long : (now : Ear) (octets rest : List ℕ) (count answered : ℕ) (fault : Fault) → fault ≡ BadLine (count + 1) → 1048576 < length rest → AllAnswered command.wishes.acknowledge count answered
@@ -135,12 +135,15 @@ module _ (command : PublishCommand) (t : Terms) (before : Ear) where
       whole = whole-however over bad.line bad.behind bad.whole;
       stops = bad.stops;
     })
-    | inr answer ↦ inr (record {
-      lines = answer.lines;
-      first = first-however over octets answer.lines answer.first;
-      clean = answer.clean;
-      unanswered = answer.unanswered;
-    })
+    | inr rest ↦ elim rest [
+      | inl answer ↦ inr (inl (record {
+        lines = answer.lines;
+        first = first-however over octets answer.lines answer.first;
+        clean = answer.clean;
+        unanswered = answer.unanswered;
+      }))
+      | inr interrupted ↦ inr (inr interrupted)
+    ]
   ]
 
   -- a piece more ends it, under terms that stay
@@ -150,6 +153,19 @@ module _ (command : PublishCommand) (t : Terms) (before : Ear) where
   ends-in-piece u mid now input piece rest count answered over fault e ends p =
       ends-however now (input ++ piece) over fault (subst (λ x. EndsInLines command x before now (input ++ piece) false fault) e
       (ends before input (subst (λ x. IsPublishedOf command x before mid input rest count answered) (sym e) p)))
+
+  -- a message ends it that nothing waits for
+  pub ends-interrupted : (u : Terms) (mid now : Ear) (input rest : List ℕ) (count answered : ℕ) (over : Bool) (fault : Fault) → u ≡ t → AllAnswered command.wishes.acknowledge count answered
+      → HearsUnawaited u mid now fault → IsPublishedOf command t before mid input rest count answered → EndsInLines command t before now input over fault
+  ends-interrupted u mid now input rest count answered over fault e all heard p = inr (inr (record {
+    rest = rest;
+    count = count;
+    answered = answered;
+    last = mid;
+    publishes = p;
+    all = all;
+    unawaited = subst (λ x. HearsUnawaited x mid now fault) e heard;
+  }))
 
   -- the last line ends it
   pub ends-in-last : (u : Terms) (mid now : Ear) (input rest : List ℕ) (count answered : ℕ) (over : Bool) (fault : Fault) → u ≡ t → over ≡ true

@@ -1,5 +1,5 @@
 -- What faults tell of devices.
-use Rattle.std.proofs.Common.{◌≡◌, refl, sym, ap, subst, ℕ, Bool, true, List, Result, Ok, Err}
+use Rattle.std.proofs.Common.{◌≡◌, ◌+◌, refl, sym, ap, subst, ℕ, Bool, true, List, Result, Ok, Err}
 use Rattle.std.specs.Prelude.{IfErr}
 use Rattle.rawsocket.specs.Steps.{Fine, Meter, Told, WholeSteps, failures_told, told_by}
 use Rattle.client_messages.specs.declared.client_message.ClientMessage.{ClientMessage}
@@ -101,6 +101,10 @@ of_opening-write (no_session.Failed fault) = of_link-write fault
 -- a whole call, told in another way
 pub retold : {before after : ℕ → Meter} {told other : Told} → other ≡ told → WholeSteps before after told → WholeSteps before after other
 retold {before} {after} {told} {other} is s = subst (λ t. WholeSteps before after t) (sym is) s
+
+-- and of the failures alone
+pub failures_retold : (before now : ℕ) (told other : Told) → other ≡ told → now ≡ before + failures_told told → now ≡ before + failures_told other
+failures_retold before now told other is s = subst (λ t. now ≡ before + failures_told t) (sym is) s
 
 -- what is said tells nothing of what is read
 pub cut_short-unread : (t : Terms) (said : ClientMessage) (before now : List ℕ) (f : link_faults.Fault) → IsCutShort t said before now f → read_told f ≡ Fine

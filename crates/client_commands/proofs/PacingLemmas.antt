@@ -1,7 +1,7 @@
 -- Lines that are published in a window.
-use Rattle.std.proofs.Common.{◌≡◌, ◌∙◌, ℕ, ◌+◌, List, [], ◌∷◌, length, add-one, refl, ap, subst, sym}
-use Rattle.client_session.specs.Hearing.{Ear, Terms}
-use Rattle.client_commands.specs.Pacing.{HasRoom, Hears, IsAcknowledged, IsDue, IsPaced, Says, SaysLine, lines_of}
+use Rattle.std.proofs.Common.{◌≡◌, ◌∙◌, ℕ, ◌+◌, List, [], ◌∷◌, length, add-one, refl, ap, inl, inr, subst, sym}
+use Rattle.client_session.specs.Hearing.{Ear, HearsNoneYet, Terms}
+use Rattle.client_commands.specs.Pacing.{Attends, HasRoom, Hears, IsAcknowledged, IsDue, IsPaced, Says, SaysLine, lines_of}
 use Rattle.client_commands.specs.declared.command.PublishCommand.{PublishCommand}
 
 -- one line more is counted
@@ -42,3 +42,10 @@ module _ (command : PublishCommand) (t : Terms) (before : Ear) where
       subst (λ n. IsAcknowledged t (n + 1) mid now) (sym p.answered_are) answer,
     );
   }
+
+  -- the broker is attended to
+  pub paced-attending : (mid now : Ear) (lines : List (List ℕ)) (answered : ℕ) → HearsNoneYet t mid now → IsPaced command t before mid lines answered → IsPaced command t before now lines answered
+  paced-attending mid now lines answered attends p = elim attends [
+    | inl same ↦ subst (λ (e : Ear). IsPaced command t before e lines answered) (sym same) p
+    | inr none ↦ record { acts = Attends ∷ p.acts; lines_are = p.lines_are; answered_are = p.answered_are; does = (mid, p.does, none) }
+  ]

@@ -3,12 +3,12 @@ use Rattle.std.proofs.Common.{◌≡◌, ℕ, Bool, ◌+◌, ◌-◌, ◌<◌, �
 use Rattle.std.proofs.lemmas.List.Folds.{list_any-append}
 use Rattle.std.proofs.lemmas.Bool.{or_from}
 use Rattle.std.proofs.lemmas.List.{take_all}
-use Rattle.client_session.specs.Hearing.{Ear, Terms}
+use Rattle.client_session.specs.Hearing.{Ear, HearsNoneYet, Terms}
 use Rattle.client_commands.specs.Lines.{ended, has_line_feed}
 use Rattle.client_commands.specs.Pacing.{AllAnswered, IsPaced}
 use Rattle.client_commands.specs.Published.{IsPublishedOf, PublishesInput}
 use Rattle.client_commands.specs.declared.command.PublishCommand.{PublishCommand}
-use Rattle.client_commands.proofs.PacingLemmas.{paced-none}
+use Rattle.client_commands.proofs.PacingLemmas.{paced-attending, paced-none}
 
 clean-append : (xs ys : List ℕ) → has_line_feed xs ≡ false → has_line_feed ys ≡ false → has_line_feed (xs ++ ys) ≡ false
 clean-append xs ys e f = list_any-append (λ c. eqb c 10) xs ys ∙ or_from (has_line_feed xs) (has_line_feed ys) e f
@@ -59,6 +59,18 @@ module _ (command : PublishCommand) (t : Terms) (before : Ear) where
     rest_clean = clean-append rest octets p.rest_clean clean;
     counted = p.counted;
     publishes = p.publishes;
+  }
+
+  -- the broker is attended to
+  pub published-attending : (u : Terms) (mid now : Ear) (input rest : List ℕ) (count answered : ℕ) → u ≡ t → HearsNoneYet u mid now
+      → IsPublishedOf command t before mid input rest count answered → IsPublishedOf command t before now input rest count answered
+  published-attending u mid now input rest count answered e attends p = record {
+    lines = p.lines;
+    split = p.split;
+    lines_clean = p.lines_clean;
+    rest_clean = p.rest_clean;
+    counted = p.counted;
+    publishes = paced-attending command t before mid now p.lines answered (subst (λ x. HearsNoneYet x mid now) e attends) p.publishes;
   }
 
   -- acknowledgements are heard

@@ -14,7 +14,7 @@ use Rattle.client_commands.specs.Acts.{Continues, EndsByMessage, Joins, exchange
 use Rattle.client_commands.specs.Faults.{of_message}
 use Rattle.client_commands.specs.Lines.{EndsOpenly, HaveNoLineFeed, IsArgumentsOfLine, ended}
 use Rattle.client_commands.specs.Pacing.{AllAnswered, IsDue, IsPaced, publication}
-use Rattle.client_commands.specs.Published.{PublishesAll}
+use Rattle.client_commands.specs.Published.{IsPublishedOf, PublishesAll}
 use Rattle.client_commands.specs.declared.command.Arguments as commands
 use Rattle.client_commands.specs.declared.command.Arguments.TheVariants.{Words, Lines}
 use Rattle.client_commands.specs.declared.command.PublishCommand.{PublishCommand}
@@ -99,9 +99,25 @@ pub record EndsByAnswer (command : PublishCommand) (t : Terms) (before now : Ear
   pub clean : HaveNoLineFeed lines
   pub unanswered : IsUnanswered command t before now lines fault
 
+-- a message is heard that nothing waits for: a command ends by it
+pub record HearsUnawaited (t : Terms) (before now : Ear) (fault : Fault) : Type 0 where
+  pub heard : Heard
+  pub hears : HearsNext t before now (Ok heard)
+  pub why : fault ≡ of_message heard
+
+-- all whole lines of what was read of an input are published and acknowledged, and such a message interrupts it
+pub record IsInterrupted (command : PublishCommand) (t : Terms) (before now : Ear) (input : List ℕ) (fault : Fault) : Type 0 where
+  pub rest : List ℕ
+  pub count : ℕ
+  pub answered : ℕ
+  pub last : Ear
+  pub publishes : IsPublishedOf command t before last input rest count answered
+  pub all : AllAnswered command.wishes.acknowledge count answered
+  pub unawaited : HearsUnawaited t last now fault
+
 abbrev pub EndsInLines : PublishCommand → Terms → Ear → Ear → List ℕ → Bool → Fault → Type 0
 EndsInLines command t before now input over fault =
-    EndsAtBadLine command t before now input over fault ⊎ EndsByAnswer command t before now input over fault
+    EndsAtBadLine command t before now input over fault ⊎ EndsByAnswer command t before now input over fault ⊎ IsInterrupted command t before now input fault
 
 pub record EndsInInput (command : PublishCommand) (t : Terms) (before now : Ear) (given_before given : List ℕ) (over : Bool) (fault : Fault) : Type 0 where
   pub input : List ℕ

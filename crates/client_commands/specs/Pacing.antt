@@ -5,7 +5,7 @@ use Rattle.client_messages.specs.Wishes.{publish_options}
 use Rattle.client_messages.specs.declared.client_message.ClientMessage.{ClientMessage}
 use Rattle.client_messages.specs.declared.client_message.ClientMessage.TheVariants.{Publish}
 use Rattle.client_messages.specs.declared.heard.Heard.TheVariants.{Published}
-use Rattle.client_session.specs.Hearing.{Ear, HearsNext, Terms}
+use Rattle.client_session.specs.Hearing.{Ear, HearsNext, HearsNone, Terms}
 use Rattle.client_session.specs.Saying.{saying}
 use Rattle.client_commands.specs.Acts.{writing}
 use Rattle.client_commands.specs.Lines.{IsArgumentsOfLine}
@@ -45,22 +45,26 @@ pub record SaysLine (command : PublishCommand) (t : Terms) (request : ℕ) (line
   pub of_line : IsOfLine command request line message
   pub is_said : now ≡ writing before (saying t.serializer message)
 
--- what is done with the lines of an input: one is published as the next request, or the next acknowledgement is heard
+-- what is done with the lines of an input: one is published as the next request, the next acknowledgement is heard, or the broker is
+-- attended to meanwhile
 pub data Act : Type 0 where
   Says : List ℕ → Act
   Hears : Act
+  Attends : Act
 
 -- the lines that were published, the last one first
 abbrev pub lines_of : List Act → List (List ℕ)
 lines_of [] = []
 lines_of (Says line ∷ acts) = line ∷ lines_of acts
 lines_of (Hears ∷ acts) = lines_of acts
+lines_of (Attends ∷ acts) = lines_of acts
 
 -- how many acknowledgements were heard
 abbrev pub answers_in : List Act → ℕ
 answers_in [] = 0
 answers_in (Says line ∷ acts) = answers_in acts
 answers_in (Hears ∷ acts) = answers_in acts + 1
+answers_in (Attends ∷ acts) = answers_in acts
 
 -- where acknowledgements are asked for, one more publication may be unanswered
 abbrev pub HasRoom : Bool → ℕ → ℕ → Type 0
@@ -71,7 +75,8 @@ pub record IsDue (acknowledge : Bool) (said answered : ℕ) : Type 0 where
   pub asked : acknowledge ≡ true
   pub due : answered < said
 
--- one act after another, the last one first: requests count from 1, and are acknowledged in their order
+-- one act after another, the last one first: requests count from 1, and are acknowledged in their order; where the broker is attended
+-- to, octets of it are read, PINGs among them are answered, and no message is
 abbrev pub Does : PublishCommand → Terms → Ear → Ear → List Act → Type 0
 Does command t before now [] = now ≡ before
 Does command t before now (Says line ∷ acts) =
@@ -80,6 +85,7 @@ Does command t before now (Says line ∷ acts) =
 Does command t before now (Hears ∷ acts) =
     (mid : Ear) × Does command t before mid acts × IsDue command.wishes.acknowledge (length (lines_of acts)) (answers_in acts)
     × IsAcknowledged t (answers_in acts + 1) mid now
+Does command t before now (Attends ∷ acts) = (mid : Ear) × Does command t before mid acts × HearsNone t mid now
 
 -- so these lines were published, the last one first, and so many of them are acknowledged
 pub record IsPaced (command : PublishCommand) (t : Terms) (before now : Ear) (lines : List (List ℕ)) (answered : ℕ) : Type 0 where

@@ -3,10 +3,10 @@ ghost use Rattle.std.specs.Prelude.{◌≡◌, ◌++◌, IfErr, IfOk, OnOk, Ok};
 ghost use Rattle.rawsocket.specs.Devices.{Takes, TakesBeginning};
 ghost use Rattle.rawsocket.specs.Steps.{Fine, ReadSteps, WriteSteps, told_by};
 ghost use Rattle.session.specs.Opened.{exchanged};
-ghost use Rattle.client_session.specs.Hearing.{HearsNext};
+ghost use Rattle.client_session.specs.Hearing.{HearsNext, ListensNext};
 ghost use Rattle.client_session.specs.Saying.{saying};
 ghost use Rattle.client_commands.specs.Acts.{Continues, standing_of, terms_of};
-ghost use Rattle.client_commands.specs.Faults.{IsNoEnd, IsOfBroker, IsOfHere, IsOfLink, IsOfNoContents, IsOfNoMessage, TellsEnd, of_message, sink_told, source_told};
+ghost use Rattle.client_commands.specs.Faults.{IsNoEnd, IsOfBroker, IsOfHere, IsOfLink, IsOfNoContents, IsOfNoMessage, ReadFailuresTold, TellsEnd, WriteFailuresTold, of_message, sink_told, source_told};
 
 use crate::fault::Fault;
 use client_session::{ClientMessage, ClientSession, Heard, Link};
@@ -59,6 +59,32 @@ pub(crate) fn hear<I: Source, O: Sink>(
     ensures writes { WriteSteps (O.seen sink.old) (O.seen sink.new) (told_by sink_told result) }
 {
     match session.hear(alloc, source, sink) {
+        Ok(heard) => Ok(heard),
+        Err(unheard) => Err(Fault::from(unheard)),
+    }
+}
+
+/// Hears what the broker says by one look: the next message, or none, where none is here yet.
+pub(crate) fn listen<I: Source, O: Sink>(
+    alloc: Global,
+    session: &mut ClientSession,
+    source: &mut I,
+    sink: &mut O,
+) -> Result<Option<Heard>, Fault>
+    ensures next { IfOk result (λ heard. ListensNext (terms_of session.old)
+        (standing_of session.old (I.seen source.old) (O.seen sink.old))
+        (standing_of session.new (I.seen source.new) (O.seen sink.new)) (Ok heard)) }
+    ensures unblamed { IfErr result IsOfNoMessage }
+    ensures carried { IfErr result IsOfNoContents }
+    ensures gone { IfErr result (TellsEnd (I.seen source.new).is_ended) }
+    ensures aside { IfErr result IsOfBroker }
+    ensures terms { terms_of session.new ≡ terms_of session.old }
+    ensures reads { ReadFailuresTold (I.seen source.old) (I.seen source.new)
+        (told_by source_told result) }
+    ensures writes { WriteFailuresTold (O.seen sink.old) (O.seen sink.new)
+        (told_by sink_told result) }
+{
+    match session.listen(alloc, source, sink) {
         Ok(heard) => Ok(heard),
         Err(unheard) => Err(Fault::from(unheard)),
     }

@@ -6,6 +6,7 @@
 //! crates above.
 #![tactic(auto)]
 
+mod attending;
 mod command;
 mod controls;
 mod event_lines;
@@ -36,5 +37,5 @@ pub use listener::Listener;
 pub use publishing::publish;
 pub use reconnecting::{Dialer, resubscribe, subscribe_once};
 pub use subscribing::subscribe;
-pub use timing::Timing;
+pub use timing::{Arrival, Timing};
 pub use value::value_of;

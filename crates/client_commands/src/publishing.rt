@@ -8,6 +8,7 @@ ghost use Rattle.client_commands.specs.Pacing.{AllAnswered, IsPublished};
 ghost use Rattle.client_commands.specs.Published.{IsPublishedOf, IsReadToEnd, Publishes, PublishesAll, PublishesInput, WherePublished};
 ghost use Rattle.client_commands.specs.Faults.{IsOfBroker, IsOfNoContents, ReadFailuresTold, TellsEnd, WriteFailuresTold, input_told, is_blamed, is_of_message, output_told, sink_told, source_told};
 
+use crate::attending::attend;
 use crate::command::{Arguments, PublishCommand};
 use crate::fault::Fault;
 use crate::hearing::say;
@@ -155,6 +156,9 @@ fn publish_pieces<I: Source, O: Sink, J: Source, T: Timing>(
 {
     let mut turns = Turns::new();
     'pieces: loop {
+        if let Err(fault) = attend(alloc, session, source, sink, timing) {
+            return Err(fault);
+        }
         let count = match read_piece(input, buffer, &mut turns) {
             Ok(count) => count,
             Err(NoOctets::Ended) => {
@@ -343,8 +347,9 @@ fn publish_all<I: Source, O: Sink, J: Source, T: Timing>(
 ///
 /// Words are published once. Of lines each is published as it comes, as requests 1, 2, ..; the input isn't read for words.
 /// Where acknowledgements are asked for, at most 16 publications are unanswered at any time, and none before more of the input is
-/// read, nor behind the last one; they are to come in the order of the publications. Behind so many `timing` rests. Without them
-/// nothing is read from the broker before the end. A broker answers GOODBYE behind all that was published, so where this ends well it has taken all.
+/// read, nor behind the last one; they are to come in the order of the publications. Behind so many `timing` rests. Before more of the
+/// input is read `timing` waits for it; the broker's PINGs are answered meanwhile, and any message of it ends the command, since
+/// nothing waits for one. A broker answers GOODBYE behind all that was published, so where this ends well it has taken all.
 ///
 /// # Errors
 /// [`Fault::Refused`] where the broker refuses the session or a publication, [`Fault::Closed`] where it closes the session,

@@ -30,7 +30,7 @@
 //! match link.listen(alloc, source, sink) {
 //!     Ok(Some(heard)) => {
 //!         lines.push_str(in_words(alloc, heard)?.as_str())?;
-//!         count += 1;
+//!         count = count.saturating_add(1);
 //!     }
 //!     Ok(None) => lines.push_str("nothing yet\n")?,
 //!     Err(fault) => {

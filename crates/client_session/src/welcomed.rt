@@ -181,7 +181,7 @@ impl ClientSession {
                 Err(unheard) => Err(unheard),
             },
             Ok(None) => Ok(None),
-            Err(fault) => Err(Unheard::Failed(fault)),
+            Err(of) => Err(Unheard::Failed(of)),
         }
     }
 

@@ -7,11 +7,12 @@ use client_commands::{
     Arguments, Dialer, Listener, PublishCommand, SubscribeCommand, publish, resubscribe,
     whole_input,
 };
-use rawsocket::devices::{ReadSource, Sink, Source, Turns, WriteSink, send, write_all};
+use rawsocket::devices::{ReadSource, Sink, Turns, WriteSink, send, write_all};
 use std::alloc::Global;
 use std::cell::Cell;
 use std::fs::File;
 use std::net::{Net, TcpStream};
+use std::os::fd::AsRawFd;
 use std::time::Clock;
 
 /// The path that stands for standard input.
@@ -43,26 +44,36 @@ pub fn run_subscribe<R: Net<Stream = TcpStream> + Clock, S: Sink, N: Sink, E: Si
     }
 }
 
-/// Publishes what is told, of which lines are read from the input.
-pub fn run_publish<R: Net<Stream = TcpStream> + Clock, J: Source>(
+/// Publishes what is told, of which lines are read from standard input.
+pub fn run_publish<R: Net<Stream = TcpStream> + Clock>(
+    host: &HostRuntime,
     rt: &R,
     alloc: Global,
-    input: &mut J,
     command: &PublishCommand,
 ) -> Result<(), Failure> {
     let stream = match connect(rt, &command.contact) {
         Ok(stream) => stream,
         Err(error) => {
             let contact = &command.contact;
-            let host = contact.host.as_str();
-            return Err(Failure::to_connect(alloc, host, contact.port, &error));
+            let name = contact.host.as_str();
+            return Err(Failure::to_connect(alloc, name, contact.port, &error));
         }
     };
     let is_late = Cell::new(false);
     let mut source = ReadSource::new(PatientStream::new(&stream, &is_late));
     let mut sink = WriteSink::new(PatientStream::new(&stream, &is_late));
-    let mut timing = StreamTiming::new(rt, &stream, limit_of(&command.contact));
-    match publish(alloc, command, &mut source, &mut sink, input, &mut timing) {
+    let input = host.stdin();
+    let limit = limit_of(&command.contact);
+    let mut timing = StreamTiming::new(rt, &stream, input.as_raw_fd(), limit);
+    let mut input = ReadSource::new(input);
+    match publish(
+        alloc,
+        command,
+        &mut source,
+        &mut sink,
+        &mut input,
+        &mut timing,
+    ) {
         Ok(()) => Ok(()),
         Err(fault) => Err(Failure::of_client(alloc, fault, &command.contact, is_late.get())),
     }
@@ -77,8 +88,7 @@ pub fn run_publish_file<R: Net<Stream = TcpStream> + Clock>(
     mut command: PublishCommand,
 ) -> Result<(), Failure> {
     command.arguments = octets_at(host, alloc, path)?;
-    let mut input = ReadSource::new(host.stdin());
-    run_publish(rt, alloc, &mut input, &command)
+    run_publish(host, rt, alloc, &command)
 }
 
 /// All octets of a file, or of standard input where the path is `-`, as one argument.

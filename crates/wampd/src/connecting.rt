@@ -1,4 +1,5 @@
 //! Streams to a broker over TCP.
+use crate::keepalive::keep_alive;
 use client_commands::Contact;
 use std::io;
 use std::net::{Net, TcpStream, ToSocketAddrs};
@@ -9,10 +10,13 @@ pub fn limit_of(contact: &Contact) -> Duration {
     Duration::from_secs(contact.timeout as u64)
 }
 
-/// A stream to the broker. Small writes go out at once, and neither a write nor an answer may take too long.
+/// A stream to the broker. Small writes go out at once, neither a write nor an answer may take too long, and it ends where the broker's
+/// machine is gone.
 pub fn connect<R: Net<Stream = TcpStream>>(rt: &R, contact: &Contact) -> io::Result<TcpStream> {
-    let stream = connect_within(rt, contact.host.as_str(), contact.port, limit_of(contact))?;
+    let limit = limit_of(contact);
+    let stream = connect_within(rt, contact.host.as_str(), contact.port, limit)?;
     let _ = stream.set_nodelay(true);
+    keep_alive(&stream, limit);
     Ok(stream)
 }
 

@@ -9,7 +9,9 @@ use crate::away::Away;
 use crate::connecting::{connect, limit_of};
 use crate::due_stream::{DueStream, begin, end};
 use crate::failure::Failure;
-use client_commands::{Contact, Dialer, Fault, Listener, SubscribeCommand, Timing, subscribe_once};
+use client_commands::{
+    Arrival, Contact, Dialer, Fault, Listener, SubscribeCommand, Timing, subscribe_once,
+};
 use rawsocket::devices::{ReadSource, Sink, WriteSink};
 use std::alloc::Global;
 use std::cell::Cell;
@@ -160,5 +162,9 @@ impl<R: Clock, E: Sink + Drop> Timing for ListenerTiming<'_, R, E> {
         }
         end(self.stream, self.due);
         self.away.end(self.clock);
+    }
+
+    fn waits(&mut self, _is_held: bool) -> Arrival {
+        Arrival::Broker
     }
 }

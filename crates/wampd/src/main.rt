@@ -10,12 +10,14 @@ ghost use Rattle.rawsocket.specs.Devices.{Takes, TakesBeginning};
 ghost use Rattle.rawsocket.specs.Steps.{WriteSteps, told_by};
 ghost use Rattle.command_line.specs.Commands.{IsServable, IsWritten, fault_line, status_of, write_told};
 
+mod arrivals;
 mod away;
 mod clients;
 mod connecting;
 mod dialer;
 mod due_stream;
 mod failure;
+mod keepalive;
 mod patient_stream;
 mod places;
 
@@ -105,8 +107,7 @@ where
         }
         Command::Publish(command) => {
             let _places = fill_closed(host);
-            let mut input = ReadSource::new(host.stdin());
-            return run_publish(&rt, alloc, &mut input, &command);
+            return run_publish(host, &rt, alloc, &command);
         }
         Command::PublishFile { path, command } => {
             let _places = fill_closed(host);

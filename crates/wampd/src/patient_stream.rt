@@ -1,10 +1,12 @@
 //! A stream to a broker that has to answer in time.
 ghost use Rattle.std.specs.Prelude.{◌≡◌, ◌⊎◌, ◌≤◌, ◌-◌, ◌*◌, ◌/◌};
 
-use client_commands::Timing;
+use crate::arrivals::first_arrival;
+use client_commands::{Arrival, Timing};
 use std::cell::Cell;
 use std::io::{self, ErrorKind, Read, Write};
 use std::net::TcpStream;
+use std::os::fd::{AsRawFd, RawFd};
 use std::thread;
 use std::time::{Clock, Duration, Instant};
 
@@ -34,9 +36,9 @@ impl<'a> PatientStream<'a> {
         PatientStream { stream, is_late }
     }
 
-    /// Tells whether this was the limit.
+    /// Tells whether this was the limit. Where probes of TCP aren't answered the error is another one.
     fn note(&self, error: &io::Error) {
-        if matches!(error.kind(), ErrorKind::WouldBlock | ErrorKind::TimedOut) {
+        if error.kind() == ErrorKind::WouldBlock {
             self.is_late.set(true);
         }
     }
@@ -77,17 +79,24 @@ impl Write for PatientStream<'_> {
 pub struct StreamTiming<'a, R: Clock> {
     clock: &'a R,
     stream: &'a TcpStream,
+    input: RawFd,
     limit: Duration,
     awaited: Option<Instant>,
     longest_wait: u64,
 }
 
 impl<'a, R: Clock> StreamTiming<'a, R> {
-    /// Answers that are due may take so long.
-    pub fn new(clock: &'a R, stream: &'a TcpStream, limit: Duration) -> StreamTiming<'a, R> {
+    /// Answers that are due may take so long; what is published comes from this input.
+    pub fn new(
+        clock: &'a R,
+        stream: &'a TcpStream,
+        input: RawFd,
+        limit: Duration,
+    ) -> StreamTiming<'a, R> {
         StreamTiming {
             clock,
             stream,
+            input,
             limit,
             awaited: None,
             longest_wait: FIRST_WAIT,
@@ -145,5 +154,12 @@ impl<R: Clock> Timing for StreamTiming<'_, R> {
     fn expects(&mut self, is_due: bool) {
         let limit = if is_due { Some(self.limit) } else { None };
         let _ = self.stream.set_read_timeout(limit);
+    }
+
+    fn waits(&mut self, is_held: bool) -> Arrival {
+        if is_held {
+            return Arrival::Broker;
+        }
+        first_arrival(self.stream.as_raw_fd(), self.input)
     }
 }
