@@ -194,7 +194,10 @@ impl Case {
             "held" => Coming::Held,
             _ => Coming::From(Arrival::Input),
         };
-        for _ in 0..number_of(count) {
+        let count = number_of(count);
+        // All of them or none: a line is taken once more where memory was refused.
+        self.coming.reserve(count as usize)?;
+        for _ in 0..count {
             self.coming.push(coming)?;
         }
         Ok(())
