@@ -76,7 +76,7 @@ pub fn names_topic(policy: Policy) -> bool
 }
 
 /// Whether the publication admits the session.
-pub fn admits(publication: &Publication, who: &Who) -> bool
+fn admits(publication: &Publication, who: &Who) -> bool
     ensures { result ≡ admits publication.now who.now }
 {
     publication.lists.admits(who, &publication.publisher)

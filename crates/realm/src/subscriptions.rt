@@ -1,15 +1,13 @@
 //! SUBSCRIBE and UNSUBSCRIBE: what is refused, what is held, and the retained events that follow.
 ghost use Rattle.std.specs.Prelude.{◌≡◌, ◌+◌, ◌≤◌, ◌++◌, ◌∷◌, [], true, length, vec_len, map, is_some, None, Some, Ok, Err, IfOk, OnOk, OnErr};
 ghost use Rattle.std.specs.Vec.{vec_capacity};
-ghost use Rattle.std.specs.List.{filter};
 ghost use Rattle.eligibility.specs.declared.who.Who.{Who};
 ghost use Rattle.realm.specs.Subscriptions.{pattern_of};
-ghost use Rattle.realm.specs.Publications.{admits};
 ghost use Rattle.realm.specs.body.LiveSessions.{session_of};
 ghost use Rattle.realm.specs.body.Outputs.{all_for};
 ghost use Rattle.realm.specs.body.Transitions.{IsHeld, IsSubscribed, IsUnsubscribed, wanted, retained_event};
 
-use crate::events::{Given, admits, names_topic, one};
+use crate::events::{Given, names_topic, one};
 use crate::fault::Fault;
 use crate::state::State;
 use message_tree::{Shared, Text};
@@ -45,23 +43,6 @@ fn pattern_of(
     }
 }
 
-/// Those of the publications that admit the session.
-fn admitted(
-    alloc: Global,
-    found: Vec<Shared<Publication>>,
-    who: &Who,
-) -> Result<Vec<Shared<Publication>>, Fault>
-    ensures { IfOk result (λ kept. kept.items ≡ filter (λ p. admits p who.now) found.items) }
-{
-    let mut kept = Vec::new(alloc);
-    for publication in found {
-        if admits(publication.value(), who) {
-            kept.push(publication)?;
-        }
-    }
-    Ok(kept)
-}
-
 /// The retained publications that a SUBSCRIBE asks for, of those that match and admit the session.
 fn wanted(
     alloc: Global,
@@ -74,7 +55,7 @@ fn wanted(
         kept.items ≡ wanted store.now options.get_retained pattern.now who.now) }
 {
     match options.get_retained {
-        Some(true) => admitted(alloc, store.matching(alloc, pattern)?, who),
+        Some(true) => Ok(store.admitting(alloc, pattern, who)?),
         _ => Ok(Vec::new(alloc)),
     }
 }

@@ -1,5 +1,5 @@
 -- Lists of publications in ascending order of topics, each topic once.
-use Rattle.std.proofs.Common.{◌≡◌, ℕ, suc, Bool, true, false, cond, not, ◌||◌, List, [], ◌∷◌, length, take, refl, sym, ap, ◌∙◌}
+use Rattle.std.proofs.Common.{◌≡◌, ℕ, suc, Bool, true, false, cond, not, ◌||◌, ◌&&◌, List, [], ◌∷◌, length, take, refl, sym, ap, ◌∙◌}
 use Rattle.std.proofs.Math.Bool.{or_assoc, or_comm}
 use Rattle.std.proofs.lemmas.Bool.{true≢false, or_parts}
 use Rattle.std.proofs.lemmas.Cmp.{nat_list_cmp_total}
@@ -253,3 +253,15 @@ last_alone kept topic =
     filter-by_topic (λ p. bytes_eq p.topic topic) (last_of_each kept) (AreApart-last kept)
     ∙ ap by_topic (of-last topic kept)
     ∙ by_topic-one (of_topic topic kept)
+
+-- ---- two tests
+
+-- one test after another is both at once
+pub filter_twice : (p q : Publication → Bool) (ps : List Publication) → filter (λ x. p x && q x) ps ≡ filter q (filter p ps)
+filter_twice p q [] = refl
+filter_twice p q (x ∷ xs) = by_value (filter_twice p q xs) (p x)
+  where
+    by_value : filter (λ y. p y && q y) xs ≡ filter q (filter p xs) → (b : Bool)
+        → cond (b && q x) (x ∷ filter (λ y. p y && q y) xs) (filter (λ y. p y && q y) xs) ≡ filter q (cond b (x ∷ filter p xs) (filter p xs))
+    by_value rest true = ap (λ ys. cond (q x) (x ∷ ys) ys) rest
+    by_value rest false = rest

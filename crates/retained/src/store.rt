@@ -1,8 +1,9 @@
 //! The last publication of each topic, topics ascending.
-ghost use Rattle.std.specs.Prelude.{◌≡◌, ◌↔◌, ◌≤◌, [], true, false, length, Err, IfOk, IsOk, OnOk, OnErr, MatchResult};
+ghost use Rattle.std.specs.Prelude.{◌≡◌, ◌↔◌, ◌≤◌, ◌&&◌, [], true, false, length, Err, IfOk, IsOk, OnOk, OnErr, MatchResult};
 ghost use Rattle.std.specs.Cmp.Lexicographic.{slice_cmp};
 ghost use Rattle.std.specs.List.{filter};
 ghost use Rattle.std.specs.Ordering.{nat_cmp};
+ghost use Rattle.eligibility.specs.Lists.{admits};
 ghost use Rattle.wamp_ids.specs.Pattern.{matches};
 ghost use Rattle.retained.specs.body.Places.{GoesAt, IsAt};
 ghost use Rattle.retained.specs.Store.{AreByTopic, has_room, has_topic, is_full, set_topic};
@@ -13,7 +14,7 @@ use std::alloc::{AllocError, Global};
 use std::cmp::Ordering;
 use std::marker::Model;
 use wamp_ids::Pattern;
-use wamp_messages::Publication;
+use wamp_messages::{Publication, Who};
 
 /// How many topics may have a retained publication.
 const MOST_RETAINED: usize = 1000;
@@ -116,6 +117,38 @@ impl Store {
         }
         Ok(found)
     }
+
+    /// Those of them that admit the session, in the same order. The others aren't shared for it.
+    ///
+    /// # Errors
+    /// `AllocError` where a growth was refused.
+    pub fn admitting(
+        &self,
+        alloc: Global,
+        pattern: &Pattern,
+        who: &Who,
+    ) -> Result<Vec<Shared<Publication>>, AllocError>
+        ensures { IfOk result (λ found. found.items ≡
+            filter (λ p. admits p.lists who.now p.publisher)
+            (filter (λ p. matches pattern.now p.topic) self.now)) }
+    {
+        let mut found = Vec::new(alloc);
+        for publication in &self.publications {
+            if is_for(publication.value(), pattern, who) {
+                found.push(publication.twin()?)?;
+            }
+        }
+        Ok(found)
+    }
+}
+
+/// Whether the pattern matches the publication's topic, and the publication admits the session.
+fn is_for(publication: &Publication, pattern: &Pattern, who: &Who) -> bool
+    ensures { result ≡ (matches pattern.now publication.now.topic
+        && admits publication.now.lists who.now publication.now.publisher) }
+{
+    pattern.matches(&publication.topic)
+        && publication.lists.admits(who, &publication.publisher)
 }
 
 /// How the publication's topic compares with another topic, by their bytes.
