@@ -5,7 +5,7 @@ use Rattle.std.proofs.Math.Bool.{and-false}
 use Rattle.wamp_ids.specs.Uri.{is_empty}
 use Rattle.wamp_ids.specs.Pattern.{fits}
 
-drop-at : {X : Type 0} (f : X → List ℕ) (ps : List X) (i : ℕ) (d : X) → i < length ps → drop i (map f ps) ≡ f (get_or ps i d) ∷ drop (suc i) (map f ps)
+pub drop-at : {X : Type 0} (f : X → List ℕ) (ps : List X) (i : ℕ) (d : X) → i < length ps → drop i (map f ps) ≡ f (get_or ps i d) ∷ drop (suc i) (map f ps)
 drop-at f [] i d small = absurd (omega arith)
 drop-at f (p ∷ ps) zero d small = refl
 drop-at f (p ∷ ps) (suc i) d small = drop-at f ps i d (omega arith)

@@ -27,10 +27,10 @@ abbrev pub LeadsTo : (all rest : List Sized) (topic old now : List ℕ) → Type
 LeadsTo all rest topic old now = IsStrictlySortedBy nat_cmp (keys_of rest)
     × ((new : List ℕ) → Adds (number_among rest) (λ q. starts_with nat_eq topic q) now new → Adds (number_among all) (λ q. starts_with nat_eq topic q) old new)
 
--- lengths below those of the tables
-absent : (l n : ℕ) (es : List Sized) → l ≤ n → AllByRecursion (λ y. nat_cmp n y ≡ Less) (keys_of es) → lookup (is_at (nat_cmp l)) es ≡ None
-absent l n [] h below = refl
-absent l n (e ∷ es) h below = ap (λ b. cond b (Some e.1) (lookup (is_at (nat_cmp l)) es)) other ∙ absent l n es h below.1
+-- numbers below the keys
+pub absent : {T : Type 0} (l n : ℕ) (es : List (ℕ × T)) → l ≤ n → AllByRecursion (λ y. nat_cmp n y ≡ Less) (keys_of es) → lookup (is_at (nat_cmp l)) es ≡ None
+absent {T} l n [] h below = refl
+absent {T} l n (e ∷ es) h below = ap (λ b. cond b (Some e.1) (lookup (is_at (nat_cmp l)) es)) other ∙ absent l n es h below.1
   where
     other : is_eq (nat_cmp l e.0) ≡ false
     other = let m = below.0 in grind (arith, nat_tests)

@@ -12,7 +12,7 @@ use Rattle.subscription_index.specs.body.Tables.{number_by_length}
 use Rattle.subscription_index.specs.body.Names.{wildcard_number, number_named}
 
 pub adds_others : (names : Names) (topic a b c : List ℕ) → Adds (number_by_length names.prefixes) (λ q. starts_with nat_eq topic q) a b
-    → Adds (wildcard_number names.deep names.wildcards) (λ q. fits (components q) (components topic)) b c → Adds (number_named names) (λ p. names_topic p.policy && matches p topic) a c
+    → Adds (wildcard_number names.deep names.shapes) (λ q. fits (components q) (components topic)) b c → Adds (number_named names) (λ p. names_topic p.policy && matches p topic) a c
 adds_others names topic a b c f g = record {
   kept = λ n h. g.kept n (f.kept n h);
   found = λ p n is h. by_policy p.policy p.text n is h;
@@ -28,6 +28,6 @@ adds_others names topic a b c f g = record {
     from_first n (inl l) = inl l
     from_first n (inr r) = inr (record { policy = Prefix; text = r.0 }, r.1, r.2)
 
-    from_second : (n : ℕ) → (has b n ≡ true) ⊎ ((q : List ℕ) × (wildcard_number names.deep names.wildcards q ≡ Some n) × (fits (components q) (components topic) ≡ true)) → (has a n ≡ true) ⊎ ((p : PatternText) × (number_named names p ≡ Some n) × (names_topic p.policy && matches p topic ≡ true))
+    from_second : (n : ℕ) → (has b n ≡ true) ⊎ ((q : List ℕ) × (wildcard_number names.deep names.shapes q ≡ Some n) × (fits (components q) (components topic) ≡ true)) → (has a n ≡ true) ⊎ ((p : PatternText) × (number_named names p ≡ Some n) × (names_topic p.policy && matches p topic ≡ true))
     from_second n (inl l) = from_first n (f.only n l)
     from_second n (inr r) = inr (record { policy = Wildcard; text = r.0 }, r.1, r.2)

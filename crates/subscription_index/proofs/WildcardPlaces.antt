@@ -1,6 +1,6 @@
 -- Wildcards that stand in a table, one after another; and the two places of a wildcard.
 use Rattle.std.proofs.Common.{◌≡◌, ℕ, Bool, true, false, cond, eqb, nat_lt, List, [], ◌∷◌, ◌++◌, Option, Some, None, Vec, Global, Less, ◌⊎◌, inl, inr, refl, sym, ap, ◌∙◌}
-use Rattle.std.specs.List.{AllByRecursion, join_with_byte}
+use Rattle.std.specs.List.{AllByRecursion}
 use Rattle.std.specs.List.Sorted.{IsStrictlySortedBy}
 use Rattle.std.specs.Map.{keys_of}
 use Rattle.std.specs.Str.{bytes_eq}
@@ -13,14 +13,13 @@ use Rattle.std.proofs.lemmas.Option.{same_Some}
 use Rattle.wamp_ids.proofs.Lemmas.{bytes_eq-true, bytes_eq-refl}
 use Rattle.wamp_ids.specs.Uri.{components}
 use Rattle.wamp_ids.specs.Pattern.{fits}
-use Rattle.subscription_index.specs.declared.node.Node.{Node}
 use Rattle.subscription_index.specs.body.Found.{has, Adds}
 use Rattle.subscription_index.specs.body.Tables.{Table, number_at}
-use Rattle.subscription_index.specs.body.Nodes.{number_on, same_parts}
-use Rattle.subscription_index.specs.body.Names.{is_deep, wildcard_number}
+use Rattle.subscription_index.specs.body.Shapes.{Shapes, is_deep, number_by_shape}
+use Rattle.subscription_index.specs.body.Names.{wildcard_number}
 use Rattle.subscription_index.proofs.FoundLemmas.{has_first, adds_append, adds_by}
 use Rattle.subscription_index.proofs.Texts.{vec_cmp, at_text, slice_cmp-true}
-use Rattle.subscription_index.proofs.Components.{Joined, same_components, all_dotless, fitting_text, as_long}
+use Rattle.subscription_index.proofs.Components.{as_long}
 
 abbrev pub Entry : Type 0
 Entry = Vec ℕ Global × ℕ
@@ -91,50 +90,54 @@ adds_listed table parts old new up e =
     adds_append (number_at table) (λ q. fits (components q) parts) old (fitting table.entries parts) new e (found_listed table.entries parts) (λ n k. only_listed table.entries parts n up k)
 
 -- a deep wildcard was changed
-pub deep_changed : (deep other : Table) (tree : Node) (text : List ℕ) (v : Option ℕ) → is_deep text ≡ true → ((q : List ℕ) → number_at other q ≡ cond (bytes_eq text q) v (number_at deep q))
-    → (q : List ℕ) → wildcard_number other tree q ≡ cond (bytes_eq text q) v (wildcard_number deep tree q)
-deep_changed deep other tree text v is change q = by_value (bytes_eq text q) refl
+pub deep_changed : (deep other : Table) (shapes : Shapes) (text : List ℕ) (v : Option ℕ) → is_deep text ≡ true → ((q : List ℕ) → number_at other q ≡ cond (bytes_eq text q) v (number_at deep q))
+    → (q : List ℕ) → wildcard_number other shapes q ≡ cond (bytes_eq text q) v (wildcard_number deep shapes q)
+deep_changed deep other shapes text v is change q = by_value (bytes_eq text q) refl
   where
-    by_value : (b : Bool) → bytes_eq text q ≡ b → wildcard_number other tree q ≡ cond b v (wildcard_number deep tree q)
-    by_value true h = ap (λ b. cond b (number_at other q) (number_on (components q) tree)) (ap is_deep (sym (bytes_eq-true text q h)) ∙ is) ∙ change q ∙ ap (λ b. cond b v (number_at deep q)) h
-    by_value false h = ap (λ n. cond (is_deep q) n (number_on (components q) tree)) (change q ∙ ap (λ b. cond b v (number_at deep q)) h)
+    by_value : (b : Bool) → bytes_eq text q ≡ b → wildcard_number other shapes q ≡ cond b v (wildcard_number deep shapes q)
+    by_value true h = ap (λ b. cond b (number_at other q) (number_by_shape shapes q)) (ap is_deep (sym (bytes_eq-true text q h)) ∙ is) ∙ change q ∙ ap (λ b. cond b v (number_at deep q)) h
+    by_value false h = ap (λ n. cond (is_deep q) n (number_by_shape shapes q)) (change q ∙ ap (λ b. cond b v (number_at deep q)) h)
 
--- a wildcard of the tree was changed
-pub tree_changed : Joined → (deep : Table) (tree other : Node) (text : List ℕ) (v : Option ℕ) → is_deep text ≡ false → ((q : List (List ℕ)) → number_on q other ≡ cond (same_parts (components text) q) v (number_on q tree))
-    → (q : List ℕ) → wildcard_number deep other q ≡ cond (bytes_eq text q) v (wildcard_number deep tree q)
-tree_changed joined deep tree other text v is change q = by_value (bytes_eq text q) refl
+-- a wildcard that stands by its shape was changed
+pub shape_changed : (deep : Table) (shapes other : Shapes) (text : List ℕ) (v : Option ℕ) → is_deep text ≡ false → ((q : List ℕ) → number_by_shape other q ≡ cond (bytes_eq text q) v (number_by_shape shapes q))
+    → (q : List ℕ) → wildcard_number deep other q ≡ cond (bytes_eq text q) v (wildcard_number deep shapes q)
+shape_changed deep shapes other text v is change q = by_value (bytes_eq text q) refl
   where
-    here : number_on (components q) other ≡ cond (bytes_eq text q) v (number_on (components q) tree)
-    here = change (components q) ∙ ap (λ b. cond b v (number_on (components q) tree)) (same_components joined text q)
+    by_value : (b : Bool) → bytes_eq text q ≡ b → wildcard_number deep other q ≡ cond b v (wildcard_number deep shapes q)
+    by_value true h = ap (λ b. cond b (number_at deep q) (number_by_shape other q)) (ap is_deep (sym (bytes_eq-true text q h)) ∙ is) ∙ change q ∙ ap (λ b. cond b v (number_by_shape shapes q)) h
+    by_value false h = ap (λ n. cond (is_deep q) (number_at deep q) n) (change q ∙ ap (λ b. cond b v (number_by_shape shapes q)) h)
 
-    by_value : (b : Bool) → bytes_eq text q ≡ b → wildcard_number deep other q ≡ cond b v (wildcard_number deep tree q)
-    by_value true h = ap (λ b. cond b (number_at deep q) (number_on (components q) other)) (ap is_deep (sym (bytes_eq-true text q h)) ∙ is) ∙ here ∙ ap (λ b. cond b v (number_on (components q) tree)) h
-    by_value false h = ap (λ n. cond (is_deep q) (number_at deep q) n) (here ∙ ap (λ b. cond b v (number_on (components q) tree)) h)
-
-pub wildcards_same : (deep other_deep : Table) (tree other : Node) → ((q : List ℕ) → number_at other_deep q ≡ number_at deep q) → ((q : List (List ℕ)) → number_on q other ≡ number_on q tree) → (q : List ℕ) → wildcard_number other_deep other q ≡ wildcard_number deep tree q
-wildcards_same deep other_deep tree other e f q = ap (λ n. cond (is_deep q) n (number_on (components q) other)) (e q) ∙ ap (λ n. cond (is_deep q) (number_at deep q) n) (f (components q))
+pub wildcards_same : (deep other_deep : Table) (shapes other : Shapes) → ((q : List ℕ) → number_at other_deep q ≡ number_at deep q) → ((q : List ℕ) → number_by_shape other q ≡ number_by_shape shapes q)
+    → (q : List ℕ) → wildcard_number other_deep other q ≡ wildcard_number deep shapes q
+wildcards_same deep other_deep shapes other e f q = ap (λ n. cond (is_deep q) n (number_by_shape other q)) (e q) ∙ ap (λ n. cond (is_deep q) (number_at deep q) n) (f q)
 
 -- only deep wildcards fit a deep topic, and no other topic
 deep_alike : (q topic : List ℕ) → fits (components q) (components topic) ≡ true → is_deep q ≡ is_deep topic
 deep_alike q topic h = ap (λ n. nat_lt 8 n) (as_long (components q) (components topic) h)
 
-pub adds_deep : (deep : Table) (tree : Node) (topic a b : List ℕ) → is_deep topic ≡ true → Adds (number_at deep) (λ q. fits (components q) (components topic)) a b → Adds (wildcard_number deep tree) (λ q. fits (components q) (components topic)) a b
-adds_deep deep tree topic a b is =
-    adds_by (number_at deep) (λ q. fits (components q) (components topic)) (wildcard_number deep tree) (λ q. fits (components q) (components topic)) a b (λ q n e h. (q, sym (there q h) ∙ e, h)) (λ q n e h. (q, there q h ∙ e, h))
+pub adds_deep : (deep : Table) (shapes : Shapes) (topic a b : List ℕ) → is_deep topic ≡ true → Adds (number_at deep) (λ q. fits (components q) (components topic)) a b → Adds (wildcard_number deep shapes) (λ q. fits (components q) (components topic)) a b
+adds_deep deep shapes topic a b is =
+    adds_by (number_at deep) (λ q. fits (components q) (components topic)) (wildcard_number deep shapes) (λ q. fits (components q) (components topic)) a b (λ q n e h. (q, sym (there q h) ∙ e, h)) (λ q n e h. (q, there q h ∙ e, h))
   where
-    there : (q : List ℕ) → fits (components q) (components topic) ≡ true → wildcard_number deep tree q ≡ number_at deep q
-    there q h = ap (λ b. cond b (number_at deep q) (number_on (components q) tree)) (deep_alike q topic h ∙ is)
+    there : (q : List ℕ) → fits (components q) (components topic) ≡ true → wildcard_number deep shapes q ≡ number_at deep q
+    there q h = ap (λ b. cond b (number_at deep q) (number_by_shape shapes q)) (deep_alike q topic h ∙ is)
 
-pub adds_tree : ((text : List ℕ) → all_dotless (components text) ≡ true) → (deep : Table) (tree : Node) (topic a b : List ℕ) → is_deep topic ≡ false → Adds (λ q. number_on q tree) (λ q. fits q (components topic)) a b
-    → Adds (wildcard_number deep tree) (λ q. fits (components q) (components topic)) a b
-adds_tree no_dot deep tree topic a b is =
-    adds_by (λ q. number_on q tree) (λ q. fits q (components topic)) (wildcard_number deep tree) (λ q. fits (components q) (components topic)) a b (λ q n e h. (components q, sym (there q h) ∙ e, h)) joined
+pub adds_by_shape : (deep : Table) (shapes : Shapes) (topic a b : List ℕ) → is_deep topic ≡ false → Adds (number_by_shape shapes) (λ q. fits (components q) (components topic)) a b → Adds (wildcard_number deep shapes) (λ q. fits (components q) (components topic)) a b
+adds_by_shape deep shapes topic a b is =
+    adds_by (number_by_shape shapes) (λ q. fits (components q) (components topic)) (wildcard_number deep shapes) (λ q. fits (components q) (components topic)) a b (λ q n e h. (q, sym (there q h) ∙ e, h)) (λ q n e h. (q, there q h ∙ e, h))
   where
-    there : (q : List ℕ) → fits (components q) (components topic) ≡ true → wildcard_number deep tree q ≡ number_on (components q) tree
-    there q h = ap (λ b. cond b (number_at deep q) (number_on (components q) tree)) (deep_alike q topic h ∙ is)
+    there : (q : List ℕ) → fits (components q) (components topic) ≡ true → wildcard_number deep shapes q ≡ number_by_shape shapes q
+    there q h = ap (λ b. cond b (number_at deep q) (number_by_shape shapes q)) (deep_alike q topic h ∙ is)
 
-    joined : (ps : List (List ℕ)) (n : ℕ) → number_on ps tree ≡ Some n → fits ps (components topic) ≡ true → (q : List ℕ) × (wildcard_number deep tree q ≡ Some n) × (fits (components q) (components topic) ≡ true)
-    joined ps n e h =
-        let parts : components (join_with_byte 46 ps) ≡ ps = fitting_text ps topic (no_dot topic) h in
-        let fit : fits (components (join_with_byte 46 ps)) (components topic) ≡ true = ap (λ qs. fits qs (components topic)) parts ∙ h in
-        (join_with_byte 46 ps, there (join_with_byte 46 ps) fit ∙ ap (λ qs. number_on qs tree) parts ∙ e, fit)
+-- what tells whether a text is deep
+pub is_shallow : (b : Bool) (n m : ℕ) → Some m ≡ cond b None (Some n) → b ≡ false
+is_shallow false n m e = refl
+is_shallow true n m e = cc
+
+pub has_value : (b : Bool) (n m : ℕ) → Some m ≡ cond b None (Some n) → m ≡ n
+has_value false n m e = same_Some m n e
+has_value true n m e = cc
+
+pub is_deeper : (b : Bool) (n : ℕ) → None ≡ cond b None (Some n) → b ≡ true
+is_deeper true n e = refl
+is_deeper false n e = cc

@@ -10,11 +10,11 @@ mod fault;
 mod index;
 pub mod laws;
 mod names;
-mod node;
 mod parts;
 mod receiver;
 mod receivers;
 mod rows;
+mod shapes;
 mod shares;
 mod table;
 

@@ -2,7 +2,7 @@ use Rattle.std.proofs.Common.{◌≡◌, ◌+◌, ◌-◌, ◌∷◌, false, nat
 use Rattle.std.proofs.lemmas.Bool.Decides.{nat_tests}
 use Rattle.wamp_ids.specs.Uri.{components}
 use Rattle.subscription_index.proofs.Components.{component_count}
-use Rattle.subscription_index.proofs.Paths.{tail_is}
+use Rattle.subscription_index.proofs.BlocksLemmas.{rest_is}
 use Rattle.subscription_index.proofs.PartsLemmas.{ends-early, differs, goes-on, runs-out}
 use Rattle.subscription_index.proofs.parts.fits_parts.Goals as goal
 
@@ -24,7 +24,7 @@ loop-place-preserved c =
     let front = take c.in-Some.i c.loop-place.rest.now in
     let after = take (length c.loop-place.rest.now - (c.in-Some.i + 1)) (drop (c.in-Some.i + 1) c.loop-place.rest.now) in
     let cut : components text ≡ front ∷ components after =
-    c.in-Some.ensures.cut.1 ∙ ap (λ r. front ∷ components r) (sym (tail_is (c.in-Some.i + 1) text)) in
+    c.in-Some.ensures.cut.1 ∙ ap (λ r. front ∷ components r) (sym (rest_is (c.in-Some.i + 1) text)) in
     goes-on (λ p. p.now) c.args.parts.now c.loop-place.place _ (components text) (components after) front _ c.loop-place.invariant c.loop-place-test.true cut
     (sym c.part_fits-in-Some.ensures ∙ c.if-not-part_fits.false)
 

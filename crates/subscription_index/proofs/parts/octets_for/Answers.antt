@@ -1,8 +1,7 @@
 use Rattle.std.proofs.Common.{◌≡◌, ℕ, List, map, ◌+◌, ◌-◌, length, take, sym, subst, ◌∙◌, arith}
 use Rattle.std.proofs.lemmas.List.{take_all, length-map}
 use Rattle.subscription_index.specs.body.Blocks.{StandsFor}
-use Rattle.subscription_index.proofs.Paths.{tail_is}
-use Rattle.subscription_index.proofs.BlocksLemmas.{passed_none, passed_more, passed_all, passed_to_end, passed_to_other}
+use Rattle.subscription_index.proofs.BlocksLemmas.{passed_none, passed_more, passed_all, passed_to_end, passed_to_other, rest_is}
 use Rattle.subscription_index.proofs.parts.octets_for.Goals as goal
 
 pub loop-place-init : goal.loop-place-init
@@ -19,7 +18,7 @@ returns-then-not-part_fits c =
 pub loop-place-preserved : goal.loop-place-preserved
 loop-place-preserved c =
     passed_more (λ p. p.now) c.args.parts.now c.loop-place.place _ c.args.wildcard.now c.loop-place.rest.now _ c.in-Some.i c.components_joined.ensures.joined c.components_joined.ensures.no_dot
-    c.loop-place.invariant c.loop-place-test.true c.in-Some.ensures.cut.0 c.in-Some.ensures.cut.1 (sym c.part_fits.ensures ∙ c.if-not-part_fits.false) (tail_is (c.in-Some.i + 1) c.loop-place.rest.now)
+    c.loop-place.invariant c.loop-place-test.true c.in-Some.ensures.cut.0 c.in-Some.ensures.cut.1 (sym c.part_fits.ensures ∙ c.if-not-part_fits.false) (rest_is (c.in-Some.i + 1) c.loop-place.rest.now)
 
 pub returns : goal.returns
 returns c =
