@@ -191,6 +191,14 @@ impl Args {
         }
     }
 
+    /// Whether what they are in JSON is kept beside them.
+    pub(crate) fn keeps_json(&self) -> bool {
+        match &self.held {
+            None => false,
+            Some(held) => held.json.is_some(),
+        }
+    }
+
     /// What they are at the end of a message, where that is kept.
     pub fn ending(&self, serializer: Serializer) -> Option<&[u8]>
         ensures { IfSome result (λ octets. IsEnding serializer self.now octets.now) }

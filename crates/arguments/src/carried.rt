@@ -3,6 +3,7 @@ ghost use Rattle.std.specs.Prelude.{◌≡◌, ◌↔◌, IsOk, IfOk, IfErr, tru
 ghost use Rattle.arguments.specs.Arguments.{is_all_carried};
 
 use crate::args::Args;
+use std::alloc::{AllocError, Global};
 use std::marker::Model;
 
 /// Arguments in which nothing is uncarried. JSON writes each of them; MessagePack has no spelling
@@ -45,5 +46,22 @@ impl CarriedArgs {
         ensures carried { is_all_carried self.now ≡ true }
     {
         &self.args
+    }
+
+    /// Whether what they are in JSON is kept beside them ([`Args::with_json`]).
+    pub fn keeps_json(&self) -> bool {
+        self.args.keeps_json()
+    }
+
+    /// Equal ones, in memory of their own, with nothing beside them.
+    ///
+    /// # Errors
+    /// [`AllocError`] where a growth was refused.
+    pub fn try_copy(&self, alloc: Global) -> Result<CarriedArgs, AllocError>
+        ensures { IfOk result (λ copy. copy ≡ self.now) }
+    {
+        Ok(CarriedArgs {
+            args: self.args.try_copy(alloc)?,
+        })
     }
 }

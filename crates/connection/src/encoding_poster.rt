@@ -14,8 +14,8 @@ use wamp_messages::{Publish, Said};
 /// ([`session::Args::with_json`]), where two live sessions or more use JSON beside the publisher's; so the writers of its receivers copy octets, and
 /// the work is done by the publisher's reader, beside the realm's actor.
 ///
-/// What is posted is the same to every contract. Where memory is refused for the octets, the arguments are posted without them. A
-/// publication that is to be retained gets none: it is kept for long, and given to few.
+/// What is posted is the same to every contract. Where memory is refused for the octets, the arguments are posted without them. The
+/// realm keeps none of them with a publication that it retains.
 #[derive(Drop)]
 pub struct EncodingPoster<'a, P> {
     /// Where the octets are kept.
@@ -69,9 +69,6 @@ fn encoded_said(alloc: Global, said: Said) -> Said
 fn encoded_publish(alloc: Global, publish: Publish) -> Publish
     ensures { result ≡ publish }
 {
-    if publish.options.retain == Some(true) {
-        return publish;
-    }
     Publish {
         args: publish.args.with_json(alloc),
         ..publish

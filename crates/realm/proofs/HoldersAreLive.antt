@@ -108,6 +108,16 @@ admitted-unlisted ws p c admitted says some = at (session_of ws c) refl some
     at None is lives = absurd (cc)
     at (Some w) is lives = sym (says w p.publisher (session-conn ws c w is) refl)
 
+-- ---- nobody is admitted
+
+pub none-admitted : (ws : List Who) (p : Publication) (rs : List Receiver) → ((w : Who) → eligible p.lists w p.publisher ≡ false) → events_to ws p rs ≡ []
+none-admitted ws p [] nobody = refl
+none-admitted ws p (r ∷ rs) nobody = at (session_of ws r.conn) (none-admitted ws p rs nobody)
+  where
+    at : (o : Option Who) → events_to ws p rs ≡ [] → all_for r.conn (cond (admits_who p o) (event_for p r ∷ []) []) ++ events_to ws p rs ≡ []
+    at None rest = rest
+    at (Some w) rest = rw (nobody w) rest
+
 -- ---- one receiver more
 
 pub events-more : (ws : List Who) (p : Publication) (rs : List Receiver) (i : ℕ) (r : Receiver) (admitted : Bool) (old new : List (ℕ × Item)) → i < length rs → r ≡ get_or rs i r

@@ -170,8 +170,8 @@ fn refused(alloc: Global, requester: &Requester, reason: Reason) -> Result<Given
     one(alloc, requester.conn, item)
 }
 
-/// The EVENTs of an accepted publication, in a list that is lent for them. One without lists has
-/// nobody looked up for it.
+/// The EVENTs of an accepted publication, in a list that is lent for them. For one that admits
+/// nobody no receiver is searched; one without lists has nobody looked up for it.
 fn events(
     alloc: Global,
     spare: Given,
@@ -183,6 +183,9 @@ fn events(
     ensures { IfOk result (λ given.
         given.items ≡ all_events state.now.sessions state.now.index.rows made.now) }
 {
+    if made.value().lists.admits_nobody() {
+        return Ok(spare);
+    }
     let found = receivers(alloc, &state.index, &made.value().topic)?;
     if made.value().lists.has_no_lists() {
         events_without_lists(spare, &state.sessions, made, &found)
@@ -216,13 +219,43 @@ fn told(
     Ok(given)
 }
 
+/// An equal publication, with nothing in JSON beside its arguments.
+fn without_json(alloc: Global, made: &Publication) -> Result<Publication, Fault>
+    ensures { IfOk result (λ copy. copy ≡ made.now) }
+{
+    let topic = made.topic.try_copy(alloc)?;
+    let lists = made.lists.twin()?;
+    let publisher = made.publisher.twin()?;
+    let args = made.args.try_copy(alloc)?;
+    Ok(Publication {
+        id: made.id,
+        topic,
+        lists,
+        publisher,
+        disclosed: made.disclosed,
+        args,
+    })
+}
+
+/// The publication as it is retained. What its arguments are in JSON is for those who get it now:
+/// it is up to six times as long, and goes when they have taken it.
+fn to_retain(alloc: Global, made: Shared<Publication>) -> Result<Shared<Publication>, Fault>
+    ensures { IfOk result (λ kept. kept ≡ made) }
+{
+    if !made.value().args.keeps_json() {
+        return Ok(made);
+    }
+    let kept = without_json(alloc, made.value())?;
+    Ok(Shared::new(alloc, kept)?)
+}
+
 /// Retains a publication for which there is room.
 fn retain(alloc: Global, store: &mut Store, made: Shared<Publication>) -> Result<(), Fault>
     requires { has_room store.old made.topic ≡ true }
     ensures kept { OnOk result (store.new ≡ set_topic made store.old) }
     ensures unchanged { OnErr result (store.new ≡ store.old) }
 {
-    match store.keep(alloc, made) {
+    match store.keep(alloc, to_retain(alloc, made)?) {
         Ok(()) => Ok(()),
         Err(retained::Fault::NoMemory) => Err(Fault::NoMemory),
         Err(retained::Fault::RetainedFull) => unreachable!(),
