@@ -140,7 +140,8 @@ impl<S: Sink> Sink for FailsAt<S> {
 /// The frames of a stream that comes in these pieces, and the fault that ends them.
 pub fn frames_of(alloc: Global, pieces: &[Vec<u8>]) -> Result<Fed, Fault>
     ensures reads { IfOk result (λ fed. (held : List ℕ)
-        × Reads router_takes (flat_map (λ piece. piece.items) pieces.now) (contents fed.frames.items) held
+        × Reads router_takes (flat_map (λ piece. piece.items) pieces.now)
+        (contents fed.frames.items) held
         × (fed.fault ≡ fault_of router_takes held)) }
     ensures memory { IfErr result (λ e. e ≡ Fault.NoMemory) }
 {

@@ -51,7 +51,8 @@ fn escaped(alloc: Global, text: &[u8]) -> Result<Vec<u8>, AllocError>
 
 /// Adds an octet, perhaps behind an octet 194 that isn't added yet. Tells whether this is one, and isn't added yet.
 fn add(out: &mut Vec<u8>, is_behind: bool, octet: u8) -> Result<bool, AllocError>
-    ensures { IfOk result (λ waits. (rest : List ℕ) → out.old.items ++ shown_from is_behind (octet ∷ rest)
+    ensures { IfOk result (λ waits. (rest : List ℕ)
+        → out.old.items ++ shown_from is_behind (octet ∷ rest)
         ≡ out.new.items ++ shown_from waits rest) }
 {
     if is_behind {

@@ -32,8 +32,8 @@ impl Listener {
 
     /// There was no connection: nothing is printed, and no subscription given.
     pub fn miss(&mut self)
-        ensures { (command : SubscribeCommand) (lines : List ℕ) (notes : Noting) → PrintsOnce command
-            (stage lines notes self.old.left) (stage lines notes self.new.left) }
+        ensures { (command : SubscribeCommand) (lines : List ℕ) (notes : Noting)
+            → PrintsOnce command (stage lines notes self.old.left) (stage lines notes self.new.left) }
     {
         self.is_subscribed = false;
     }

@@ -238,7 +238,8 @@ fn post_whole<'p, R: Wait, S: Shut, P: Posting<S>>(
     ensures front { IfOk result (λ rest. PostsFront deframer.now.most serializer octets.now rest.now
         (P.posted poster.old) (P.posted poster.new) (Ok tt)) }
     ensures short { IfOk result (λ rest. IsShort deframer.now.most rest.now) }
-    ensures ended { IfErr result (λ end. (rest : List ℕ) × PostsFront deframer.now.most serializer octets.now rest
+    ensures ended { IfErr result (λ end. (rest : List ℕ)
+        × PostsFront deframer.now.most serializer octets.now rest
         (P.posted poster.old) (P.posted poster.new) (Err end)) }
 {
     let mut rest = octets;
@@ -260,7 +261,8 @@ fn advance<R: Wait, S: Shut, P: Posting<S>>(
     piece: &[u8],
     poster: &mut P,
 ) -> Result<(), ReadEnd>
-    ensures advances { IsAdvance (start serializer [] deframer.old) (taking piece.now deframer.new.held)
+    ensures advances { IsAdvance (start serializer [] deframer.old)
+        (taking piece.now deframer.new.held)
         (P.posted poster.old) (P.posted poster.new) result }
     ensures most { deframer.new.most ≡ deframer.old.most }
 {
