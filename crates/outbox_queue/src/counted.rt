@@ -76,7 +76,8 @@ impl<T, V> CountedPass<T, V> {
         queue.learn_as::<M>(&mut self.pass);
     }
 
-    /// Pushes the item, or counts one more step that found the queue full.
+    /// Pushes the item, or counts one more step that found the queue full. One attempt comes first,
+    /// which costs half as much where nobody is in the way and there is room.
     pub fn push_counted<P: Protocol<T, V>, M: Outcome<T, V> + Lesson<T, V>, R: Wait>(
         &mut self,
         rt: &R,
@@ -95,6 +96,10 @@ impl<T, V> CountedPass<T, V> {
             × (self.new.finds ≡ self.old.finds + 1)
             × Held (ruled_capacity queue.now) (M.fact (view self.old.pass))) }
     {
+        let item = match queue.try_push_as::<M>(&mut self.pass, item) {
+            Ok(()) => return Ok(()),
+            Err(back) => back,
+        };
         match queue.push_as::<M, R>(rt, &mut self.pass, item) {
             Ok(()) => Ok(()),
             Err(back) => {
@@ -104,7 +109,8 @@ impl<T, V> CountedPass<T, V> {
         }
     }
 
-    /// Pops the item at the front, or counts one more step that found the queue empty.
+    /// Pops the item at the front, or counts one more step that found the queue empty. One attempt
+    /// comes first, as above.
     pub fn pop_counted<P: Protocol<T, V>, M: Outcome<T, V> + Lesson<T, V>, R: Wait>(
         &mut self,
         rt: &R,
@@ -121,6 +127,9 @@ impl<T, V> CountedPass<T, V> {
             (λ x. M.then (view self.old.pass) x (view self.new.pass)
             × (self.new.finds ≡ self.old.finds)) }
     {
+        if let Some(item) = queue.try_pop_as::<M>(&mut self.pass) {
+            return Some(item);
+        }
         match queue.pop_as::<M, R>(rt, &mut self.pass) {
             Some(item) => Some(item),
             None => {
