@@ -19,6 +19,13 @@ pub(crate) struct Bells {
 }
 
 impl Bells {
+    /// Wakes the receiving end, if it sleeps.
+    fn wake_receiver(&self) {
+        if self.room.ends_sleep() {
+            self.receiver.unpark();
+        }
+    }
+
     /// Another holder of both. It takes no memory.
     pub(crate) fn twin(&self) -> Result<Bells, AllocError> {
         Ok(Bells {
@@ -28,7 +35,7 @@ impl Bells {
     }
 }
 
-/// Sends a message, and wakes the receiving end; waits while the channel is full. The message comes back where the receiving end is
+/// Sends a message, and wakes the receiving end if it sleeps; waits while the channel is full. The message comes back where the receiving end is
 /// gone.
 pub(crate) fn send<T: Drop, V, P: Protocol<T, V>, M: Outcome<T, V> + Lesson<T, V>, R: Wait>(
     rt: &R,
@@ -50,7 +57,7 @@ pub(crate) fn send<T: Drop, V, P: Protocol<T, V>, M: Outcome<T, V> + Lesson<T, V
     for _ in rt.forever() {
         match sender.try_send_as::<M, R>(rt, pass, message) {
             Ok(()) => {
-                bells.receiver.unpark();
+                bells.wake_receiver();
                 return Ok(());
             }
             Err(TrySendError::Full(back)) => message = back,

@@ -89,8 +89,8 @@ impl<S: Shut> Inbox<S> {
     /// each poster and each seat, and nothing waits. It wakes who waits for room: with each post that it gives, and before it waits
     /// itself.
     ///
-    /// No post is missed, nor that the last sender is gone: each turn looks first, and then sleeps; a sender posts, or goes, and then
-    /// wakes it; and a wake that comes before the sleep ends it at once.
+    /// No post is missed, nor that the last sender is gone: it says that it is about to sleep, looks once more, and then sleeps; a
+    /// sender posts, or goes, and then wakes it where it has said so; and a wake that comes before the sleep ends it at once.
     pub fn receive<R: Wait>(&mut self, rt: &R) -> Option<Post<S>>
         ensures given { MatchOption result (received self.new ≡ received self.old)
             (λ p. received self.new ≡ received self.old ++ p ∷ []) }
@@ -99,17 +99,18 @@ impl<S: Shut> Inbox<S> {
         ensures same { (inbox_of self.new ≡ inbox_of self.old)
             × (capacity self.new ≡ capacity self.old) }
     {
+        let mut is_announced = false;
         for _ in rt.forever() {
             match self.look(rt) {
                 Ok(post) => {
+                    self.turns.room.be_awake();
                     self.wake();
                     return Some(post);
                 }
                 Err(TryRecvError::Disconnected) => return None,
                 Err(TryRecvError::Empty) => {}
             }
-            self.turns.ring();
-            self.parker.park(rt);
+            is_announced = self.turns.rest(rt, &self.parker, is_announced);
         }
         unreachable!()
     }

@@ -1,4 +1,4 @@
-//! How posters wait for room.
+//! How posters wait for room, and how they know whether the receiving end sleeps.
 use std::sync::Wait;
 use std::sync::atomic::{AtomicBool, AtomicU64, Ordering};
 
@@ -14,6 +14,8 @@ pub(crate) struct RoomBell {
     rings: AtomicU64,
     // Whether somebody has listened since it was last rung.
     is_awaited: AtomicBool,
+    // Whether the receiving end sleeps, or is about to.
+    is_asleep: AtomicBool,
 }
 
 impl RoomBell {
@@ -21,6 +23,7 @@ impl RoomBell {
         RoomBell {
             rings: AtomicU64::new(0),
             is_awaited: AtomicBool::new(false),
+            is_asleep: AtomicBool::new(false),
         }
     }
 
@@ -47,6 +50,24 @@ impl RoomBell {
     /// Whether somebody has listened since it was last rung.
     pub(crate) fn is_awaited(&self) -> bool {
         self.is_awaited.load(Ordering::SeqCst)
+    }
+
+    /// Says that the receiving end is about to sleep. It has to look once more behind this, and only then sleeps: a post that this
+    /// look misses was sent behind the announcement, so its sender finds it, and wakes.
+    pub(crate) fn begin_sleep(&self) {
+        self.is_asleep.store(true, Ordering::SeqCst);
+    }
+
+    /// The receiving end is awake, and nobody need wake it.
+    pub(crate) fn be_awake(&self) {
+        if self.is_asleep.load(Ordering::SeqCst) {
+            self.is_asleep.store(false, Ordering::SeqCst);
+        }
+    }
+
+    /// Whether the receiving end is to be woken: true for one of those who ask while it sleeps.
+    pub(crate) fn ends_sleep(&self) -> bool {
+        self.is_asleep.load(Ordering::SeqCst) && self.is_asleep.swap(false, Ordering::SeqCst)
     }
 
     /// Ends the waits of all who have listened.

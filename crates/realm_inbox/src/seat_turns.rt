@@ -4,7 +4,8 @@ use crate::room_bell::RoomBell;
 use crate::schedule::{Schedule, TOLD_AT_ONCE};
 use crate::seat_lines::SeatLines;
 use crate::transport::Shut;
-use std::sync::Arc;
+use crossbeam_utils::sync::Parker;
+use std::sync::{Arc, Wait};
 
 /// How many posts are given before those who wait for room are woken: so that they find room for many at once.
 const UNRUNG: u32 = 256;
@@ -24,6 +25,18 @@ impl SeatTurns {
     /// Wakes who waits for room.
     pub(crate) fn ring(&self) {
         self.room.ring();
+    }
+
+    /// Says that the receiving end is about to sleep; or, where it has said so and looked once more, wakes who waits for room and
+    /// sleeps. Whether it has said so and not slept since.
+    pub(crate) fn rest<R: Wait>(&self, rt: &R, parker: &Parker, is_announced: bool) -> bool {
+        if !is_announced {
+            self.room.begin_sleep();
+            return true;
+        }
+        self.ring();
+        parker.park(rt);
+        false
     }
 
     /// Whether posts are given as they come: none was dear of late, and nobody waits, in a line or for room.
