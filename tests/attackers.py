@@ -395,6 +395,18 @@ def ping_shortly(these, count, seconds):
     these.at_once(these.join(count), lambda it: it.send_for(octets, seconds))
 
 
+def retain_lists(these, count):
+    """So many topics, each with a retained event whose list of authids is as long as it can be, all of them empty."""
+    (it,) = these.join(1)
+    for number in range(1, count + 1):
+        options = {"retain": True, "acknowledge": True, "exclude_authid": FILL}
+        before, after = talk.encoded(it.serializer, [16, number, options, f"kept.{number}"]).split(talk.encoded(it.serializer, FILL))
+        texts = OCTETS - len(before) - len(after) - 5
+        it.send(talk.frame_of(talk.MESSAGE, before + b"\xdd" + texts.to_bytes(4, "big") + b"\xa0" * texts + after))
+    for _ in range(count):
+        it.hear(PUBLISHED)
+
+
 def scan_retained(these, kept, times):
     """Long topics are retained, and looked through for a wildcard that none of them fits."""
     (it,) = these.join(1)
