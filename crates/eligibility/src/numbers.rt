@@ -26,7 +26,7 @@ pub(crate) struct Numbers {
 impl Model for Numbers {
     ghost use Rattle.std.specs.Prelude.{◌≡◌, ◌<◌, ◌^◌, ℕ, ℤ, List};
     ghost use Rattle.std.specs.Ordering.{nat_cmp};
-    ghost use Rattle.std.specs.List.Sorted.{IsSorted};
+    ghost use Rattle.std.specs.List.Sorted.{IsStrictlySortedBy};
     ghost use Rattle.eligibility.specs.Options.{number_of};
     ghost use Rattle.eligibility.specs.Lists.{has_number};
     ghost use Rattle.eligibility.specs.body.IdSet.{holds};
@@ -36,7 +36,7 @@ impl Model for Numbers {
 
     ghost view = { λ n. listed_in number_of n.given.value.items };
 
-    ghost invariant = { λ n. IsSorted nat_cmp n.ids.large.items
+    ghost invariant = { λ n. IsStrictlySortedBy nat_cmp n.ids.large.items
         × ((q : ℕ) → q < 2 ^ 64
         → has_number q (listed_in number_of n.given.value.items) ≡ holds n.ids q) };
 }

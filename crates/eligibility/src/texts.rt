@@ -12,7 +12,8 @@ use std::alloc::Global;
 use std::marker::Model;
 
 /// A list of authids or authroles. Contracts see the texts as they were given; what is kept are the
-/// octets that spell the list, and where each text begins in them, in the order of the texts.
+/// octets that spell the list, and where each text begins in them, in the order of the texts and
+/// each text once.
 #[derive(Drop)]
 pub(crate) struct Texts {
     octets: Vec<u8>,
