@@ -1,12 +1,12 @@
 -- A list that stands in octets, and how it is kept.
-use Rattle.std.specs.Prelude.{◌≡◌, ◌<◌, ◌^◌, ◌++◌, ℕ, ℤ, Bool, List, [], Option, Some, None, unwrap_or, drop}
+use Rattle.std.specs.Prelude.{◌≡◌, ◌<◌, ◌^◌, ◌++◌, ℕ, ℤ, Bool, true, false, List, [], Option, Some, None, unwrap_or, drop}
 use Rattle.std.specs.Ordering.{nat_cmp}
 use Rattle.std.specs.List.{list_any}
 use Rattle.std.specs.List.Sorted.{IsStrictlySortedBy}
 use Rattle.std.specs.Str.{bytes_eq}
 use Rattle.std.specs.Cmp.Lexicographic.{slice_cmp}
 use Rattle.std.specs.declared.cmp.Ordering.{Ordering}
-use Rattle.message_tree.specs.Data.{Data}
+use Rattle.message_tree.specs.Data.{Data, Items, no_items, item}
 use Rattle.msgpack_cursor.specs.Standing.{value_in}
 use Rattle.eligibility.specs.Options.{list_or_none, text_of}
 use Rattle.eligibility.specs.Lists.{has_number, has_text}
@@ -20,6 +20,11 @@ listed (Some (Some xs)) = xs
 -- what the list lists that the octets are
 unfoldable pub listed_in : {X : Type 0} → (Data → Option X) → List ℕ → List X
 listed_in kind octets = listed (list_or_none kind (Some (value_in 100 octets)))
+
+-- a list has no members
+abbrev pub is_bare : Items → Bool
+is_bare no_items = true
+is_bare (item d ds) = false
 
 -- the test finds each number of a list, and no other
 abbrev pub AreHeld : (ℕ → Bool) → Option (List ℤ) → Type 0
