@@ -12,7 +12,7 @@ invariant_of-result c =
     let seen = ap (listed_in number_of) c.in_ok-given.ensures ∙ seen-list number_of c.args.octets.now c.args.items h.0 c.requires h.1 in (
       c.put_in_order.ensures.ordered,
       λ q lt. ap (has_number q) seen ∙ (h.2 q lt ∙ sym (c.put_in_order.ensures.same q)),
-      c.is_bare.ensures c.args.items c.requires ∙ (bare-list number_of c.args.items h.0 h.1 ∙ ap (λ zs. length zs == 0) (sym seen)),
+      c.is_bare-is_empty.ensures c.args.items c.requires ∙ (bare-list number_of c.args.items h.0 h.1 ∙ ap (λ zs. length zs == 0) (sym seen)),
     )
 
 pub returns-clause-ok : goal.returns-clause-ok
