@@ -57,6 +57,27 @@ pub fn lists(
     }
 }
 
+/// Whether the lists of options in JSON admit nobody at all.
+pub fn nobody(alloc: Global, json: &str) -> io::Result<String> {
+    match json_codec::decode(alloc, json.as_bytes()) {
+        Ok(message) => match message.tree() {
+            Tree::Dict(options) => empty(alloc, options),
+            _ => line_of(alloc, "no options"),
+        },
+        Err(fault) => Ok(format!(in alloc; "{fault}\n")?),
+    }
+}
+
+fn empty(alloc: Global, options: &Dict) -> io::Result<String> {
+    match Lists::read(alloc, options) {
+        Ok(lists) => {
+            let nobody = lists.admits_nobody();
+            Ok(format!(in alloc; "{nobody}\n")?)
+        }
+        Err(fault) => Ok(format!(in alloc; "{fault}\n")?),
+    }
+}
+
 /// Whether the lists that are taken out of options in JSON admit the receiver.
 pub fn taken(
     alloc: Global,

@@ -1,5 +1,7 @@
 //! A case: who publishes and who receives.
-use crate::admitting::{beyond, everyone, lists, standing, taken, threads, who_in_words, who_of};
+use crate::admitting::{
+    beyond, everyone, lists, nobody, standing, taken, threads, who_in_words, who_of,
+};
 use crate::asking::options;
 use crate::matching::{dot, matches, pattern, same};
 use crate::naming::{conn, faults, id, moved, topic, word};
@@ -72,6 +74,7 @@ fn told(alloc: Global, name: &str, text: &str) -> io::Result<String> {
         "matches" => matches(alloc, text),
         "same" => same(alloc, text),
         "dot" => dot(alloc, text),
+        "nobody" => nobody(alloc, text),
         _ => line_of(alloc, "no case has this word"),
     }
 }

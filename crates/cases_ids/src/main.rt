@@ -17,6 +17,7 @@
 //! - `takes JSON`: the same of lists that are taken out of these options.
 //! - `stands OCTETS`: the same, by a twin, of lists that are read where these options stand in MessagePack; in octets
 //!   `\7f` is an octet; or that one has a wrong type.
+//! - `nobody JSON`: whether one of the eligible lists of these options is empty, so that nobody is admitted.
 //! - `beyond KEY`: the same for lists under this key, each with a number beyond 64 bits.
 //! - `everyone`: the same for no lists.
 //! - `threads`: that lists and who they name may be shared between threads.

@@ -5,15 +5,16 @@ use Rattle.std.specs.declared.cmp.Ordering.{Ordering}
 use Rattle.std.specs.declared.cmp.Ordering.TheVariants.{Less, Equal, Greater}
 use Rattle.std.specs.Cmp.{IsTotalOrder}
 use Rattle.std.specs.Cmp.Lexicographic.{slice_cmp}
-use Rattle.std.specs.List.Sorted.{IsBinarySearchResult, IsSearchInRange, IsNonDecreasingBy}
+use Rattle.std.specs.List.Sorted.{IsBinarySearchResult, IsSearchInRange, IsNonDecreasingBy, IsSorted, IsStrictlySortedBy}
 use Rattle.std.specs.Result.{is_ok}
 use Rattle.std.specs.Str.{bytes_eq}
 use Rattle.std.proofs.lemmas.Bool.{cases_lt}
-use Rattle.std.proofs.lemmas.Cmp.{nat_list_cmp_total}
+use Rattle.std.proofs.lemmas.Cmp.{nat_list_cmp_total, on_total}
 use Rattle.std.proofs.lemmas.List.Folds.{list_any_at, list_any_none}
 use Rattle.std.proofs.lemmas.List.Sorted.{IsNonDecreasingBy-from_all_adjacent}
+use Rattle.std.proofs.lemmas.Map.Keys.{Less-from_sorted}
 use Rattle.std.proofs.lemmas.Map.Text.{is_eq-slice_cmp}
-use Rattle.eligibility.specs.body.Standing.{text_at, stands, IsOrdered}
+use Rattle.eligibility.specs.body.Standing.{text_at, place_cmp, stands, IsOrdered}
 
 module _ {K : Type 0} {R : K → K → Ordering} (total : IsTotalOrder R) where
   less-behind : (x y : K) → R x y ≡ Greater → is_lt (R y x) ≡ false → ⊥
@@ -37,14 +38,23 @@ module _ {K : Type 0} {R : K → K → Ordering} (total : IsTotalOrder R) where
       absurd cc
   ranks x y s Greater Greater e f nay = omega arith
 
+  -- what rises doesn't fall
+  pub sorted-too : (xs : List K) → IsStrictlySortedBy R xs → IsSorted R xs
+  sorted-too xs rises = λ k d from within.
+      ap is_lt (total.antisymm (get_or xs (k + 1) d) (get_or xs k d) ∙ ap ordering_reverse (Less-from_sorted R xs k (k + 1) d rises (omega arith) within))
+
+pub places-total : (octets : List ℕ) → IsTotalOrder (place_cmp octets)
+places-total octets = on_total (text_at octets) nat_list_cmp_total
+
 -- how the text at a place compares with another
 abbrev pub against : List ℕ → List ℕ → ℕ → Ordering
 against octets s p = slice_cmp nat_cmp (text_at octets p) s
 
 rising : (octets places s : List ℕ) → IsOrdered octets places → IsNonDecreasingBy (λ p. ordering_index (against octets s p)) places
 rising octets places s ordered =
+    let sorted = sorted-too (places-total octets) places ordered in
     IsNonDecreasingBy-from_all_adjacent (λ p. ordering_index (against octets s p)) places
-    (λ k d lt. ranks nat_list_cmp_total (text_at octets (get_or places k d)) (text_at octets (get_or places (k + 1) d)) s _ _ refl refl (ordered k d (omega arith) lt))
+    (λ k d lt. ranks nat_list_cmp_total (text_at octets (get_or places k d)) (text_at octets (get_or places (k + 1) d)) s _ _ refl refl (sorted k d (omega arith) lt))
 
 is-there : (octets s : List ℕ) (p : ℕ) (o : Ordering) → against octets s p ≡ o → bytes_eq (text_at octets p) s ≡ is_eq o
 is-there octets s p o e = sym (is_eq-slice_cmp (text_at octets p) s) ∙ ap is_eq e

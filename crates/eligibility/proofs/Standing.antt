@@ -1,9 +1,11 @@
 -- What stands in octets.
-use Rattle.std.proofs.Common.{◌≡◌, ◌≤◌, ℕ, ℤ, List, [], ◌∷◌, ◌++◌, Bool, true, false, ◌||◌, Option, Some, None, Ok, Err, drop, map, refl, sym, ap, ◌∙◌, subst, unwrap_or}
+use Rattle.std.proofs.Common.{◌≡◌, ◌≤◌, ◌==◌, ℕ, zero, suc, ℤ, List, [], ◌∷◌, ◌++◌, length, Bool, true, false, ◌||◌, Option, Some, None, Ok, Err, drop, map, refl, sym, ap, ◌∙◌, subst, unwrap_or, arith}
 use Rattle.std.specs.List.{list_any}
 use Rattle.std.specs.Str.{bytes_eq}
 use Rattle.std.proofs.lemmas.List.{append-nil}
 use Rattle.std.proofs.lemmas.List.Folds.{list_any-append}
+use Rattle.std.proofs.lemmas.Bool.Decides.{nat_tests}
+use Rattle.std.proofs.lemmas.Slice.Eq.{bytes_eq-Decides}
 use Rattle.message_tree.specs.Data as tree
 use Rattle.message_tree.specs.Data.{Data}
 use Rattle.msgpack_codec.specs.Grammar.{IsDeep, IsNoMessage, Spells}
@@ -16,9 +18,9 @@ use Rattle.msgpack_codec.specs.declared.passing.Refusal.{Refusal}
 use Rattle.msgpack_codec.specs.declared.passing.Refusal.TheVariants.{TooDeep, Malformed}
 use Rattle.msgpack_cursor.proofs.Spellings.{in_message, not_deep}
 use Rattle.msgpack_cursor.proofs.Readings.{front-value, list-inside, list-there, value-read}
-use Rattle.eligibility.specs.Options.{each_of, some_list, list_or_none, text_of}
+use Rattle.eligibility.specs.Options.{with_first, each_of, some_list, list_or_none, text_of}
 use Rattle.eligibility.specs.Lists.{has_number, has_text, is_number}
-use Rattle.eligibility.specs.body.Standing.{listed, listed_in, AreHeld, text_at, stands}
+use Rattle.eligibility.specs.body.Standing.{listed, listed_in, is_bare, AreHeld, text_at, stands}
 
 -- ---- one text
 
@@ -67,6 +69,25 @@ unfolding listed_in
 seen-list kind octets ds xs s e =
     ap (λ d. listed (list_or_none kind (Some d))) (sym (value-spelled-is octets (tree.list ds) s)) ∙ ap (λ o. listed (some_list o)) e
 
+some-left : (n : ℕ) → false ≡ (suc n == 0)
+some-left n = grind (arith, nat_tests)
+
+first-some : {X : Type 0} (o : Option X) (rest : Option (List X)) (xs : List X) → with_first o rest ≡ Some xs → false ≡ (length xs == 0)
+first-some None rest xs e = absurd cc
+first-some (Some x) None xs e = absurd cc
+first-some (Some x) (Some more) xs e = some-left (length more) ∙ ap (λ o. length (unwrap_or o []) == 0) e
+
+-- what a list lists is empty where the list has no members
+pub bare-list : {X : Type 0} (kind : Data → Option X) (ds : tree.Items) (xs : List X) → each_of kind ds ≡ Some xs → is_bare ds ≡ (length xs == 0)
+bare-list kind tree.no_items xs e = ap (λ o. length (unwrap_or o []) == 0) e
+bare-list kind (tree.item d ds) xs e = first-some (kind d) (each_of kind ds) xs e
+
+-- so many members are none
+pub bare-count : (n : ℕ) (rest : List ℕ) → (n == 0) ≡ is_bare (items_in 99 n rest)
+unfolding items_in
+bare-count zero rest = refl
+bare-count (suc n) rest = sym (some-left n)
+
 -- ---- numbers
 
 pub held-some : (has : ℕ → Bool) (o : Option (List ℤ)) → AreHeld has o → (zs : List ℤ) × (o ≡ Some zs) × AreHeld has (Some zs)
@@ -81,6 +102,18 @@ any-of-map f p (x ∷ xs) = ap (λ b. p (f x) || b) (any-of-map f p xs)
 
 pub stands-listed : (octets places : List ℕ) (s : List ℕ) → stands octets places s ≡ has_text s (map (text_at octets) places)
 stands-listed octets places s = sym (any-of-map (text_at octets) (λ t. bytes_eq t s) places)
+
+itself-there : (s : List ℕ) (more : Bool) → (bytes_eq s s || more) ≡ true
+itself-there s more = ap (λ b. b || more) ((bytes_eq-Decides s s).1 refl)
+
+-- no text is at no place, and some text is at a place
+pub none-stand : (octets places : List ℕ) (texts : List (List ℕ)) → ((s : List ℕ) → stands octets places s ≡ has_text s texts) → (length places == 0) ≡ (length texts == 0)
+none-stand octets [] [] same = refl
+none-stand octets [] (t ∷ ts) same = let nay : false ≡ true = same t ∙ itself-there t (has_text t ts) in absurd cc
+none-stand octets (p ∷ ps) [] same =
+    let nay : true ≡ false = sym (itself-there (text_at octets p) (stands octets ps (text_at octets p))) ∙ same (text_at octets p) in
+    absurd cc
+none-stand octets (p ∷ ps) (t ∷ ts) same = sym (some-left (length ps)) ∙ some-left (length ts)
 
 turned : (a b : Bool) → (a || (b || false)) ≡ (b || a)
 turned true true = refl

@@ -1,5 +1,5 @@
 -- Who is to receive a publication.
-use Rattle.std.specs.Prelude.{ℕ, ℤ, pos, negsuc, Bool, true, false, not, ◌==◌, ◌&&◌, List, codes, None, Some, is_none}
+use Rattle.std.specs.Prelude.{ℕ, ℤ, pos, negsuc, Bool, true, false, not, ◌==◌, ◌&&◌, ◌||◌, List, length, codes, None, Some, is_none}
 use Rattle.std.specs.declared.option.Option.{Option}
 use Rattle.std.specs.List.{list_any}
 use Rattle.std.specs.Str.{bytes_eq}
@@ -35,6 +35,15 @@ abbrev pub has_no_lists : Audience → Bool
 has_no_lists a =
     is_none a.exclude && is_none a.exclude_authid && is_none a.exclude_authrole
     && is_none a.eligible && is_none a.eligible_authid && is_none a.eligible_authrole
+
+-- the list is given, and is empty
+abbrev pub is_empty : {X : Type 0} → Option (List X) → Bool
+is_empty None = false
+is_empty (Some xs) = length xs == 0
+
+-- one of the eligible lists is empty, so that nobody is admitted
+abbrev pub names_nobody : Audience → Bool
+names_nobody a = is_empty a.eligible || is_empty a.eligible_authid || is_empty a.eligible_authrole
 
 abbrev pub is_number : ℕ → ℤ → Bool
 is_number n (pos m) = m == n

@@ -1,7 +1,7 @@
 //! A set of session ids, in a form in which one look-up takes few steps.
 ghost use Rattle.std.specs.Prelude.{◌≡◌, ◌||◌, ◌<◌, ◌^◌, ℕ, false, IfOk, OnOk};
 ghost use Rattle.std.specs.Ordering.{nat_cmp};
-ghost use Rattle.std.specs.List.Sorted.{IsSorted};
+ghost use Rattle.std.specs.List.Sorted.{IsStrictlySortedBy};
 ghost use Rattle.eligibility.specs.Lists.{is_number};
 ghost use Rattle.eligibility.specs.body.IdSet.{holds};
 
@@ -11,8 +11,9 @@ use std::collections::BTreeSet;
 /// The least number of which each spelling takes two octets or more.
 pub(crate) const LARGE: i128 = 128;
 
-/// A set of ids. Of the small ones there are few, however long a list is: so each is kept once.
-/// A large one takes two octets or more of a message, and may be kept again.
+/// A set of ids. Of the small ones there are few, however long a list is: so each is kept once from
+/// the first on. A large one takes two octets or more of a message, and is kept again until all are
+/// put in order.
 #[derive(Drop)]
 pub(crate) struct IdSet {
     small: BTreeSet<u64>,
@@ -48,17 +49,19 @@ pub(crate) fn add(ids: &mut IdSet, number: i128) -> Result<(), AllocError>
     }
 }
 
-/// Puts the large ones in order.
+/// Puts the large ones in order, each once, and gives back the memory of those that came again.
 pub(crate) fn put_in_order(ids: &mut IdSet)
     ensures same { (q : ℕ) → holds ids.new q ≡ holds ids.old q }
-    ensures ordered { IsSorted nat_cmp ids.new.large.items }
+    ensures ordered { IsStrictlySortedBy nat_cmp ids.new.large.items }
 {
     ids.large.sort_unstable();
+    ids.large.dedup();
+    ids.large.shrink_to_fit();
 }
 
 /// Whether the id is among them, where the large ones stand in order.
 pub(crate) fn has(ids: &IdSet, id: u64) -> bool
-    requires { IsSorted nat_cmp ids.now.large.items }
+    requires { IsStrictlySortedBy nat_cmp ids.now.large.items }
     ensures { result ≡ holds ids.now id }
 {
     ids.small.contains(&id) || ids.large.binary_search(&id).is_ok()

@@ -1,9 +1,9 @@
 //! Who is to receive a publication: `exclude_me`, and the six lists of a PUBLISH.
-ghost use Rattle.std.specs.Prelude.{◌≡◌, ◌==◌, ◌&&◌, true, not, is_none, IfOk, None, Some};
+ghost use Rattle.std.specs.Prelude.{◌≡◌, ◌==◌, ◌&&◌, ◌||◌, true, false, not, is_none, IfOk, None, Some};
 ghost use Rattle.std.specs.Option.{option_and_then};
 ghost use Rattle.message_tree.specs.Data.{no_entries};
 ghost use Rattle.message_tree.specs.View.{dict_view};
-ghost use Rattle.eligibility.specs.Lists.{audience_of, audience_of_values, everyone, admits, has_no_lists, has_number, has_text, is_free_of, allows};
+ghost use Rattle.eligibility.specs.Lists.{audience_of, audience_of_values, everyone, admits, has_no_lists, names_nobody, is_empty, has_number, has_text, is_free_of, allows};
 ghost use Rattle.eligibility.specs.declared.who.Who.{Who};
 
 use crate::fault::Fault;
@@ -88,6 +88,16 @@ impl Named {
             && self.eligible.is_none()
             && self.eligible_authid.is_none()
             && self.eligible_authrole.is_none()
+    }
+
+    /// Whether one of the eligible lists is empty.
+    fn names_nobody(&self) -> bool
+        ensures { result ≡ (is_empty self.now.eligible || is_empty self.now.eligible_authid
+            || is_empty self.now.eligible_authrole) }
+    {
+        are_no_numbers(&self.eligible)
+            || are_no_texts(&self.eligible_authid)
+            || are_no_texts(&self.eligible_authrole)
     }
 }
 
@@ -217,6 +227,18 @@ impl Lists {
         !(conn == publisher && self.exclude_me)
     }
 
+    /// Whether one of the eligible lists is empty, so that nobody is admitted and no receiver has to
+    /// be looked for.
+    pub fn admits_nobody(&self) -> bool
+        ensures value { result ≡ names_nobody self.now }
+        ensures nobody { result ≡ true → (who by : Who) → admits self.now who by ≡ false }
+    {
+        match &self.named {
+            None => false,
+            Some(named) => named.value().names_nobody(),
+        }
+    }
+
     /// Whether this receiver is to get what that publisher publishes. The publisher itself is known
     /// by its connection.
     pub fn admits(&self, who: &Who, publisher: &Who) -> bool
@@ -240,6 +262,26 @@ impl Lists {
             && allows_number(&named.eligible, who.id)
             && allows_text(&named.eligible_authid, who.authid.value())
             && allows_text(&named.eligible_authrole, who.authrole.value())
+    }
+}
+
+/// Whether a list of ids is given, and is empty.
+fn are_no_numbers(numbers: &Option<Numbers>) -> bool
+    ensures { result ≡ is_empty numbers.now }
+{
+    match numbers {
+        None => false,
+        Some(numbers) => numbers.is_empty(),
+    }
+}
+
+/// Whether a list of texts is given, and is empty.
+fn are_no_texts(texts: &Option<Texts>) -> bool
+    ensures { result ≡ is_empty texts.now }
+{
+    match texts {
+        None => false,
+        Some(texts) => texts.is_empty(),
     }
 }
 

@@ -1,14 +1,15 @@
 //! A list of session ids, in a form in which one look-up takes few steps.
-ghost use Rattle.std.specs.Prelude.{◌≡◌, IfOk, OnErr, IfErr, Some, None};
-ghost use Rattle.message_tree.specs.Data.{list, whole, fits_codecs};
+ghost use Rattle.std.specs.Prelude.{◌≡◌, ◌==◌, length, IfOk, OnErr, IfErr, Some, None};
+ghost use Rattle.message_tree.specs.Data.{Items, list, whole, fits_codecs};
 ghost use Rattle.msgpack_codec.specs.Grammar.{Spells};
 ghost use Rattle.eligibility.specs.Options.{each_of, number_of};
 ghost use Rattle.eligibility.specs.Lists.{has_number};
 ghost use Rattle.eligibility.specs.body.IdSet.{holds};
-ghost use Rattle.eligibility.specs.body.Standing.{AreHeld};
+ghost use Rattle.eligibility.specs.body.Standing.{AreHeld, is_bare};
 
 use crate::fault::Fault;
 use crate::id_set::{self, IdSet, LARGE};
+use msgpack_codec::{Token, first_token};
 use msgpack_cursor::{Elements, Seen, Value};
 use std::alloc::{AllocError, Global};
 use std::marker::Model;
@@ -16,17 +17,19 @@ use std::snapshot::Snapshot;
 use wamp_ids::Id;
 
 /// A list of session ids. Contracts see the numbers as they were given, by a snapshot of the octets
-/// that spell them, which takes no memory; what is kept is the set of the ids.
+/// that spell them, which takes no memory; what is kept is the set of the ids, and whether no number
+/// was given at all, since one that is no id isn't in the set.
 #[derive(Drop)]
 pub(crate) struct Numbers {
     ids: IdSet,
+    is_empty: bool,
     given: Snapshot<Vec<u8>>,
 }
 
 impl Model for Numbers {
-    ghost use Rattle.std.specs.Prelude.{◌≡◌, ◌<◌, ◌^◌, ℕ, ℤ, List};
+    ghost use Rattle.std.specs.Prelude.{◌≡◌, ◌<◌, ◌^◌, ◌==◌, ℕ, ℤ, List, length};
     ghost use Rattle.std.specs.Ordering.{nat_cmp};
-    ghost use Rattle.std.specs.List.Sorted.{IsSorted};
+    ghost use Rattle.std.specs.List.Sorted.{IsStrictlySortedBy};
     ghost use Rattle.eligibility.specs.Options.{number_of};
     ghost use Rattle.eligibility.specs.Lists.{has_number};
     ghost use Rattle.eligibility.specs.body.IdSet.{holds};
@@ -36,9 +39,10 @@ impl Model for Numbers {
 
     ghost view = { λ n. listed_in number_of n.given.value.items };
 
-    ghost invariant = { λ n. IsSorted nat_cmp n.ids.large.items
+    ghost invariant = { λ n. IsStrictlySortedBy nat_cmp n.ids.large.items
         × ((q : ℕ) → q < 2 ^ 64
-        → has_number q (listed_in number_of n.given.value.items) ≡ holds n.ids q) };
+        → has_number q (listed_in number_of n.given.value.items) ≡ holds n.ids q)
+        × (n.is_empty ≡ (length (listed_in number_of n.given.value.items) == 0)) };
 }
 
 impl Numbers {
@@ -56,7 +60,19 @@ impl Numbers {
         let given = snapshot_of(alloc, octets)?;
         let mut ids = ids_of(alloc, items, room)?;
         id_set::put_in_order(&mut ids);
-        Ok(Numbers { ids, given })
+        let is_empty = is_bare(octets);
+        Ok(Numbers {
+            ids,
+            is_empty,
+            given,
+        })
+    }
+
+    /// Whether there are none.
+    pub fn is_empty(&self) -> bool
+        ensures { result ≡ (length self.now == 0) }
+    {
+        self.is_empty
     }
 
     /// Whether this session is among them.
@@ -72,6 +88,19 @@ fn snapshot_of(alloc: Global, octets: &[u8]) -> Result<Snapshot<Vec<u8>>, AllocE
 {
     let copy = Vec::from_slice(alloc, octets)?;
     Ok(Snapshot::of(&copy))
+}
+
+/// Whether the list that the octets are has no members.
+fn is_bare(octets: &[u8]) -> bool
+    ensures { (items : Items) → Spells 100 octets.now (list items) → result ≡ is_bare items }
+{
+    let Ok((token, _members)) = first_token(octets) else {
+        return false;
+    };
+    match token {
+        Token::List(count) => count == 0,
+        _ => false,
+    }
 }
 
 /// How many of the items are large numbers.

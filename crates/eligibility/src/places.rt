@@ -1,6 +1,6 @@
 //! Where the texts of a list stand in its octets.
-ghost use Rattle.std.specs.Prelude.{◌≡◌, ◌++◌, ℕ, List, length, map, IfOk, Ok, Some, None, IsPermutation};
-ghost use Rattle.std.specs.Ordering.{nat_cmp};
+ghost use Rattle.std.specs.Prelude.{◌≡◌, ◌++◌, ℕ, List, length, map, IfOk, Ok, Some, None};
+ghost use Rattle.std.specs.Ordering.{nat_cmp, eq_by_cmp};
 ghost use Rattle.std.specs.Cmp.Lexicographic.{slice_cmp};
 ghost use Rattle.message_tree.specs.Data.{Items, list, text};
 ghost use Rattle.msgpack_codec.specs.Grammar.{Spells};
@@ -39,12 +39,23 @@ fn compare(octets: &[u8], one: u32, other: u32) -> Ordering
     compare_with(octets, one, text_at(octets, other))
 }
 
-/// Puts places in the order of the texts that stand there.
+/// Whether one text stands at two places.
+fn is_same(octets: &[u8], one: u32, other: u32) -> bool
+    ensures { result ≡ eq_by_cmp (place_cmp octets.now) one other }
+{
+    compare(octets, one, other).is_eq()
+}
+
+/// Puts places in the order of the texts that stand there, one place of each text, and gives back
+/// the memory of the others.
 pub(crate) fn put_in_order(places: &mut Vec<u32>, octets: &[u8])
-    ensures same { IsPermutation places.old.items places.new.items }
+    ensures same { (text : List ℕ) → stands octets.now places.new.items text
+        ≡ stands octets.now places.old.items text }
     ensures ordered { IsOrdered octets.now places.new.items }
 {
     places.sort_unstable_by(|one, other| compare(octets, *one, *other));
+    places.dedup_by(|one, other| is_same(octets, *one, *other));
+    places.shrink_to_fit();
 }
 
 /// Whether the text stands at one of these places, which stand in the order of their texts.

@@ -1,5 +1,5 @@
 //! A list of authids or authroles, in a form in which one look-up takes few steps.
-ghost use Rattle.std.specs.Prelude.{◌≡◌, List, IfOk, Some, None};
+ghost use Rattle.std.specs.Prelude.{◌≡◌, ◌==◌, List, length, IfOk, Some, None};
 ghost use Rattle.message_tree.specs.Data.{Items, list};
 ghost use Rattle.msgpack_codec.specs.Grammar.{Spells};
 ghost use Rattle.eligibility.specs.Options.{each_of, text_of};
@@ -12,7 +12,8 @@ use std::alloc::Global;
 use std::marker::Model;
 
 /// A list of authids or authroles. Contracts see the texts as they were given; what is kept are the
-/// octets that spell the list, and where each text begins in them, in the order of the texts.
+/// octets that spell the list, and where each text begins in them, in the order of the texts and
+/// each text once.
 #[derive(Drop)]
 pub(crate) struct Texts {
     octets: Vec<u8>,
@@ -44,6 +45,13 @@ impl Texts {
         put_in_order(&mut places, octets);
         let octets = Vec::from_slice(alloc, octets)?;
         Ok(Texts { octets, places })
+    }
+
+    /// Whether there are none.
+    pub fn is_empty(&self) -> bool
+        ensures { result ≡ (length self.now == 0) }
+    {
+        self.places.is_empty()
     }
 
     /// Whether this text is among them.

@@ -1,6 +1,4 @@
 use Rattle.std.proofs.Common.{Some, map, sym, ap, ◌∙◌, subst}
-use Rattle.std.specs.Str.{bytes_eq}
-use Rattle.std.proofs.lemmas.List.Sorted.{list_any-IsPermutation}
 use Rattle.eligibility.specs.Options.{text_of}
 use Rattle.eligibility.specs.Lists.{has_text}
 use Rattle.eligibility.specs.body.Standing.{listed_in, text_at, IsIndex}
@@ -16,7 +14,7 @@ invariant_of-result c =
     let seen = seen-list text_of octets items (map (text_at octets) old) c.requires.1 (c.in_ok-places.ensures.ok items c.requires.1) in
     subst (λ o. IsIndex o new) (sym c.in_ok-octets.ensures.items) (record {
       ordered = c.put_in_order.ensures.ordered;
-      same = λ s. sym (list_any-IsPermutation (λ p. bytes_eq (text_at octets p) s) old new c.put_in_order.ensures.same) ∙ (stands-listed octets old s ∙ ap (has_text s) (sym seen));
+      same = λ s. c.put_in_order.ensures.same s ∙ (stands-listed octets old s ∙ ap (has_text s) (sym seen));
     })
 
 pub returns-clause-ok : goal.returns-clause-ok
