@@ -227,8 +227,8 @@ impl Lists {
         !(conn == publisher && self.exclude_me)
     }
 
-    /// Whether one of the eligible lists is empty, so that nobody is admitted and no receiver has to
-    /// be looked for.
+    /// Whether one of the eligible lists is empty, so that nobody is admitted, and no receiver has
+    /// to be looked for.
     pub fn admits_nobody(&self) -> bool
         ensures value { result ≡ names_nobody self.now }
         ensures nobody { result ≡ true → (who by : Who) → admits self.now who by ≡ false }

@@ -17,8 +17,8 @@ use std::snapshot::Snapshot;
 use wamp_ids::Id;
 
 /// A list of session ids. Contracts see the numbers as they were given, by a snapshot of the octets
-/// that spell them, which takes no memory; what is kept is the set of the ids, and whether no number
-/// was given at all, since one that is no id isn't in the set.
+/// that spell them, which takes no memory; what is kept is the set of the ids, and whether no
+/// number was given at all, since one that is no id isn't in the set.
 #[derive(Drop)]
 pub(crate) struct Numbers {
     ids: IdSet,

@@ -1,4 +1,4 @@
-use Rattle.std.proofs.Common.{◌==◌, sym, ap, ◌∙◌, subst}
+use Rattle.std.proofs.Common.{sym, ap, ◌∙◌, subst}
 use Rattle.msgpack_codec.specs.Tokens.{IsToken}
 use Rattle.msgpack_canonical.proofs.Tokens.{no-token}
 use Rattle.msgpack_cursor.proofs.Walking.{other-no-list, message-there}
