@@ -110,6 +110,7 @@ impl<S: Shut> Inbox<S> {
                 Err(TryRecvError::Disconnected) => return None,
                 Err(TryRecvError::Empty) => {}
             }
+            self.turns.ring();
             is_announced = self.turns.rest(rt, &self.parker, is_announced);
         }
         unreachable!()

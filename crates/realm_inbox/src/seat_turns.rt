@@ -27,14 +27,13 @@ impl SeatTurns {
         self.room.ring();
     }
 
-    /// Says that the receiving end is about to sleep; or, where it has said so and looked once more, wakes who waits for room and
-    /// sleeps. Whether it has said so and not slept since.
+    /// Says that the receiving end is about to sleep; or, where it has said so and looked once more, sleeps. Whether it has said so
+    /// and not slept since.
     pub(crate) fn rest<R: Wait>(&self, rt: &R, parker: &Parker, is_announced: bool) -> bool {
         if !is_announced {
             self.room.begin_sleep();
             return true;
         }
-        self.ring();
         parker.park(rt);
         false
     }
