@@ -6,6 +6,6 @@ use Rattle.retained.proofs.store.Store.matching.Goals as goal
 
 pub returns-clause-order : goal.returns-clause-order
 returns-clause-order c =
-    let whole = take_all c.loop-publication.publication-index c.deref-publication-items.result.now c.loop-publication-test.false ∙ c.deref-publication-items.ensures.value in
-    rw (c.loop-publication.invariant, whole)
+    let whole = take_all c.loop-kept.kept-index c.deref-kept-items.result.now c.loop-kept-test.false ∙ c.deref-kept-items.ensures.value in
+    rw (c.loop-kept.invariant, whole)
     (AreByTopic-filter (λ p. matches c.args.pattern.now p.topic) c.self.inside.publications.items c.self.invariant.ordered)
