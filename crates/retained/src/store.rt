@@ -15,7 +15,7 @@ use message_tree::Shared;
 use std::alloc::{AllocError, Global};
 use std::cmp::Ordering;
 use std::marker::Model;
-use wamp_ids::Pattern;
+use wamp_ids::{Pattern, Policy};
 use wamp_messages::{Publication, Who};
 
 /// How many topics may have a retained publication.
@@ -113,7 +113,7 @@ impl Store {
     {
         let counted = wildcard_count(pattern);
         let mut found = Vec::new(alloc);
-        for kept in &self.publications {
+        for kept in candidates(&self.publications, pattern) {
             if kept.is_matched(pattern, counted) {
                 found.push(kept.twin()?)?;
             }
@@ -137,7 +137,7 @@ impl Store {
     {
         let counted = wildcard_count(pattern);
         let mut found = Vec::new(alloc);
-        for kept in &self.publications {
+        for kept in candidates(&self.publications, pattern) {
             if is_for(kept, pattern, counted, who) {
                 found.push(kept.twin()?)?;
             }
@@ -162,6 +162,21 @@ fn compare(kept: &Kept, topic: &str) -> Ordering
     ensures { result ≡ slice_cmp nat_cmp kept.now.topic topic.now }
 {
     kept.publication().topic.text().cmp(topic)
+}
+
+/// Of publications in order those that the pattern may match: an exact one matches one at most.
+fn candidates<'a>(publications: &'a [Kept], pattern: &Pattern) -> &'a [Kept]
+    requires { AreByTopic publications.now }
+    ensures { filter (λ p. matches pattern.now p.topic) result.now
+        ≡ filter (λ p. matches pattern.now p.topic) publications.now }
+{
+    match pattern.policy() {
+        Policy::Prefix | Policy::Wildcard => publications,
+        Policy::Exact => match place_of(publications, pattern.text()) {
+            Ok(place) => &publications[place..place + 1],
+            Err(_) => &[],
+        },
+    }
 }
 
 /// Where the topic is among publications in order, or where it goes.
