@@ -59,6 +59,7 @@ impl Kept {
     }
 
     /// Whether the pattern, whose components are counted where it is a wildcard, matches the topic.
+    /// A wildcard of dots alone matches each topic of as many components.
     pub(crate) fn is_matched(&self, pattern: &Pattern, counted: Option<usize>) -> bool
         requires { counted ≡ wildcard_count pattern.now }
         ensures { result ≡ matches pattern.now self.now.topic }
@@ -66,7 +67,9 @@ impl Kept {
         match counted {
             None => pattern.matches(&self.publication.value().topic),
             Some(count) => {
-                count == self.counted && pattern.matches(&self.publication.value().topic)
+                count == self.counted
+                    && (pattern.text().len() + 1 == count
+                        || pattern.matches(&self.publication.value().topic))
             }
         }
     }
