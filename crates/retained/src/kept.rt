@@ -75,8 +75,7 @@ impl Kept {
     }
 }
 
-/// How many components a wildcard has; `None` of the other policies, which topics of any number may
-/// be matched by.
+/// How many components a wildcard has; `None` of the other policies, which compare no components.
 pub(crate) fn wildcard_count(pattern: &Pattern) -> Option<usize>
     ensures { result ≡ wildcard_count pattern.now }
 {
