@@ -1,18 +1,21 @@
 -- A publication put in its place.
-use Rattle.std.proofs.Common.{◌≡◌, ℕ, zero, suc, ◌<◌, ◌≤◌, true, false, ◌||◌, List, [], ◌∷◌, length, get_or, set, refl, sym, ap, ◌∙◌, subst, arith, add-one, ltb, Ok, Err, is_ok}
+use Rattle.std.proofs.Common.{◌≡◌, ℕ, zero, suc, ◌<◌, ◌≤◌, true, false, ◌||◌, List, [], ◌∷◌, length, get_or, take, drop, set, refl, sym, ap, ◌∙◌, subst, arith, add-one, ltb, Ok, Err, is_ok}
 use Rattle.std.specs.Prelude.{MatchResult}
 use Rattle.std.specs.declared.result.Result.{Result}
 use Rattle.std.proofs.lemmas.Bool.{le-ltb, lt-ltb, or_left, or_right}
 use Rattle.std.proofs.lemmas.List.Sorted.{searchable_from_sorted}
 use Rattle.std.proofs.lemmas.Map.Text.{is_eq-slice_cmp}
 use Rattle.std.specs.Cmp.Lexicographic.{slice_cmp}
-use Rattle.std.specs.List.{insert}
+use Rattle.std.specs.List.{filter, insert}
 use Rattle.std.specs.List.Sorted.{IsSearchInRange, IsBinarySearchResult}
 use Rattle.std.specs.Ordering.{nat_cmp, is_eq, is_lt, ordering_reverse}
 use Rattle.std.proofs.lemmas.Cmp.{nat_list_cmp_total}
 use Rattle.std.specs.Str.{bytes_eq}
 use Rattle.std.proofs.Math.Bool.{or-false}
 use Rattle.wamp_ids.proofs.Lemmas.{bytes_eq-true, bytes_eq-refl}
+use Rattle.wamp_ids.specs.Pattern.{PatternText, matches}
+use Rattle.wamp_ids.specs.declared.pattern.Policy.{Policy}
+use Rattle.wamp_ids.specs.declared.pattern.Policy.TheVariants.{Exact, Prefix, Wildcard}
 use Rattle.wamp_messages.specs.declared.item.Publication.{Publication}
 use Rattle.retained.specs.Store.{without_topic, is_before, put_by_topic, has_topic, has_room, set_topic, IsBeforeAll, AreByTopic}
 use Rattle.retained.specs.body.Places.{FirstAreBefore, IsAt, GoesAt}
@@ -124,3 +127,53 @@ room-has ps t has = or_left (has_topic t ps) (ltb (length ps) 1000) has
 pub is_found : (ps : List Publication) (t : List ℕ) (place : Result ℕ ℕ) → AreByTopic ps → MatchResult place (λ i. IsAt ps i t) (λ i. GoesAt ps i t) → is_ok place ≡ has_topic t ps
 is_found ps t (Ok i) all at = sym (has-at ps i t at)
 is_found ps t (Err i) all goes = sym (none-at ps i t all goes)
+
+-- ---- the only publication that an exact pattern can match
+
+abbrev pub named : List ℕ → List Publication → List Publication
+named t ps = filter (λ p. bytes_eq t p.topic) ps
+
+none_named-before : (t : List ℕ) (ps : List Publication) → IsBeforeAll t ps → named t ps ≡ []
+none_named-before t [] all = refl
+none_named-before t (p ∷ ps) all = rw (before-differs t p.topic all.0) (none_named-before t ps all.1)
+
+named-place : (ps : List Publication) (i : ℕ) (t : List ℕ) → AreByTopic ps → i < length ps → ((d : Publication) → (get_or ps i d).topic ≡ t)
+    → named t (take 1 (drop i ps)) ≡ named t ps
+named-place [] i t all small is = absurd (omega arith)
+named-place (x ∷ xs) zero t all small is =
+    let before : IsBeforeAll t xs = subst (λ s. IsBeforeAll s xs) (is x) all.0 in
+    rw (none_named-before t xs before) refl
+named-place (x ∷ xs) (suc i) t all small is =
+    let e : is_before x.topic t ≡ true = subst (λ s. is_before x.topic s ≡ true) (is x) (at-before x.topic xs i x all.0 (omega arith)) in
+    rw (before-differs-back x.topic t e) (named-place xs i t all.1 (omega arith) is)
+
+none_named-place : (ps : List Publication) (i : ℕ) (t : List ℕ) → AreByTopic ps → FirstAreBefore ps i t → i ≤ length ps
+    → ((d : Publication) → i < length ps → is_before t (get_or ps i d).topic ≡ true) → named t ps ≡ []
+none_named-place [] i t all before within after = refl
+none_named-place (x ∷ xs) zero t all before within after =
+    let e : is_before t x.topic ≡ true = after x (omega arith) in
+    none_named-before t (x ∷ xs) (e, IsBeforeAll-more t x.topic xs e all.0)
+none_named-place (x ∷ xs) (suc i) t all before within after =
+    rw (before-differs-back x.topic t (before zero x (omega arith)))
+    (none_named-place xs i t all.1 (λ k d small. before (suc k) d (omega arith)) (omega arith) (λ d small. after d (omega arith)))
+
+exact_at : (policy : Policy) (text : List ℕ) → policy ≡ Exact → (ps : List Publication) (i : ℕ) → AreByTopic ps → IsAt ps i text
+    → filter (λ q. matches (record { policy = policy; text = text }) q.topic) (take 1 (drop i ps)) ≡ filter (λ q. matches (record { policy = policy; text = text }) q.topic) ps
+exact_at Exact text is ps i all at = named-place ps i text all at.within at.is
+exact_at Prefix text is ps i all at = cc
+exact_at Wildcard text is ps i all at = cc
+
+exact_none : (policy : Policy) (text : List ℕ) → policy ≡ Exact → (ps : List Publication) (i : ℕ) → AreByTopic ps → GoesAt ps i text
+    → [] ≡ filter (λ q. matches (record { policy = policy; text = text }) q.topic) ps
+exact_none Exact text is ps i all goes = sym (none_named-place ps i text all goes.before goes.within goes.after)
+exact_none Prefix text is ps i all goes = cc
+exact_none Wildcard text is ps i all goes = cc
+
+-- what an exact pattern matches is at its text's place
+pub exact-at : (p : PatternText) (ps : List Publication) (i : ℕ) → p.policy ≡ Exact → AreByTopic ps → IsAt ps i p.text
+    → filter (λ q. matches p q.topic) (take 1 (drop i ps)) ≡ filter (λ q. matches p q.topic) ps
+exact-at p ps i is all at = exact_at p.policy p.text is ps i all at
+
+pub exact-none : (p : PatternText) (ps : List Publication) (i : ℕ) → p.policy ≡ Exact → AreByTopic ps → GoesAt ps i p.text
+    → [] ≡ filter (λ q. matches p q.topic) ps
+exact-none p ps i is all goes = exact_none p.policy p.text is ps i all goes

@@ -1,3 +1,4 @@
 pub mod StoreLemmas
+mod CountLemmas
 mod Insertion
 pub mod Lemmas

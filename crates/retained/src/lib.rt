@@ -6,6 +6,7 @@
 #![tactic(auto)]
 
 mod fault;
+mod kept;
 pub mod laws;
 mod store;
 

@@ -5,15 +5,17 @@ ghost use Rattle.std.specs.List.{filter};
 ghost use Rattle.std.specs.Ordering.{nat_cmp};
 ghost use Rattle.eligibility.specs.Lists.{admits};
 ghost use Rattle.wamp_ids.specs.Pattern.{matches};
+ghost use Rattle.retained.specs.body.Counts.{wildcard_count};
 ghost use Rattle.retained.specs.body.Places.{GoesAt, IsAt};
 ghost use Rattle.retained.specs.Store.{AreByTopic, has_room, has_topic, is_full, set_topic};
 
 use crate::fault::Fault;
+use crate::kept::{Kept, wildcard_count};
 use message_tree::Shared;
 use std::alloc::{AllocError, Global};
 use std::cmp::Ordering;
 use std::marker::Model;
-use wamp_ids::Pattern;
+use wamp_ids::{Pattern, Policy};
 use wamp_messages::{Publication, Who};
 
 /// How many topics may have a retained publication.
@@ -24,7 +26,7 @@ const MOST_RETAINED: usize = 1000;
 /// topic is found by halves.
 #[derive(Drop)]
 pub struct Store {
-    publications: Vec<Shared<Publication>>,
+    publications: Vec<Kept>,
 }
 
 impl Model for Store {
@@ -83,14 +85,14 @@ impl Store {
     {
         match place_of(&self.publications, publication.value().topic.text()) {
             Ok(place) => {
-                self.publications[place] = publication;
+                self.publications[place] = Kept::of(publication);
                 Ok(())
             }
             Err(place) => {
                 if self.publications.len() >= MOST_RETAINED {
                     return Err(Fault::RetainedFull);
                 }
-                self.publications.insert(place, publication)?;
+                self.publications.insert(place, Kept::of(publication))?;
                 Ok(())
             }
         }
@@ -109,10 +111,11 @@ impl Store {
             found.items ≡ filter (λ p. matches pattern.now p.topic) self.now) }
         ensures order { IfOk result (λ found. AreByTopic found.items) }
     {
+        let counted = wildcard_count(pattern);
         let mut found = Vec::new(alloc);
-        for publication in &self.publications {
-            if pattern.matches(&publication.value().topic) {
-                found.push(publication.twin()?)?;
+        for kept in candidates(&self.publications, pattern) {
+            if kept.is_matched(pattern, counted) {
+                found.push(kept.twin()?)?;
             }
         }
         Ok(found)
@@ -132,37 +135,55 @@ impl Store {
             filter (λ p. admits p.lists who.now p.publisher)
             (filter (λ p. matches pattern.now p.topic) self.now)) }
     {
+        let counted = wildcard_count(pattern);
         let mut found = Vec::new(alloc);
-        for publication in &self.publications {
-            if is_for(publication.value(), pattern, who) {
-                found.push(publication.twin()?)?;
+        for kept in candidates(&self.publications, pattern) {
+            if is_for(kept, pattern, counted, who) {
+                found.push(kept.twin()?)?;
             }
         }
         Ok(found)
     }
 }
 
-/// Whether the pattern matches the publication's topic, and the publication admits the session.
-fn is_for(publication: &Publication, pattern: &Pattern, who: &Who) -> bool
-    ensures { result ≡ (matches pattern.now publication.now.topic
-        && admits publication.now.lists who.now publication.now.publisher) }
+/// Whether the pattern, whose components are counted where it is a wildcard, matches the
+/// publication's topic, and the publication admits the session.
+fn is_for(kept: &Kept, pattern: &Pattern, counted: Option<usize>, who: &Who) -> bool
+    requires { counted ≡ wildcard_count pattern.now }
+    ensures { result ≡ (matches pattern.now kept.now.topic
+        && admits kept.now.lists who.now kept.now.publisher) }
 {
-    pattern.matches(&publication.topic)
-        && publication.lists.admits(who, &publication.publisher)
+    let publication = kept.publication();
+    kept.is_matched(pattern, counted) && publication.lists.admits(who, &publication.publisher)
 }
 
 /// How the publication's topic compares with another topic, by their bytes.
-fn compare(publication: &Shared<Publication>, topic: &str) -> Ordering
-    ensures { result ≡ slice_cmp nat_cmp publication.now.topic topic.now }
+fn compare(kept: &Kept, topic: &str) -> Ordering
+    ensures { result ≡ slice_cmp nat_cmp kept.now.topic topic.now }
 {
-    publication.value().topic.text().cmp(topic)
+    kept.publication().topic.text().cmp(topic)
+}
+
+/// Of publications in order those that the pattern may match: an exact one matches one at most.
+fn candidates<'a>(publications: &'a [Kept], pattern: &Pattern) -> &'a [Kept]
+    requires { AreByTopic publications.now }
+    ensures { filter (λ p. matches pattern.now p.topic) result.now
+        ≡ filter (λ p. matches pattern.now p.topic) publications.now }
+{
+    match pattern.policy() {
+        Policy::Prefix | Policy::Wildcard => publications,
+        Policy::Exact => match place_of(publications, pattern.text()) {
+            Ok(place) => &publications[place..place + 1],
+            Err(_) => &[],
+        },
+    }
 }
 
 /// Where the topic is among publications in order, or where it goes.
-fn place_of(publications: &[Shared<Publication>], topic: &str) -> Result<usize, usize>
+fn place_of(publications: &[Kept], topic: &str) -> Result<usize, usize>
     requires { AreByTopic publications.now }
     ensures { MatchResult result (λ i. IsAt publications.now i topic.now)
         (λ i. GoesAt publications.now i topic.now) }
 {
-    publications.binary_search_by(|publication| compare(publication, topic))
+    publications.binary_search_by(|kept| compare(kept, topic))
 }

@@ -1,4 +1,4 @@
-use Rattle.std.proofs.Common.{◌≡◌, ◌&&◌, ap, ◌∙◌}
+use Rattle.std.proofs.Common.{◌&&◌, ap, ◌∙◌}
 use Rattle.std.proofs.lemmas.List.{take_all}
 use Rattle.std.specs.List.{filter}
 use Rattle.wamp_ids.specs.Pattern.{matches}
@@ -8,7 +8,10 @@ use Rattle.retained.proofs.store.Store.admitting.Goals as goal
 
 pub returns : goal.returns
 returns c =
-    let whole = take_all c.loop-publication.publication-index c.deref-publication-items.result.now c.loop-publication-test.false ∙ c.deref-publication-items.ensures.value in
-    c.loop-publication.invariant
-    ∙ (ap (λ ps. filter (λ p. matches c.args.pattern.now p.topic && admits p.lists c.args.who.now p.publisher) ps) (whole ∙ c.self.view_is)
-    ∙ filter_twice (λ p. matches c.args.pattern.now p.topic) (λ p. admits p.lists c.args.who.now p.publisher) c.args.self.now)
+    let candidates = c.candidates-kept-items.result.now in
+    let whole = take_all c.loop-kept.kept-index candidates c.loop-kept-test.false in
+    c.loop-kept.invariant
+    ∙ ap (filter (λ p. matches c.args.pattern.now p.topic && admits p.lists c.args.who.now p.publisher)) whole
+    ∙ filter_twice (λ p. matches c.args.pattern.now p.topic) (λ p. admits p.lists c.args.who.now p.publisher) candidates
+    ∙ ap (filter (λ p. admits p.lists c.args.who.now p.publisher))
+    (c.candidates-kept-items.ensures ∙ ap (filter (λ p. matches c.args.pattern.now p.topic)) (c.deref.ensures.value ∙ c.self.view_is))

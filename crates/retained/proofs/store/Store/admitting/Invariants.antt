@@ -4,5 +4,5 @@ use Rattle.wamp_ids.specs.Pattern.{matches}
 use Rattle.eligibility.specs.Lists.{admits}
 use Rattle.retained.proofs.store.Store.admitting.Given as goal
 
-abbrev pub invariant-loop-publication : goal.invariant-loop-publication
-invariant-loop-publication l = l.found.items ≡ filter (λ p. matches l.pattern p.topic && admits p.lists l.who p.publisher) (take l.publication-index l.publication-items)
+abbrev pub invariant-loop-kept : goal.invariant-loop-kept
+invariant-loop-kept l = l.found.items ≡ filter (λ p. matches l.pattern p.topic && admits p.lists l.who p.publisher) (take l.kept-index l.kept-items)

@@ -12,14 +12,14 @@ invariant_of-self c =
     let all = c.self.invariant.ordered in
     let set = set-at c.self.inside.publications.items c.in-Ok.place c.args.publication all at in
     record {
-      ordered = rw set (AreByTopic-set_topic c.args.publication c.self.inside.publications.items all);
+      ordered = rw (c.of.ensures, set) (AreByTopic-set_topic c.args.publication c.self.inside.publications.items all);
       few = rw length-set c.self.invariant.few;
     }
 
 pub returns-in-Ok-clause-kept : goal.returns-in-Ok-clause-kept
 returns-in-Ok-clause-kept c =
     let at = rw (c.deref.ensures.value, c.text.ensures.same, c.value.ensures) at c.in-Ok.ensures in
-    set-at c.self.inside.publications.items c.in-Ok.place c.args.publication c.self.invariant.ordered at ∙ ap (set_topic c.args.publication) c.self.view_is
+    rw c.of.ensures (set-at c.self.inside.publications.items c.in-Ok.place c.args.publication c.self.invariant.ordered at ∙ ap (set_topic c.args.publication) c.self.view_is)
 
 pub returns-in-Ok-clause-full : goal.returns-in-Ok-clause-full
 returns-in-Ok-clause-full c =
@@ -58,7 +58,7 @@ pub invariant_of-self-in-Err : goal.invariant_of-self-in-Err
 invariant_of-self-in-Err c =
     let goes = rw (c.deref.ensures.value, c.text.ensures.same, c.value.ensures) at c.in-Err.ensures in
     let all = c.self.invariant.ordered in
-    let items = c.in_ok-insert-in-Err.ensures.items in
+    let items = rw c.of-in-Err.ensures at c.in_ok-insert-in-Err.ensures.items in
     let put = insert-at c.self.inside.publications.items c.in-Err.place c.args.publication all goes in
     let long : length c.insert.new.self.items ≡ length c.self.inside.publications.items + 1 = ap length items ∙ length-insert c.self.inside.publications.items c.in-Err.place c.args.publication goes.within in
     record {
@@ -69,6 +69,6 @@ invariant_of-self-in-Err c =
 pub returns-in_ok-insert-in-Err-clause-kept : goal.returns-in_ok-insert-in-Err-clause-kept
 returns-in_ok-insert-in-Err-clause-kept c =
     let goes = rw (c.deref.ensures.value, c.text.ensures.same, c.value.ensures) at c.in-Err.ensures in
-    c.in_ok-insert-in-Err.ensures.items
+    rw c.of-in-Err.ensures at c.in_ok-insert-in-Err.ensures.items
     ∙ insert-at c.self.inside.publications.items c.in-Err.place c.args.publication c.self.invariant.ordered goes
     ∙ ap (set_topic c.args.publication) c.self.view_is
