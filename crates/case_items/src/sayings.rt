@@ -1,13 +1,28 @@
 //! What a client says, read from a line of a table.
 use message_tree::Message;
-use session::{Said, read_said};
+use session::{Publish, Said, read_said};
 use std::alloc::{AllocError, Global};
 use std::io;
+
+/// The same PUBLISH. What its arguments are in JSON is kept beside them, as a publisher's reader keeps it.
+fn with_json(alloc: Global, publish: Publish) -> Publish {
+    Publish {
+        args: publish.args.with_json(alloc),
+        ..publish
+    }
+}
+
+fn as_posted(alloc: Global, said: Said) -> Said {
+    match said {
+        Said::Publish(publish) => Said::Publish(with_json(alloc, publish)),
+        other => other,
+    }
+}
 
 /// What a client's message says.
 fn meant(alloc: Global, message: Message) -> io::Result<Option<Said>> {
     match read_said(alloc, message) {
-        Ok(said) => Ok(Some(said)),
+        Ok(said) => Ok(Some(as_posted(alloc, said))),
         Err(session::Fault::NoMemory) => Err(AllocError)?,
         Err(_) => Ok(None),
     }

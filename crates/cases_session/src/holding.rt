@@ -103,6 +103,16 @@ fn tell_held(alloc: Global, out: &mut String, args: Args) -> io::Result<()> {
         out.push(' ')?;
         tell_put(alloc, out, &carried, serializer)?;
     }
+    tell_copy(alloc, out, &carried)
+}
+
+/// Tells of a copy only where it isn't as it should be: put as the other one, with nothing in JSON beside it.
+fn tell_copy(alloc: Global, out: &mut String, carried: &CarriedArgs) -> io::Result<()> {
+    let copy = carried.try_copy(alloc)?;
+    let same = put_behind(alloc, carried, Serializer::MsgPack).ok();
+    if copy.keeps_json() || put_behind(alloc, &copy, Serializer::MsgPack).ok() != same {
+        out.push_str(" copied otherwise, or E1 no memory")?;
+    }
     Ok(())
 }
 
