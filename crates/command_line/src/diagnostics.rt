@@ -159,7 +159,16 @@ pub fn warn_of_exposure<S: Sink>(address: IpAddr, sink: &mut S)
         → S.seen sink.new ≡ S.seen sink.old }
 {
     if address.is_unspecified() {
-        let mut turns = Turns::new();
-        let _ = send(sink, EXPOSURE, &mut turns);
+        write_warning(sink);
     }
+}
+
+/// Writes the warning.
+fn write_warning<S: Sink>(sink: &mut S)
+    ensures { (S.seen sink.new).failures ≡ (S.seen sink.old).failures → IsWritten exposure_warning
+        (S.seen sink.old).taken (S.seen sink.new).taken (S.seen sink.old).calls
+        (S.seen sink.new).calls }
+{
+    let mut turns = Turns::new();
+    let _ = send(sink, EXPOSURE, &mut turns);
 }

@@ -177,7 +177,7 @@ where
 }
 
 /// Listens at the port.
-fn listen<R: Net<Listener = TcpListener>>(
+fn listen<R: Net<Stream = TcpStream, Listener = TcpListener>>(
     rt: &R,
     alloc: Global,
     serving: &Serving,
@@ -215,7 +215,7 @@ where
 {
     let listener = listen(&rt, alloc, serving)?;
     if let Ok(address) = listener.local_addr() {
-        warn_of_exposure(address.ip(), notes);
+        warn_of_exposure(address.ip().to_canonical(), notes);
     }
     if let Err(fault) = announce(alloc, output, serving) {
         return Err(Failure::of(alloc, fault));
