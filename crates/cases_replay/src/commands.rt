@@ -28,7 +28,22 @@ pub fn command(alloc: Global, text: &str) -> io::Result<String> {
             let start = String::from_str(alloc, "replay")?;
             config_line(start, &config)
         }
-        Ok(Command::Serve(serving)) => serve_line(alloc, &serving),
+        Ok(Command::Serve {
+            host,
+            port,
+            config,
+            log,
+            purpose,
+        }) => {
+            let serving = Serving {
+                purpose,
+                host,
+                port,
+                config,
+                log,
+            };
+            serve_line(alloc, &serving)
+        }
         Ok(Command::Subscribe(command)) => subscribe_line(alloc, &command),
         Ok(Command::Publish(command)) => publish_line(alloc, &command),
         Ok(Command::PublishFile { path, command }) => {
@@ -93,8 +108,22 @@ fn serve_line(alloc: Global, serving: &Serving) -> io::Result<String> {
 
 /// What a broker would serve by these words, as `--check` prints it.
 pub fn served(alloc: Global, text: &str) -> io::Result<String> {
-    let Ok(Command::Serve(serving)) = read_command(alloc, &words_of(alloc, text)?) else {
+    let Ok(Command::Serve {
+        host,
+        port,
+        config,
+        log,
+        purpose,
+    }) = read_command(alloc, &words_of(alloc, text)?)
+    else {
         return Ok(String::from_str(alloc, "no broker\n")?);
+    };
+    let serving = Serving {
+        purpose,
+        host,
+        port,
+        config,
+        log,
     };
     let lines = served_lines(alloc, &serving)?;
     Ok(String::from_str(alloc, std::str::from_utf8(&lines).unwrap_or(""))?)

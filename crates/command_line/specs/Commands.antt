@@ -50,7 +50,7 @@ abbrev pub IsRunnable : Command → Type 0
 IsRunnable (Help text) = ⊤
 IsRunnable (Version text) = ⊤
 IsRunnable (Replay config) = 0 < length config.realms.items
-IsRunnable (Serve serving) = (1 ≤ serving.port) × IsServable serving.config
+IsRunnable (Serve host port config log purpose) = (1 ≤ port) × IsServable config
 IsRunnable (Subscribe command) = IsReachable command.contact × (1 ≤ length command.topics.items) × MatchOption command.count ⊤ (λ count. 1 ≤ count)
 IsRunnable (Publish command) = IsReachable command.contact
 IsRunnable (PublishFile path command) = IsReachable command.contact
@@ -69,7 +69,7 @@ abbrev pub IsVersion : Command → Type 0
 IsVersion (Version text) = ⊤
 IsVersion (Help text) = ⊥
 IsVersion (Replay config) = ⊥
-IsVersion (Serve serving) = ⊥
+IsVersion (Serve host port config log purpose) = ⊥
 IsVersion (Subscribe command) = ⊥
 IsVersion (Publish command) = ⊥
 IsVersion (PublishFile path command) = ⊥
@@ -79,7 +79,7 @@ abbrev pub SaysVersion : Command → Type 0
 SaysVersion (Version text) = string_bytes text ≡ version_line
 SaysVersion (Help text) = ⊤
 SaysVersion (Replay config) = ⊤
-SaysVersion (Serve serving) = ⊤
+SaysVersion (Serve host port config log purpose) = ⊤
 SaysVersion (Subscribe command) = ⊤
 SaysVersion (Publish command) = ⊤
 SaysVersion (PublishFile path command) = ⊤
@@ -97,7 +97,7 @@ is_check purpose.CheckUnbound = true
 
 -- a broker is checked where that is asked for, and served where it isn't
 abbrev pub SuitsCheck : Bool → Command → Type 0
-SuitsCheck check (Serve serving) = is_check serving.purpose ≡ check
+SuitsCheck check (Serve host port config log purpose) = is_check purpose ≡ check
 SuitsCheck check (Version text) = ⊤
 SuitsCheck check (Help text) = ⊤
 SuitsCheck check (Replay config) = ⊤

@@ -8,7 +8,7 @@ use crate::fault::Fault;
 use crate::grammar::grammar;
 use crate::grants::{read_grants, wrong_grants};
 use crate::refusal::{CommandRefusal, command_of, one_line, refused, refused_value, with_hint};
-use crate::serving::{Purpose, Serving};
+use crate::serving::Purpose;
 use crate::version::{asks_for_version, version};
 use broker_config::{Config, Ids};
 use clap::ArgMatches;
@@ -42,7 +42,18 @@ pub enum Command {
     /// A replay of the first realm.
     Replay(Config),
     /// A broker over TCP, or a check of what one would serve.
-    Serve(Serving),
+    Serve {
+        /// The name or address that it listens at.
+        host: String,
+        /// The port that it listens at, from 1.
+        port: u16,
+        /// What it runs on.
+        config: Config,
+        /// Whether it tells on standard error what happens to connections.
+        log: bool,
+        /// What is done with it.
+        purpose: Purpose,
+    },
     /// A client that prints events.
     Subscribe(SubscribeCommand),
     /// A client that publishes.
@@ -219,13 +230,13 @@ fn read_serve(alloc: Global, serve: &ArgMatches<'_>, check: bool) -> Result<Comm
         outbox: read_outbox(alloc, serve)?,
         ids: read_ids(alloc, serve)?,
     };
-    Ok(Command::Serve(Serving {
-        purpose: purpose_of(check, serve.get_flag("no-bind")),
+    Ok(Command::Serve {
         host,
         port,
         config,
         log: serve.get_flag("log"),
-    }))
+        purpose: purpose_of(check, serve.get_flag("no-bind")),
+    })
 }
 
 /// What is done where a check is asked for or isn't, and where the port is to be left alone or isn't.

@@ -83,8 +83,21 @@ where
         Command::Help(text) => print(&mut output, text.as_str().as_bytes()),
         Command::Version(text) => print(&mut output, text.as_str().as_bytes()),
         Command::Replay(config) => return run_replay(host, alloc, &mut output, &config),
-        Command::Serve(serving) => {
+        Command::Serve {
+            host: name,
+            port,
+            config,
+            log,
+            purpose,
+        } => {
             let _places = fill_closed(host);
+            let serving = Serving {
+                purpose,
+                host: name,
+                port,
+                config,
+                log,
+            };
             return run_serve(host, rt, alloc, &mut output, &serving);
         }
         Command::Subscribe(command) => {
