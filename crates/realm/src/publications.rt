@@ -299,6 +299,8 @@ pub fn publish(alloc: Global, state: &mut State, asked: PublishRequest) -> Resul
     let given = told(alloc, spare, state, &requester, &made)?;
     if retained {
         retain(alloc, &mut state.store, made)?;
+    } else {
+        state.spare.put_aside(made);
     }
     Ok(given)
 }

@@ -15,13 +15,14 @@ use crate::last_asked::LastAsked;
 use crate::sessions::Sessions;
 use crate::spare::Spare;
 use crate::state::State;
+use message_tree::Shared;
 use retained::Store;
 use std::alloc::{AllocError, Global};
 use std::marker::Model;
 use std::snapshot::Snapshot;
 use subscription_index::Index;
 use wamp_ids::{Conn, Topic};
-use wamp_messages::Item;
+use wamp_messages::{Item, Publication};
 
 /// What a realm is made from.
 #[derive(Drop)]
@@ -157,6 +158,13 @@ impl Realm {
         ensures { self.new ≡ self.old }
     {
         self.state.spare.keep(given);
+    }
+
+    /// The last publication that was made and isn't retained, where it wasn't taken yet: so that another thread can drop it.
+    pub fn take_spent(&mut self) -> Option<Shared<Publication>>
+        ensures { self.new ≡ self.old }
+    {
+        self.state.spare.take_spent()
     }
 }
 
