@@ -13,9 +13,10 @@ use realm::{Realm, RealmConfig};
 use realm_actor::{Actor, Onlooker};
 use realm_inbox::{Act, Inbox, Letter, Post, RealmChronicle, Shut};
 use std::alloc::Global;
+use std::io;
 use std::snapshot::Snapshot;
 use std::sync::{Arc, Wait};
-use std::time::Clock;
+use std::time::{Clock, CpuClock, Duration};
 use wamp_ids::SEATS;
 
 /// What the thread of a realm's actor has.
@@ -57,7 +58,7 @@ impl<S: Shut + Send + 'static> Task for ActorThread<S> {
     ghost does = { λ w acted. Acts w acted };
 }
 
-impl<R: Wait + Clock + Copy, S: Shut + Send + 'static> Work<R> for ActorThread<S> {
+impl<R: Wait + Clock + CpuClock + Copy, S: Shut + Send + 'static> Work<R> for ActorThread<S> {
     ghost use Rattle.broker_threads.specs.Acts.{Acts};
 
     /// Makes the actor, which runs until it is stopped, marks whose sessions it holds then, hands their outboxes over to their writers, and
@@ -118,7 +119,7 @@ struct StoreNotice<'a, R> {
     is_told: bool,
 }
 
-impl<R: Wait + Clock> Onlooker for StoreNotice<'_, R> {
+impl<R: Wait + Clock + CpuClock> Onlooker for StoreNotice<'_, R> {
     fn sees_retained(&mut self, is_full: bool) {
         if !is_full || self.is_told {
             return;
@@ -130,13 +131,22 @@ impl<R: Wait + Clock> Onlooker for StoreNotice<'_, R> {
     }
 
     fn nanos(&mut self) -> u64 {
-        let Ok(time) = self.rt.monotonic() else {
-            return 0;
-        };
-        time.as_secs()
-            .wrapping_mul(1_000_000_000)
-            .wrapping_add(u64::from(time.subsec_nanos()))
+        nanos_of(self.rt.monotonic())
     }
+
+    fn worked(&mut self) -> u64 {
+        nanos_of(self.rt.thread_cpu_time())
+    }
+}
+
+// What a clock tells, in nanoseconds; 0 where it fails.
+fn nanos_of(told: io::Result<Duration>) -> u64 {
+    let Ok(time) = told else {
+        return 0;
+    };
+    time.as_secs()
+        .wrapping_mul(1_000_000_000)
+        .wrapping_add(u64::from(time.subsec_nanos()))
 }
 
 // Receives until the next stop, which is posted once no reader is left that posts, and turns away what comes. It can't be left in the

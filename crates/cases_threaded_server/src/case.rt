@@ -17,7 +17,7 @@ use std::os::unix::net::UnixStream;
 use std::random::RandomSource;
 use std::sync::Wait;
 use std::thread::Threads;
-use std::time::Clock;
+use std::time::{Clock, CpuClock};
 use threaded_server::{Acceptor, Config, Ids, Log, Seats, copy_grants, serve_logged};
 use wamp_ids::Topic;
 
@@ -143,7 +143,7 @@ impl Case {
     }
 
     /// Serves the clients over pairs of connected sockets.
-    pub fn serve<R: Threads + Wait + Clock + RandomSource + Net + Drop + Copy + Send + 'static>(
+    pub fn serve<R: Threads + Wait + Clock + CpuClock + RandomSource + Net + Drop + Copy + Send + 'static>(
         &mut self,
         rt: R,
         alloc: Global,
@@ -160,7 +160,7 @@ impl Case {
 
     /// Does what [`Case::serve`] does with a log, and tells that in place of what the clients got: its lines, sorted.
     pub fn serve_logged<
-        R: Threads + Wait + Clock + RandomSource + Net + Drop + Copy + Send + 'static,
+        R: Threads + Wait + Clock + CpuClock + RandomSource + Net + Drop + Copy + Send + 'static,
     >(&mut self, rt: R, alloc: Global) -> io::Result<String> {
         let config = self.config(alloc)?;
         let mut script = Script::new(rt, alloc, self.take_steps(alloc));
@@ -175,7 +175,7 @@ impl Case {
 
     /// Does so many times what [`Case::serve`] does once. Where it is told the same each time it is told once.
     pub fn serve_often<
-        R: Threads + Wait + Clock + RandomSource + Net + Drop + Copy + Send + 'static,
+        R: Threads + Wait + Clock + CpuClock + RandomSource + Net + Drop + Copy + Send + 'static,
     >(&mut self, rt: R, alloc: Global, times: u64) -> io::Result<String> {
         let steps = self.take_steps(alloc);
         let mut first = None;
@@ -199,6 +199,7 @@ impl Case {
             + RandomSource
             + Net<Stream = TcpStream, Listener = TcpListener>
             + Clock
+            + CpuClock
             + Drop
             + Copy
             + Send
@@ -268,7 +269,7 @@ fn sorted(alloc: Global, text: &str) -> io::Result<String> {
 }
 
 // How serving ended.
-fn run<R: Threads + Wait + Clock + RandomSource + Copy + Send + 'static, A: Acceptor>(
+fn run<R: Threads + Wait + Clock + CpuClock + RandomSource + Copy + Send + 'static, A: Acceptor>(
     rt: R,
     alloc: Global,
     acceptor: &mut A,

@@ -37,11 +37,15 @@ impl<S: Shut, W: IdSource> ActorState<S, W> {
         ensures room { IsRoomy self.old → IsRoomy self.new }
         ensures keeps { KeepsRest self.old self.new }
     {
-        let (conn, act, _weight) = letter.into_parts();
-        match act {
+        let (conn, act, weight) = letter.into_parts();
+        let outcome = match act {
             Act::Join(joining) => self.join(rt, alloc, conn, joining),
             other => self.enter(rt, alloc, conn, other),
+        };
+        if let Some(spent) = self.table.realm.take_spent() {
+            weight.hand_back(spent);
         }
+        outcome
     }
 
     // Handles an act of a connection, and names whom it found full, or cut for want of memory.

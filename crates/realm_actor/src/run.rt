@@ -16,6 +16,9 @@ use std::sync::Wait;
 // How many posts may be handled, while more wait, before the writers of those that got something are woken.
 const MOST_UNWOKEN: u64 = 64;
 
+// What took less is taken as it was found. What took longer may be time in which the system didn't let the thread run.
+const LOOKED_INTO: u64 = 20_000;
+
 // Whether it is a stop.
 fn is_stop<S: Shut>(post: &Post<S>) -> bool
     ensures { result ≡ is_stop post.now }
@@ -35,6 +38,11 @@ pub trait Onlooker {
     /// don't go on, and the inbox gives all posts as they come.
     fn nanos(&mut self) -> u64 {
         0
+    }
+
+    /// The nanoseconds that the calling thread has worked so far. Where it has no such clock, those of [`Onlooker::nanos`].
+    fn worked(&mut self) -> u64 {
+        self.nanos()
     }
 }
 
@@ -123,6 +131,7 @@ impl<S: Shut, W: IdSource> Actor<S, W> {
         let mut pace = Pace {
             unwoken: 0,
             since: onlooker.nanos(),
+            worked: onlooker.worked(),
         };
         for _ in rt.forever() {
             self.sweep();
@@ -161,6 +170,9 @@ impl<S: Shut, W: IdSource> Actor<S, W> {
         let ready = inbox.try_receive(rt);
         self.wake_in_time(&mut pace.unwoken, ready.is_none() || inbox.is_dear());
         if let Some(post) = ready {
+            if inbox.begins_turn() {
+                pace.begin(onlooker);
+            }
             return Some(post);
         }
         let post = wait_for_post(rt, inbox, may_leave);
@@ -185,12 +197,10 @@ impl<S: Shut, W: IdSource> Actor<S, W> {
         if !inbox.is_due() {
             return;
         }
-        let now = onlooker.nanos();
-        if inbox.note_time(now.saturating_sub(pace.since)) {
+        if inbox.note_time(pace.took(onlooker)) {
             self.wake();
             pace.unwoken = 0;
         }
-        pace.since = now;
     }
 }
 
@@ -199,8 +209,32 @@ impl<S: Shut, W: IdSource> Actor<S, W> {
 struct Pace {
     // How many posts were handled since the writers were woken.
     unwoken: u64,
-    // When the inbox was last told how long posts took, or the actor had waited.
+    // When the inbox was last told how long posts took, a turn began, or the actor had waited.
     since: u64,
+    // What the thread had worked when that was last asked.
+    worked: u64,
+}
+
+impl Pace {
+    // What went by isn't the next post's.
+    fn begin<O: Onlooker>(&mut self, onlooker: &mut O) {
+        self.worked = onlooker.worked();
+        self.since = onlooker.nanos();
+    }
+
+    // How long the posts took since the last look: the time that went by, or of a longer one as much as the thread worked.
+    fn took<O: Onlooker>(&mut self, onlooker: &mut O) -> u64 {
+        let now = onlooker.nanos();
+        let went_by = now.saturating_sub(self.since);
+        self.since = now;
+        if went_by < LOOKED_INTO {
+            return went_by;
+        }
+        let worked = onlooker.worked();
+        let took = went_by.min(worked.saturating_sub(self.worked));
+        self.worked = worked;
+        took
+    }
 }
 
 // Waits for a post. Where each sender is gone it is `None`, if the run may leave then; if it may not, it waits on.

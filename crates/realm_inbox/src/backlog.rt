@@ -1,8 +1,11 @@
 //! How much of a client waits for another thread, and how the client is held back while that is too much.
 use crate::room_bell::RoomBell;
+use crate::spent::Spent;
+use message_tree::Shared;
 use std::mem::size_of;
 use std::sync::atomic::{AtomicBool, AtomicU64, Ordering};
 use std::sync::{Arc, Wait};
+use wamp_messages::Publication;
 
 /// While so many octets of a client wait, or more, nothing more is taken on.
 pub const MOST_WAITING: u64 = 4_194_304;
@@ -13,6 +16,9 @@ const RESUMED: u64 = 2_097_152;
 /// What was read from fewer octets isn't counted: so it costs one comparison. How many of those wait is bounded elsewhere, by the
 /// capacity of what they wait in.
 const LEAST_COUNTED: usize = 256;
+
+/// What was read from so many octets is long: most of its memory is the system's own.
+const LONG: u32 = 65_536;
 
 /// So many posts of one seat wait at most, however few octets they are.
 pub const MOST_POSTS_WAITING: u64 = 256;
@@ -31,6 +37,7 @@ pub struct Backlog {
     given: AtomicU64,
     is_closed: AtomicBool,
     bell: RoomBell,
+    spent: Spent,
 }
 
 impl Backlog {
@@ -41,6 +48,7 @@ impl Backlog {
             given: AtomicU64::new(0),
             is_closed: AtomicBool::new(false),
             bell: RoomBell::new(),
+            spent: Spent::none(),
         }
     }
 
@@ -50,6 +58,7 @@ impl Backlog {
         if octets < LEAST_COUNTED {
             return;
         }
+        self.spent.let_go();
         if self.waiting.load(Ordering::SeqCst) >= MOST_WAITING {
             self.wait(rt);
         }
@@ -109,6 +118,12 @@ impl Backlog {
     pub fn close(&self) {
         self.is_closed.store(true, Ordering::SeqCst);
         self.bell.ring();
+        self.spent.let_go();
+    }
+
+    /// Drops what was handed back.
+    pub(crate) fn let_go(&self) {
+        self.spent.let_go();
     }
 }
 
@@ -167,6 +182,16 @@ impl Weight {
         }
         Weight {
             held: held_of(rt, backlog, octets),
+        }
+    }
+
+    /// Hands a publication back that the realm is done with, which was read from the octets of this weight. A long one is dropped by
+    /// the thread that read it, before it takes on what is next, or by the receiving end, when its client's last post is given.
+    pub fn hand_back(&self, spent: Shared<Publication>) {
+        if let GivenBack::Octets(octets, backlog) = &self.held {
+            if *octets >= LONG {
+                backlog.spent.put(spent);
+            }
         }
     }
 }

@@ -31,7 +31,7 @@ use std::snapshot::Snapshot;
 use std::sync::atomic::{AtomicBool, Ordering};
 use std::sync::{Arc, Wait};
 use std::thread::Threads;
-use std::time::Clock;
+use std::time::{Clock, CpuClock};
 use wamp_ids::Topic;
 
 /// How many posts may wait in a realm's inbox.
@@ -52,7 +52,7 @@ const MOST_FAILURES: u32 = 100;
 /// # Errors
 /// [`Fault::NoMemory`] where memory, a thread or a seed was refused before anything was accepted; [`Fault::ListenFault`] after 100
 /// failures in a row.
-pub fn serve_on<R: Threads + Wait + Clock + RandomSource + Copy + Send + 'static, A: Acceptor>(
+pub fn serve_on<R: Threads + Wait + Clock + CpuClock + RandomSource + Copy + Send + 'static, A: Acceptor>(
     rt: R,
     alloc: Global,
     acceptor: &mut A,
@@ -75,7 +75,7 @@ pub fn serve_on<R: Threads + Wait + Clock + RandomSource + Copy + Send + 'static
 ///
 /// # Errors
 /// As for [`serve_on`].
-pub fn serve_logged<R: Threads + Wait + Clock + RandomSource + Copy + Send + 'static, A: Acceptor>(
+pub fn serve_logged<R: Threads + Wait + Clock + CpuClock + RandomSource + Copy + Send + 'static, A: Acceptor>(
     rt: R,
     alloc: Global,
     acceptor: &mut A,
@@ -102,7 +102,7 @@ pub fn serve_logged<R: Threads + Wait + Clock + RandomSource + Copy + Send + 'st
 }
 
 // Starts the realms' actors, and accepts streams until there is an end to it.
-fn open_and_accept<R: Threads + Wait + Clock + RandomSource + Copy + Send + 'static, A: Acceptor>(
+fn open_and_accept<R: Threads + Wait + Clock + CpuClock + RandomSource + Copy + Send + 'static, A: Acceptor>(
     rt: R,
     acceptor: &mut A,
     connection_table: &mut ConnectionTable<A::Source, A::Sink, Marked<A::Shut>>,
@@ -176,7 +176,7 @@ fn realm_config(alloc: Global, name: &Topic, config: &Config) -> Result<RealmCon
 
 // Starts the realms' actors.
 fn open<
-    R: Threads + Wait + Clock + RandomSource + Copy + Send + 'static,
+    R: Threads + Wait + Clock + CpuClock + RandomSource + Copy + Send + 'static,
     I: Source + Drop + Send + 'static,
     O: Sink + Drop + Send + 'static,
     S: Shut + Send + 'static,
@@ -196,7 +196,7 @@ fn open<
 }
 
 fn open_realm<
-    R: Threads + Wait + Clock + RandomSource + Copy + Send + 'static,
+    R: Threads + Wait + Clock + CpuClock + RandomSource + Copy + Send + 'static,
     I: Source + Drop + Send + 'static,
     O: Sink + Drop + Send + 'static,
     S: Shut + Send + 'static,

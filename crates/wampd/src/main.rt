@@ -36,7 +36,7 @@ use std::process::ExitCode;
 use std::random::RandomSource;
 use std::sync::Wait;
 use std::thread::{self, Threads};
-use std::time::{Clock, Duration};
+use std::time::{Clock, CpuClock, Duration};
 
 fn main(rt: HostRuntime) -> ExitCode {
     let ran = run(&rt, rt);
@@ -65,6 +65,7 @@ where
         + Wait
         + RandomSource
         + Clock
+        + CpuClock
         + Net<Stream = TcpStream, Listener = TcpListener>
         + Copy
         + Send
@@ -170,6 +171,7 @@ where
         + Wait
         + RandomSource
         + Clock
+        + CpuClock
         + Net<Stream = TcpStream, Listener = TcpListener>
         + Copy
         + Send
