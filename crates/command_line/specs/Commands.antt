@@ -1,11 +1,13 @@
 -- What a command line asks for, and what a fault means to the program.
-use Rattle.std.specs.Prelude.{◌≡◌, ◌⊎◌, ℕ, Bool, true, false, not, ◌&&◌, ◌||◌, MatchOption, List, [], ◌∷◌, ◌++◌, ◌<◌, ◌≤◌, codes, decimal, length, ⊤, String, string_bytes}
+use Rattle.std.specs.Prelude.{◌≡◌, ◌⊎◌, ℕ, Bool, true, false, not, ◌&&◌, ◌||◌, MatchOption, List, [], ◌∷◌, ◌++◌, ◌<◌, ◌≤◌, codes, decimal, length, ⊤, String, string_bytes, if◌then◌else◌}
 use Rattle.std.specs.declared.alloc.Global.{Global}
 use Rattle.std.specs.List.{list_any}
 use Rattle.std.specs.Str.{bytes_eq}
 use Rattle.session.specs.Opened.{AreUsedUp}
 use Rattle.broker_config.specs.declared.config.Config.{Config}
 use Rattle.command_line.specs.declared.command.Command.{Command}
+use Rattle.command_line.specs.declared.serving.Purpose.{Purpose}
+use Rattle.command_line.specs.declared.serving.Purpose.TheVariants as purpose
 use Rattle.command_line.specs.declared.command.Command.TheVariants.{Help, Version, Replay, Serve, Subscribe, Publish, PublishFile}
 use Rattle.command_line.specs.declared.refusal.CommandRefusal.{CommandRefusal}
 use Rattle.command_line.specs.declared.refusal.CommandRefusal.TheVariants.{NoMemory as WordsNoMemory, Usage as WordsRefused}
@@ -48,7 +50,7 @@ abbrev pub IsRunnable : Command → Type 0
 IsRunnable (Help text) = ⊤
 IsRunnable (Version text) = ⊤
 IsRunnable (Replay config) = 0 < length config.realms.items
-IsRunnable (Serve host port config log) = (1 ≤ port) × IsServable config
+IsRunnable (Serve host port config log purpose) = (1 ≤ port) × IsServable config
 IsRunnable (Subscribe command) = IsReachable command.contact × (1 ≤ length command.topics.items) × MatchOption command.count ⊤ (λ count. 1 ≤ count)
 IsRunnable (Publish command) = IsReachable command.contact
 IsRunnable (PublishFile path command) = IsReachable command.contact
@@ -67,7 +69,7 @@ abbrev pub IsVersion : Command → Type 0
 IsVersion (Version text) = ⊤
 IsVersion (Help text) = ⊥
 IsVersion (Replay config) = ⊥
-IsVersion (Serve host port config log) = ⊥
+IsVersion (Serve host port config log purpose) = ⊥
 IsVersion (Subscribe command) = ⊥
 IsVersion (Publish command) = ⊥
 IsVersion (PublishFile path command) = ⊥
@@ -77,10 +79,31 @@ abbrev pub SaysVersion : Command → Type 0
 SaysVersion (Version text) = string_bytes text ≡ version_line
 SaysVersion (Help text) = ⊤
 SaysVersion (Replay config) = ⊤
-SaysVersion (Serve host port config log) = ⊤
+SaysVersion (Serve host port config log purpose) = ⊤
 SaysVersion (Subscribe command) = ⊤
 SaysVersion (Publish command) = ⊤
 SaysVersion (PublishFile path command) = ⊤
+
+-- one of these words asks for a check: what stands behind `--` are realms
+abbrev pub asks_for_check : List (String Global) → Bool
+asks_for_check [] = false
+asks_for_check (word ∷ words) = if bytes_eq (codes "--") (string_bytes word) then false else bytes_eq (codes "--check") (string_bytes word) || asks_for_check words
+
+-- nothing is served, it is only told what would be
+abbrev pub is_check : Purpose → Bool
+is_check purpose.Serve = false
+is_check purpose.Check = true
+is_check purpose.CheckUnbound = true
+
+-- a broker is checked where that is asked for, and served where it isn't
+abbrev pub SuitsCheck : Bool → Command → Type 0
+SuitsCheck check (Serve host port config log purpose) = is_check purpose ≡ check
+SuitsCheck check (Version text) = ⊤
+SuitsCheck check (Help text) = ⊤
+SuitsCheck check (Replay config) = ⊤
+SuitsCheck check (Subscribe command) = ⊤
+SuitsCheck check (Publish command) = ⊤
+SuitsCheck check (PublishFile path command) = ⊤
 
 -- the fault of words that are refused
 abbrev pub fault_of_refusal : CommandRefusal → Fault
@@ -160,6 +183,10 @@ line_number FileFault = []
 -- the line by which the program tells of a fault
 abbrev pub fault_line : Fault → List ℕ
 fault_line fault = codes "wampd: " ++ (name_of fault ++ (line_number fault ++ 10 ∷ []))
+
+-- what is told where whoever reaches the machine reaches the port
+abbrev pub exposure_warning : List ℕ
+exposure_warning = codes "wampd: warning: every host that reaches this machine can publish and subscribe; only who may reach the port bounds that: a firewall, a proxy, or another --host" ++ 10 ∷ []
 
 -- these octets were written, unless all turns were used up
 abbrev pub IsWritten : List ℕ → List ℕ → List ℕ → ℕ → ℕ → Type 0

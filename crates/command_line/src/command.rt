@@ -1,6 +1,6 @@
 //! What a command line asks for.
-ghost use Rattle.std.specs.Prelude.{◌≡◌, ◌⊎◌, ◌≤◌, true, IfErr, IfOk, length, string_bytes};
-ghost use Rattle.command_line.specs.Commands.{IsRunnable, IsVersion, SaysVersion, are_distinct, asks_for_version, is_among};
+ghost use Rattle.std.specs.Prelude.{◌≡◌, ◌⊎◌, ◌≤◌, Bool, false, true, IfErr, IfOk, length, string_bytes};
+ghost use Rattle.command_line.specs.Commands.{IsRunnable, IsVersion, SaysVersion, SuitsCheck, are_distinct, asks_for_check, asks_for_version, is_among, is_check};
 ghost use Rattle.command_line.specs.Reasons.{EndsIn, NamesValue, command_of, hint, no_realm};
 
 use crate::clients::{read_publish, read_subscribe};
@@ -8,6 +8,7 @@ use crate::fault::Fault;
 use crate::grammar::grammar;
 use crate::grants::{read_grants, wrong_grants};
 use crate::refusal::{CommandRefusal, command_of, one_line, refused, refused_value, with_hint};
+use crate::serving::Purpose;
 use crate::version::{asks_for_version, version};
 use broker_config::{Config, Ids};
 use clap::ArgMatches;
@@ -40,7 +41,7 @@ pub enum Command {
     Version(String),
     /// A replay of the first realm.
     Replay(Config),
-    /// A broker over TCP.
+    /// A broker over TCP, or a check of what one would serve.
     Serve {
         /// The name or address that it listens at.
         host: String,
@@ -50,6 +51,8 @@ pub enum Command {
         config: Config,
         /// Whether it tells on standard error what happens to connections.
         log: bool,
+        /// What is done with it.
+        purpose: Purpose,
     },
     /// A client that prints events.
     Subscribe(SubscribeCommand),
@@ -75,6 +78,7 @@ pub fn read_command(alloc: Global, words: &[String]) -> Result<Command, Fault>
     ensures asked { asks_for_version words.now ≡ true
         → IfErr result (λ fault. fault ≡ Fault.NoMemory) }
     ensures says { IfOk result SaysVersion }
+    ensures check { IfOk result (SuitsCheck (asks_for_check words.now)) }
 {
     match read_words(alloc, words) {
         Ok(command) => Ok(command),
@@ -122,12 +126,13 @@ fn read_words(alloc: Global, words: &[String]) -> Result<Command, CommandRefusal
     ensures asked { asks_for_version words.now ≡ true
         → IfErr result (λ refusal. refusal ≡ CommandRefusal.NoMemory) }
     ensures says { IfOk result SaysVersion }
+    ensures check { IfOk result (SuitsCheck (asks_for_check words.now)) }
 {
     if asks_for_version(words) {
         return Ok(Command::Version(version(alloc)?));
     }
     match grammar(alloc)?.try_get_matches_from(words) {
-        Ok(matches) => read_matches(alloc, &matches),
+        Ok(matches) => read_matches(alloc, &matches, asks_for_check(words)),
         Err(error) => read_error(alloc, &error),
     }
 }
@@ -136,6 +141,7 @@ fn read_words(alloc: Global, words: &[String]) -> Result<Command, CommandRefusal
 fn read_error(alloc: Global, error: &clap::Error) -> Result<Command, CommandRefusal>
     ensures runnable { IfOk result IsRunnable }
     ensures says { IfOk result SaysVersion }
+    ensures check { (check : Bool) → IfOk result (SuitsCheck check) }
 {
     match error.kind() {
         ErrorKind::DisplayHelp => Ok(Command::Help(format!(in alloc; "{error}")?)),
@@ -148,10 +154,15 @@ fn read_error(alloc: Global, error: &clap::Error) -> Result<Command, CommandRefu
     }
 }
 
-/// What the words that were found ask for.
-fn read_matches(alloc: Global, matches: &ArgMatches<'_>) -> Result<Command, CommandRefusal>
+/// What the words that were found ask for, where they ask for a check or don't.
+fn read_matches(
+    alloc: Global,
+    matches: &ArgMatches<'_>,
+    check: bool,
+) -> Result<Command, CommandRefusal>
     ensures runnable { IfOk result IsRunnable }
     ensures says { IfOk result SaysVersion }
+    ensures check { IfOk result (SuitsCheck check) }
 {
     if let Some(replay) = matches.subcommand_matches("replay") {
         return read_replay(alloc, replay);
@@ -163,7 +174,7 @@ fn read_matches(alloc: Global, matches: &ArgMatches<'_>) -> Result<Command, Comm
         return read_publishing(alloc, publish);
     }
     match matches.subcommand_matches("serve") {
-        Some(serve) => read_serve(alloc, serve),
+        Some(serve) => read_serve(alloc, serve, check),
         None => refused(
             alloc,
             "a command is missing: replay, serve, subscribe or publish",
@@ -175,6 +186,7 @@ fn read_matches(alloc: Global, matches: &ArgMatches<'_>) -> Result<Command, Comm
 fn read_publishing(alloc: Global, publish: &ArgMatches<'_>) -> Result<Command, CommandRefusal>
     ensures runnable { IfOk result IsRunnable }
     ensures says { IfOk result SaysVersion }
+    ensures check { (check : Bool) → IfOk result (SuitsCheck check) }
 {
     let command = read_publish(alloc, publish)?;
     match publish.get_str("file") {
@@ -190,6 +202,7 @@ fn read_publishing(alloc: Global, publish: &ArgMatches<'_>) -> Result<Command, C
 fn read_replay(alloc: Global, replay: &ArgMatches<'_>) -> Result<Command, CommandRefusal>
     ensures runnable { IfOk result IsRunnable }
     ensures says { IfOk result SaysVersion }
+    ensures check { (check : Bool) → IfOk result (SuitsCheck check) }
 {
     let Some(realm) = replay.get_str("realm") else {
         return refused(alloc, "no realm is named");
@@ -203,10 +216,11 @@ fn read_replay(alloc: Global, replay: &ArgMatches<'_>) -> Result<Command, Comman
     }))
 }
 
-/// What the words after `serve` ask for.
-fn read_serve(alloc: Global, serve: &ArgMatches<'_>) -> Result<Command, CommandRefusal>
+/// What the words after `serve` ask for, where they ask for a check or don't.
+fn read_serve(alloc: Global, serve: &ArgMatches<'_>, check: bool) -> Result<Command, CommandRefusal>
     ensures runnable { IfOk result IsRunnable }
     ensures says { IfOk result SaysVersion }
+    ensures check { IfOk result (SuitsCheck check) }
 {
     let port = read_port(alloc, serve)?;
     let host = String::from_str(alloc, serve.get_str("host").unwrap_or(HOST))?;
@@ -221,7 +235,38 @@ fn read_serve(alloc: Global, serve: &ArgMatches<'_>) -> Result<Command, CommandR
         port,
         config,
         log: serve.get_flag("log"),
+        purpose: purpose_of(check, serve.get_flag("no-bind")),
     })
+}
+
+/// What is done where a check is asked for or isn't, and where the port is to be left alone or isn't.
+fn purpose_of(check: bool, no_bind: bool) -> Purpose
+    ensures check { is_check result ≡ check }
+    ensures unbound { check ≡ true → no_bind ≡ true → result ≡ Purpose.CheckUnbound }
+    ensures bound { check ≡ true → no_bind ≡ false → result ≡ Purpose.Check }
+{
+    if !check {
+        Purpose::Serve
+    } else if no_bind {
+        Purpose::CheckUnbound
+    } else {
+        Purpose::Check
+    }
+}
+
+/// Whether one of these words asks for a check: words behind `--` are realms.
+fn asks_for_check(words: &[String]) -> bool
+    ensures { result ≡ asks_for_check words.now }
+{
+    for word in words {
+        if word.as_str() == "--" {
+            return false;
+        }
+        if word.as_str() == "--check" {
+            return true;
+        }
+    }
+    false
 }
 
 /// Why a text is no realm.

@@ -60,6 +60,14 @@ fn serve<'a>(alloc: Global) -> Result<Command<'a>, AllocError> {
         .arg(flag(alloc, "log").help(
             "Tell on standard error what happens to connections, a line each",
         ))?
+        .arg(flag(alloc, "check").help(
+            "Print what would be served, and end: with status 0, or by the fault that serving would begin with",
+        ))?
+        .arg(
+            flag(alloc, "no-bind").requires_arg("check")?.help(
+                "Check without the port, which a broker that runs may have",
+            ),
+        )?
         .arg(
             Arg::new(alloc, "realm")
                 .value_name("REALM")
