@@ -28,13 +28,15 @@ pub fn command(alloc: Global, text: &str) -> io::Result<String> {
             let start = String::from_str(alloc, "replay")?;
             config_line(start, &config)
         }
-        Ok(Command::Serve {
-            host,
-            port,
-            config,
-            log,
-            purpose,
-        }) => {
+        Ok(
+            Command::Serve {
+                host,
+                port,
+                config,
+                log,
+                purpose,
+            },
+        ) => {
             let serving = Serving {
                 purpose,
                 host,
@@ -108,13 +110,15 @@ fn serve_line(alloc: Global, serving: &Serving) -> io::Result<String> {
 
 /// What a broker would serve by these words, as `--check` prints it.
 pub fn served(alloc: Global, text: &str) -> io::Result<String> {
-    let Ok(Command::Serve {
-        host,
-        port,
-        config,
-        log,
-        purpose,
-    }) = read_command(alloc, &words_of(alloc, text)?)
+    let Ok(
+        Command::Serve {
+            host,
+            port,
+            config,
+            log,
+            purpose,
+        },
+    ) = read_command(alloc, &words_of(alloc, text)?)
     else {
         return Ok(String::from_str(alloc, "no broker\n")?);
     };

@@ -84,26 +84,24 @@ SaysVersion (Subscribe command) = ⊤
 SaysVersion (Publish command) = ⊤
 SaysVersion (PublishFile path command) = ⊤
 
--- one of these words asks for a check: what stands behind `--` are realms
-abbrev pub asks_for_check : List (String Global) → Bool
-asks_for_check [] = false
-asks_for_check (word ∷ words) = if bytes_eq (codes "--") (string_bytes word) then false else bytes_eq (codes "--check") (string_bytes word) || asks_for_check words
+-- one of these words is this option: what stands behind `--` is none
+abbrev pub has_option : List ℕ → List (String Global) → Bool
+has_option option [] = false
+has_option option (word ∷ words) = if bytes_eq (codes "--") (string_bytes word) then false else bytes_eq option (string_bytes word) || has_option option words
 
--- nothing is served, it is only told what would be
-abbrev pub is_check : Purpose → Bool
-is_check purpose.Serve = false
-is_check purpose.Check = true
-is_check purpose.CheckUnbound = true
+-- what the words of `serve` ask for
+abbrev pub purpose_of : List (String Global) → Purpose
+purpose_of words = if has_option (codes "--check") words then (if has_option (codes "--no-bind") words then purpose.CheckUnbound else purpose.Check) else purpose.Serve
 
--- a broker is checked where that is asked for, and served where it isn't
-abbrev pub SuitsCheck : Bool → Command → Type 0
-SuitsCheck check (Serve host port config log purpose) = is_check purpose ≡ check
-SuitsCheck check (Version text) = ⊤
-SuitsCheck check (Help text) = ⊤
-SuitsCheck check (Replay config) = ⊤
-SuitsCheck check (Subscribe command) = ⊤
-SuitsCheck check (Publish command) = ⊤
-SuitsCheck check (PublishFile path command) = ⊤
+-- where the words of `serve` are read, this is what they ask for
+abbrev pub SuitsPurpose : Purpose → Command → Type 0
+SuitsPurpose wanted (Serve host port config log purpose) = purpose ≡ wanted
+SuitsPurpose wanted (Version text) = ⊤
+SuitsPurpose wanted (Help text) = ⊤
+SuitsPurpose wanted (Replay config) = ⊤
+SuitsPurpose wanted (Subscribe command) = ⊤
+SuitsPurpose wanted (Publish command) = ⊤
+SuitsPurpose wanted (PublishFile path command) = ⊤
 
 -- the fault of words that are refused
 abbrev pub fault_of_refusal : CommandRefusal → Fault
@@ -184,9 +182,9 @@ line_number FileFault = []
 abbrev pub fault_line : Fault → List ℕ
 fault_line fault = codes "wampd: " ++ (name_of fault ++ (line_number fault ++ 10 ∷ []))
 
--- what is told where whoever reaches the machine reaches the port
+-- what is told where a broker listens at every address of the machine
 abbrev pub exposure_warning : List ℕ
-exposure_warning = codes "wampd: warning: every host that reaches this machine can publish and subscribe; only who may reach the port bounds that: a firewall, a proxy, or another --host" ++ 10 ∷ []
+exposure_warning = codes "wampd: warning: this --host is every address of the machine: whoever reaches the port can publish and subscribe without a password; a firewall keeps others out, or --host 127.0.0.1 behind a proxy" ++ 10 ∷ []
 
 -- these octets were written, unless all turns were used up
 abbrev pub IsWritten : List ℕ → List ℕ → List ℕ → ℕ → ℕ → Type 0

@@ -1,6 +1,6 @@
 //! What a command line asks for.
-ghost use Rattle.std.specs.Prelude.{◌≡◌, ◌⊎◌, ◌≤◌, Bool, false, true, IfErr, IfOk, length, string_bytes};
-ghost use Rattle.command_line.specs.Commands.{IsRunnable, IsVersion, SaysVersion, SuitsCheck, are_distinct, asks_for_check, asks_for_version, is_among, is_check};
+ghost use Rattle.std.specs.Prelude.{◌≡◌, ◌⊎◌, ◌≤◌, true, IfErr, IfOk, length, string_bytes};
+ghost use Rattle.command_line.specs.Commands.{IsRunnable, IsVersion, SaysVersion, SuitsPurpose, are_distinct, asks_for_version, has_option, is_among, purpose_of};
 ghost use Rattle.command_line.specs.Reasons.{EndsIn, NamesValue, command_of, hint, no_realm};
 
 use crate::clients::{read_publish, read_subscribe};
@@ -51,7 +51,7 @@ pub enum Command {
         config: Config,
         /// Whether it tells on standard error what happens to connections.
         log: bool,
-        /// What is done with it.
+        /// Whether it is served, or only checked.
         purpose: Purpose,
     },
     /// A client that prints events.
@@ -78,7 +78,7 @@ pub fn read_command(alloc: Global, words: &[String]) -> Result<Command, Fault>
     ensures asked { asks_for_version words.now ≡ true
         → IfErr result (λ fault. fault ≡ Fault.NoMemory) }
     ensures says { IfOk result SaysVersion }
-    ensures check { IfOk result (SuitsCheck (asks_for_check words.now)) }
+    ensures purpose { IfOk result (SuitsPurpose (purpose_of words.now)) }
 {
     match read_words(alloc, words) {
         Ok(command) => Ok(command),
@@ -126,13 +126,13 @@ fn read_words(alloc: Global, words: &[String]) -> Result<Command, CommandRefusal
     ensures asked { asks_for_version words.now ≡ true
         → IfErr result (λ refusal. refusal ≡ CommandRefusal.NoMemory) }
     ensures says { IfOk result SaysVersion }
-    ensures check { IfOk result (SuitsCheck (asks_for_check words.now)) }
+    ensures purpose { IfOk result (SuitsPurpose (purpose_of words.now)) }
 {
     if asks_for_version(words) {
         return Ok(Command::Version(version(alloc)?));
     }
     match grammar(alloc)?.try_get_matches_from(words) {
-        Ok(matches) => read_matches(alloc, &matches, asks_for_check(words)),
+        Ok(matches) => read_matches(alloc, &matches, purpose_of(words)),
         Err(error) => read_error(alloc, &error),
     }
 }
@@ -141,7 +141,7 @@ fn read_words(alloc: Global, words: &[String]) -> Result<Command, CommandRefusal
 fn read_error(alloc: Global, error: &clap::Error) -> Result<Command, CommandRefusal>
     ensures runnable { IfOk result IsRunnable }
     ensures says { IfOk result SaysVersion }
-    ensures check { (check : Bool) → IfOk result (SuitsCheck check) }
+    ensures purpose { (wanted : Purpose) → IfOk result (SuitsPurpose wanted) }
 {
     match error.kind() {
         ErrorKind::DisplayHelp => Ok(Command::Help(format!(in alloc; "{error}")?)),
@@ -154,15 +154,15 @@ fn read_error(alloc: Global, error: &clap::Error) -> Result<Command, CommandRefu
     }
 }
 
-/// What the words that were found ask for, where they ask for a check or don't.
+/// What the words that were found ask for; those of `serve` for this.
 fn read_matches(
     alloc: Global,
     matches: &ArgMatches<'_>,
-    check: bool,
+    purpose: Purpose,
 ) -> Result<Command, CommandRefusal>
     ensures runnable { IfOk result IsRunnable }
     ensures says { IfOk result SaysVersion }
-    ensures check { IfOk result (SuitsCheck check) }
+    ensures purpose { IfOk result (SuitsPurpose purpose) }
 {
     if let Some(replay) = matches.subcommand_matches("replay") {
         return read_replay(alloc, replay);
@@ -174,7 +174,7 @@ fn read_matches(
         return read_publishing(alloc, publish);
     }
     match matches.subcommand_matches("serve") {
-        Some(serve) => read_serve(alloc, serve, check),
+        Some(serve) => read_serve(alloc, serve, purpose),
         None => refused(
             alloc,
             "a command is missing: replay, serve, subscribe or publish",
@@ -186,7 +186,7 @@ fn read_matches(
 fn read_publishing(alloc: Global, publish: &ArgMatches<'_>) -> Result<Command, CommandRefusal>
     ensures runnable { IfOk result IsRunnable }
     ensures says { IfOk result SaysVersion }
-    ensures check { (check : Bool) → IfOk result (SuitsCheck check) }
+    ensures purpose { (wanted : Purpose) → IfOk result (SuitsPurpose wanted) }
 {
     let command = read_publish(alloc, publish)?;
     match publish.get_str("file") {
@@ -202,7 +202,7 @@ fn read_publishing(alloc: Global, publish: &ArgMatches<'_>) -> Result<Command, C
 fn read_replay(alloc: Global, replay: &ArgMatches<'_>) -> Result<Command, CommandRefusal>
     ensures runnable { IfOk result IsRunnable }
     ensures says { IfOk result SaysVersion }
-    ensures check { (check : Bool) → IfOk result (SuitsCheck check) }
+    ensures purpose { (wanted : Purpose) → IfOk result (SuitsPurpose wanted) }
 {
     let Some(realm) = replay.get_str("realm") else {
         return refused(alloc, "no realm is named");
@@ -216,11 +216,15 @@ fn read_replay(alloc: Global, replay: &ArgMatches<'_>) -> Result<Command, Comman
     }))
 }
 
-/// What the words after `serve` ask for, where they ask for a check or don't.
-fn read_serve(alloc: Global, serve: &ArgMatches<'_>, check: bool) -> Result<Command, CommandRefusal>
+/// What the words after `serve` ask for, which is to be served or checked.
+fn read_serve(
+    alloc: Global,
+    serve: &ArgMatches<'_>,
+    purpose: Purpose,
+) -> Result<Command, CommandRefusal>
     ensures runnable { IfOk result IsRunnable }
     ensures says { IfOk result SaysVersion }
-    ensures check { IfOk result (SuitsCheck check) }
+    ensures purpose { IfOk result (SuitsPurpose purpose) }
 {
     let port = read_port(alloc, serve)?;
     let host = String::from_str(alloc, serve.get_str("host").unwrap_or(HOST))?;
@@ -235,34 +239,32 @@ fn read_serve(alloc: Global, serve: &ArgMatches<'_>, check: bool) -> Result<Comm
         port,
         config,
         log: serve.get_flag("log"),
-        purpose: purpose_of(check, serve.get_flag("no-bind")),
+        purpose,
     })
 }
 
-/// What is done where a check is asked for or isn't, and where the port is to be left alone or isn't.
-fn purpose_of(check: bool, no_bind: bool) -> Purpose
-    ensures check { is_check result ≡ check }
-    ensures unbound { check ≡ true → no_bind ≡ true → result ≡ Purpose.CheckUnbound }
-    ensures bound { check ≡ true → no_bind ≡ false → result ≡ Purpose.Check }
+/// What the words of `serve` ask for. The grammar lets `--no-bind` stand only beside `--check`.
+fn purpose_of(words: &[String]) -> Purpose
+    ensures { result ≡ purpose_of words.now }
 {
-    if !check {
+    if !has_option(words, "--check") {
         Purpose::Serve
-    } else if no_bind {
+    } else if has_option(words, "--no-bind") {
         Purpose::CheckUnbound
     } else {
         Purpose::Check
     }
 }
 
-/// Whether one of these words asks for a check: words behind `--` are realms.
-fn asks_for_check(words: &[String]) -> bool
-    ensures { result ≡ asks_for_check words.now }
+/// Whether one of the words is this option. Behind `--` stand realms.
+fn has_option(words: &[String], option: &str) -> bool
+    ensures { result ≡ has_option option.now words.now }
 {
     for word in words {
         if word.as_str() == "--" {
             return false;
         }
-        if word.as_str() == "--check" {
+        if word.as_str() == option {
             return true;
         }
     }

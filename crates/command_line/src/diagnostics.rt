@@ -144,12 +144,12 @@ pub fn report_failure<S: Sink>(fault: &Fault, more: &[u8], sink: &mut S) -> u8
     status(fault)
 }
 
-/// What is told where whoever reaches the machine reaches the port.
+/// What is told where a broker listens at every address of the machine.
 const EXPOSURE: &[u8] =
-    b"wampd: warning: every host that reaches this machine can publish and subscribe; only who may reach the port bounds that: a firewall, a proxy, or another --host\n";
+    b"wampd: warning: this --host is every address of the machine: whoever reaches the port can publish and subscribe without a password; a firewall keeps others out, or --host 127.0.0.1 behind a proxy\n";
 
-/// Warns, in a line, where a broker listens at an address that is unspecified, `0.0.0.0` or `::`: whoever reaches the machine reaches it.
-/// A sink that fails is passed over. It takes no memory.
+/// Warns, in a line, where a broker that listens at this address listens at every one of the machine: `0.0.0.0`, `::`. A sink that fails is
+/// passed over. It takes no memory.
 pub fn warn_of_exposure<S: Sink>(address: IpAddr, sink: &mut S)
     ensures warned { MatchIp address IsUnspecifiedV4 IsUnspecifiedV6
         → (S.seen sink.new).failures ≡ (S.seen sink.old).failures → IsWritten exposure_warning

@@ -5,12 +5,13 @@ ghost use Rattle.command_line.specs.Served.{served_lines};
 
 use crate::failure::Failure;
 use crate::print;
-use broker_server::{Fault, Purpose, Serving, served_lines};
+use broker_server::{Fault, Purpose, Serving, served_lines, warn_of_exposure};
 use rawsocket::devices::Sink;
 use std::alloc::Global;
+use std::net::IpAddr;
 
-/// Prints what would be served. `port` is what came of listening at the port, which is let go of: `None` where the words say that it be left
-/// alone.
+/// Prints what would be served. `port` is what came of listening at the port, which is let go of before that: `None` where the words say
+/// that it be left alone.
 ///
 /// # Errors
 /// The failure to listen, before anything is printed: serving would end by the same. Else want of memory, or that printing failed.
@@ -20,15 +21,18 @@ pub fn check<S: Sink, L: Drop>(
     serving: &Serving,
     port: Option<Result<L, Failure>>,
 ) -> Result<(), Failure>
-    requires { serving.now.purpose ≡ Purpose.Check → port ≢ None }
+    requires asked { serving.now.purpose ≢ Purpose.Serve }
+    requires tried { serving.now.purpose ≡ Purpose.Check → port ≢ None }
+    requires left_alone { serving.now.purpose ≡ Purpose.CheckUnbound → port ≡ None }
     ensures refused { (failure : Failure) → port ≡ Some (Err failure) → result ≡ Err failure }
     ensures silent { (failure : Failure) → port ≡ Some (Err failure)
         → S.seen output.new ≡ S.seen output.old }
     ensures told { OnOk result
         (Takes (S.seen output.old) (S.seen output.new) (served_lines serving.now)) }
 {
-    if let Some(Err(failure)) = port {
-        return Err(failure);
+    match port {
+        Some(Err(failure)) => return Err(failure),
+        bound => drop(bound),
     }
     match tell(alloc, output, serving) {
         Ok(()) => Ok(()),
@@ -43,4 +47,11 @@ fn tell<S: Sink>(alloc: Global, output: &mut S, serving: &Serving) -> Result<(),
 {
     let lines = served_lines(alloc, serving)?;
     print(output, &lines)
+}
+
+/// Warns where the host is spelt as an address that stands for every one of the machine. A name isn't looked up.
+pub fn warn_of_host<S: Sink>(serving: &Serving, notes: &mut S) {
+    if let Ok(address) = serving.host.as_str().parse::<IpAddr>() {
+        warn_of_exposure(address.to_canonical(), notes);
+    }
 }

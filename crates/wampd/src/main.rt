@@ -26,7 +26,7 @@ use broker_server::{
     Command, Config, Fault, Log, LogEnd, Purpose, Serving, TcpAcceptor, listening, read_command,
     replay, report_failure, serve_logged, warn_of_exposure,
 };
-use checking::check;
+use checking::{check, warn_of_host};
 use clients::{run_publish, run_publish_file, run_subscribe};
 use failure::Failure;
 use places::fill_closed;
@@ -169,9 +169,9 @@ where
         + 'static,
     requires { IsServable serving.now.config }
 {
+    let mut notes = WriteSink::new(host.stderr());
     match serving.purpose {
         Purpose::Serve => {
-            let mut notes = WriteSink::new(host.stderr());
             let errors = if serving.log {
                 Some(WriteSink::new(host.stderr()))
             } else {
@@ -179,33 +179,40 @@ where
             };
             serve(rt, alloc, output, &mut notes, errors, serving)
         }
-        Purpose::Check => check(alloc, output, serving, Some(listen(&rt, alloc, serving))),
-        Purpose::CheckUnbound => check(
-            alloc,
-            output,
-            serving,
-            None::<Result<TcpListener, Failure>>,
-        ),
+        Purpose::Check => {
+            let port = Some(listen(&rt, alloc, serving, &mut notes));
+            check(alloc, output, serving, port)
+        }
+        Purpose::CheckUnbound => {
+            warn_of_host(serving, &mut notes);
+            check(alloc, output, serving, None::<Result<TcpListener, Failure>>)
+        }
     }
 }
 
-/// Listens at the port.
-fn listen<R: Net<Stream = TcpStream, Listener = TcpListener>>(
+/// Listens at the port, and tells `notes` where that is one of every address of the machine.
+fn listen<R: Net<Stream = TcpStream, Listener = TcpListener>, N: Sink>(
     rt: &R,
     alloc: Global,
     serving: &Serving,
+    notes: &mut N,
 ) -> Result<TcpListener, Failure>
     ensures { IfErr result (λ failure. failure.fault ≡ Fault.ListenFault) }
 {
     let host = serving.host.as_str();
     match TcpListener::bind(rt, (host, serving.port)) {
-        Ok(listener) => Ok(listener),
+        Ok(listener) => {
+            if let Ok(address) = listener.local_addr() {
+                warn_of_exposure(address.ip().to_canonical(), notes);
+            }
+            Ok(listener)
+        }
         Err(error) => Err(Failure::to_listen(alloc, host, serving.port, &error)),
     }
 }
 
-/// Listens, says so, and serves whoever connects. Who can is told to `notes` where that is everybody, and what happens to connections to
-/// `errors`, if there are any.
+/// Listens, says so, and serves whoever connects. What happens to connections is told to `errors`, if there are any, and a warning to
+/// `notes`, if there is one.
 fn serve<R, S: Sink, N: Sink, E: Sink + Drop + Send + 'static>(
     rt: R,
     alloc: Global,
@@ -226,10 +233,7 @@ where
     requires servable { IsServable serving.now.config }
     requires asked { serving.now.purpose ≡ Purpose.Serve }
 {
-    let listener = listen(&rt, alloc, serving)?;
-    if let Ok(address) = listener.local_addr() {
-        warn_of_exposure(address.ip().to_canonical(), notes);
-    }
+    let listener = listen(&rt, alloc, serving, notes)?;
     if let Err(fault) = announce(alloc, output, serving) {
         return Err(Failure::of(alloc, fault));
     }
