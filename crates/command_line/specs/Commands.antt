@@ -87,7 +87,7 @@ SaysVersion (PublishFile path command) = ⊤
 -- one of these words is this option: what stands behind `--` is none
 abbrev pub has_option : List ℕ → List (String Global) → Bool
 has_option option [] = false
-has_option option (word ∷ words) = if bytes_eq (codes "--") (string_bytes word) then false else bytes_eq option (string_bytes word) || has_option option words
+has_option option (word ∷ words) = if bytes_eq (string_bytes word) (codes "--") then false else bytes_eq (string_bytes word) option || has_option option words
 
 -- what the words of `serve` ask for
 abbrev pub purpose_of : List (String Global) → Purpose

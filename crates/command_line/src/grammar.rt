@@ -61,11 +61,11 @@ fn serve<'a>(alloc: Global) -> Result<Command<'a>, AllocError> {
             "Tell on standard error what happens to connections, a line each",
         ))?
         .arg(flag(alloc, "check").help(
-            "Print what would be served, and end: with status 0, or by the fault that serving would begin with",
+            "Serve nothing: print what would be served, and end with status 0, or by the fault that serving would end by",
         ))?
         .arg(
             flag(alloc, "no-bind").requires_arg("check")?.help(
-                "Check without the port, which a broker that runs may have",
+                "With --check: leave the port alone, as a broker that runs has it",
             ),
         )?
         .arg(
