@@ -146,7 +146,8 @@ pub fn report_failure<S: Sink>(fault: &Fault, more: &[u8], sink: &mut S) -> u8
 
 /// What is told where a broker listens at every address of the machine.
 const EXPOSURE: &[u8] =
-    b"wampd: warning: this --host is every address of the machine: whoever reaches the port can publish and subscribe without a password; a firewall keeps others out, or --host 127.0.0.1 behind a proxy\n";
+    b"wampd: warning: this --host is every address of the machine: whoever reaches the port can publish \
+    and subscribe without a password; a firewall keeps others out, or --host 127.0.0.1 behind a proxy\n";
 
 /// Warns, in a line, where a broker that listens at this address listens at every one of the machine: `0.0.0.0`, `::`. A sink that fails is
 /// passed over. It takes no memory.
