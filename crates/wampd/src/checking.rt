@@ -1,6 +1,6 @@
 //! `serve --check`: what a broker would serve is told, and nobody is served.
 ghost use Rattle.std.specs.Prelude.{◌≡◌, ◌≢◌, Err, None, OnOk, Some};
-ghost use Rattle.rawsocket.specs.Devices.{Takes};
+ghost use Rattle.rawsocket.specs.Devices.{Takes, TakesBeginning};
 ghost use Rattle.command_line.specs.Served.{served_lines};
 
 use crate::failure::Failure;
@@ -29,6 +29,8 @@ pub fn check<S: Sink, L: Drop>(
         → S.seen output.new ≡ S.seen output.old }
     ensures told { OnOk result
         (Takes (S.seen output.old) (S.seen output.new) (served_lines serving.now)) }
+    ensures begun { TakesBeginning (S.seen output.old) (S.seen output.new)
+        (served_lines serving.now) }
 {
     match port {
         Some(Err(failure)) => return Err(failure),
@@ -42,8 +44,10 @@ pub fn check<S: Sink, L: Drop>(
 
 /// Prints what is served.
 fn tell<S: Sink>(alloc: Global, output: &mut S, serving: &Serving) -> Result<(), Fault>
-    ensures { OnOk result
+    ensures told { OnOk result
         (Takes (S.seen output.old) (S.seen output.new) (served_lines serving.now)) }
+    ensures begun { TakesBeginning (S.seen output.old) (S.seen output.new)
+        (served_lines serving.now) }
 {
     let lines = served_lines(alloc, serving)?;
     print(output, &lines)
