@@ -1,10 +1,14 @@
 //! Words of a command line, and faults as they are reported.
 use crate::clients::{publish_line, subscribe_line};
 use broker_config::{Config, Ids};
-use command_line::{Command, Fault, explain, read_command, report, report_failure, shown_line};
+use command_line::{
+    Command, Fault, Purpose, Serving, explain, read_command, report, report_failure, served_lines,
+    shown_line, warn_of_exposure,
+};
 use rawsocket::devices::MemorySink;
 use std::alloc::{AllocError, Global};
 use std::io;
+use std::net::IpAddr;
 
 /// Words, which stand apart by spaces.
 fn words_of(alloc: Global, text: &str) -> Result<Vec<String>, AllocError> {
@@ -30,13 +34,17 @@ pub fn command(alloc: Global, text: &str) -> io::Result<String> {
                 port,
                 config,
                 log,
+                purpose,
             },
         ) => {
-            let mut line = serve_line(alloc, host.as_str(), port, &config)?;
-            if log {
-                line.insert_str(0, "logged ")?;
-            }
-            Ok(line)
+            let serving = Serving {
+                purpose,
+                host,
+                port,
+                config,
+                log,
+            };
+            serve_line(alloc, &serving)
         }
         Ok(Command::Subscribe(command)) => subscribe_line(alloc, &command),
         Ok(Command::Publish(command)) => publish_line(alloc, &command),
@@ -81,15 +89,61 @@ fn help_line(alloc: Global, help: &str) -> io::Result<String> {
     Ok(String::from_str(alloc, told)?)
 }
 
-/// What a broker is served with.
-fn serve_line(alloc: Global, host: &str, port: u16, config: &Config) -> io::Result<String> {
-    let ids = match config.ids {
+/// What a broker is served with, or checked.
+fn serve_line(alloc: Global, serving: &Serving) -> io::Result<String> {
+    let purpose = match serving.purpose {
+        Purpose::Serve => "serve",
+        Purpose::Check => "check",
+        Purpose::CheckUnbound => "check unbound",
+    };
+    let ids = match serving.config.ids {
         Ids::Random => "random",
         Ids::Count => "count",
     };
-    let outbox = config.outbox;
-    let start = format!(in alloc; "serve {host} {port} outbox {outbox} ids {ids}")?;
-    config_line(start, config)
+    let logged = if serving.log { "logged " } else { "" };
+    let host = serving.host.as_str();
+    let port = serving.port;
+    let outbox = serving.config.outbox;
+    let start = format!(in alloc; "{logged}{purpose} {host} {port} outbox {outbox} ids {ids}")?;
+    config_line(start, &serving.config)
+}
+
+/// What a broker would serve by these words, as `--check` prints it.
+pub fn served(alloc: Global, text: &str) -> io::Result<String> {
+    let Ok(
+        Command::Serve {
+            host,
+            port,
+            config,
+            log,
+            purpose,
+        },
+    ) = read_command(alloc, &words_of(alloc, text)?)
+    else {
+        return Ok(String::from_str(alloc, "no broker\n")?);
+    };
+    let serving = Serving {
+        purpose,
+        host,
+        port,
+        config,
+        log,
+    };
+    let lines = served_lines(alloc, &serving)?;
+    Ok(String::from_str(alloc, std::str::from_utf8(&lines).unwrap_or(""))?)
+}
+
+/// What is told where a broker listens at this address.
+pub fn warned(alloc: Global, text: &str) -> io::Result<String> {
+    let Ok(address) = text.parse::<IpAddr>() else {
+        return Ok(String::from_str(alloc, "no address\n")?);
+    };
+    let mut sink = MemorySink::new(alloc);
+    warn_of_exposure(address, &mut sink);
+    if sink.octets().is_empty() {
+        return Ok(String::from_str(alloc, "no warning\n")?);
+    }
+    Ok(String::from_str(alloc, std::str::from_utf8(sink.octets()).unwrap_or(""))?)
 }
 
 /// A line that goes on with the realms and the grants.

@@ -60,6 +60,14 @@ fn serve<'a>(alloc: Global) -> Result<Command<'a>, AllocError> {
         .arg(flag(alloc, "log").help(
             "Tell on standard error what happens to connections, a line each",
         ))?
+        .arg(flag(alloc, "check").help(
+            "Serve nothing: print what would be served, and end with status 0, or by the fault that serving would end by",
+        ))?
+        .arg(
+            flag(alloc, "no-bind").requires_arg("check")?.help(
+                "With --check: leave the port alone, as a broker that runs has it",
+            ),
+        )?
         .arg(
             Arg::new(alloc, "realm")
                 .value_name("REALM")
