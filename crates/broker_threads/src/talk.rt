@@ -18,7 +18,7 @@ use crate::plan::Plan;
 use crate::work::{Doing, Work};
 use crate::writer_thread::{Writer, Written};
 use connection::{
-    AskedPongs, EncodingPoster, FarewellPoster, OwedPongs, PongPoster, ReadEnd, Using, WriteEnd,
+    AskedPongs, EncodingPoster, FarewellPoster, InUse, OwedPongs, PongPoster, ReadEnd, WriteEnd,
     read_posts, share_pongs,
 };
 use log_lines::CloseReason;
@@ -150,7 +150,7 @@ fn converse<R: Wait, I: Source, S: Shut>(
         opened,
         joining,
         pongs,
-        using,
+        in_use,
     } = made;
     if let Err(_) = poster.post(rt, Act::Join(joining), 0) {
         return Conversed {
@@ -162,8 +162,9 @@ fn converse<R: Wait, I: Source, S: Shut>(
     }
     let encoding = EncodingPoster {
         alloc,
-        in_use: using.in_use(),
+        in_use: &in_use,
         own: opened.serializer,
+        using: None,
         poster,
     };
     let mut posting = FarewellPoster {
@@ -271,8 +272,8 @@ pub(crate) struct Made<S: Shut> {
     opened: Opened,
     joining: Joining<S>,
     pongs: AskedPongs,
-    // Its place among those who use its serialization.
-    using: Using,
+    // What the sessions of its realm use.
+    in_use: InUse,
 }
 
 // What a session begins with, and its writer, of whose sink nothing else is taken. The sink, where memory was refused.
@@ -336,8 +337,7 @@ fn prepare<S: Shut>(
         (home_of_poster poster.now) r.1.drain) }
 {
     let Broker { alloc, plan, fate } = broker;
-    let in_use = plan.in_use.get(opened.realm)?;
-    let using = in_use.enter(opened.serializer).ok()?;
+    let in_use = plan.in_use.get(opened.realm)?.twin().ok()?;
     let (joining, drain) = joining(alloc, plan, opened.authid.take(), poster, transport)?;
     let (asked, owed) = share_pongs(alloc).ok()?;
     let tools = WriterTools {
@@ -351,7 +351,7 @@ fn prepare<S: Shut>(
         opened,
         joining,
         pongs: asked,
-        using,
+        in_use,
     };
     Some((made, tools))
 }

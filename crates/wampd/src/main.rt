@@ -228,6 +228,7 @@ where
         + Wait
         + RandomSource
         + Clock
+        + CpuClock
         + Net<Stream = TcpStream, Listener = TcpListener>
         + Copy
         + Send
