@@ -2,7 +2,7 @@
 use denote.RattleType.{RattleType}
 use denote.Struct.Field.{row_field}
 use denote.Param.Send.{IsSend, IsSync, sendable}
-use denote.Param.SendFields.{declared_send, variants_send, as_row_send}
+use denote.Param.SendFields.{declared_send, declared_sync, variants_send, as_row_send}
 use Rattle.std.proofs.Crossing.{crosses}
 use Rattle.std.proofs.Crossing as heap
 use Rattle.std.specs.contracts.alloc.Global as Global
@@ -91,10 +91,10 @@ spent_sync = search (published_send, crosses, sendable) depth 60 fits 20000
 
 -- of a seat's backlog, and what shares it
 pub backlog_send : IsSend Backlog.the_row
-backlog_send = search (bell_send, spent_send, crosses, sendable) depth 60 fits 20000
+backlog_send = declared_send Backlog.the_type (search (crosses, sendable) depth 60, (search (crosses, sendable) depth 60, (search (crosses, sendable) depth 60, (bell_send, (spent_send, tt)))))
 
 pub backlog_sync : IsSync Backlog.the_row
-backlog_sync = search (bell_sync, spent_sync, crosses, sendable) depth 60 fits 20000
+backlog_sync = declared_sync Backlog.the_type (search (crosses, sendable) depth 60, (search (crosses, sendable) depth 60, (search (crosses, sendable) depth 60, (bell_sync, (spent_sync, tt)))))
 
 abbrev shared : RattleType
 shared = Arc.the_row Backlog.the_row Global.the_row global.ghosts
