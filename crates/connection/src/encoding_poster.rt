@@ -39,17 +39,23 @@ impl<S: Shut, P: Posting<S>> Posting<S> for EncodingPoster<'_, P> {
             P.posted self.new.poster ≡ with_acts (P.posted self.old.poster) (act ∷ []))
             (λ back. (back ≡ act) × (P.posted self.new.poster ≡ P.posted self.old.poster)) }
     {
-        if self.using.is_none() && subscribes(&act) {
-            self.using = self.in_use.enter(self.own).ok();
-        }
-        let own = if self.using.is_some() {
-            Some(self.own)
-        } else {
-            None
-        };
+        let own = counted(&mut self.using, self.in_use, self.own, &act);
         let act = encoded(self.alloc, self.in_use, own, act);
         self.poster.post(rt, act, octets)
     }
+}
+
+// What the client uses, where it is counted: from its first SUBSCRIBE on.
+fn counted<S: Shut>(
+    using: &mut Option<Using>,
+    in_use: &InUse,
+    own: Serializer,
+    act: &Act<S>,
+) -> Option<Serializer> {
+    if using.is_none() && subscribes(act) {
+        *using = in_use.enter(own).ok();
+    }
+    if using.is_some() { Some(own) } else { None }
 }
 
 // Whether it is a SUBSCRIBE.

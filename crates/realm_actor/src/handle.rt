@@ -38,14 +38,14 @@ impl<S: Shut, W: IdSource> ActorState<S, W> {
         ensures keeps { KeepsRest self.old self.new }
     {
         let (conn, act, weight) = letter.into_parts();
-        let outcome = match act {
+        match act {
             Act::Join(joining) => self.join(rt, alloc, conn, joining),
-            other => self.enter(rt, alloc, conn, other),
-        };
-        if let Some(spent) = self.table.realm.take_spent() {
-            weight.hand_back(spent);
+            other => {
+                let outcome = self.enter(rt, alloc, conn, other);
+                self.table.hand_back(&weight);
+                outcome
+            }
         }
-        outcome
     }
 
     // Handles an act of a connection, and names whom it found full, or cut for want of memory.

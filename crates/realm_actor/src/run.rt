@@ -168,16 +168,27 @@ impl<S: Shut, W: IdSource> Actor<S, W> {
         ensures same { inbox_of inbox.new ≡ inbox_of inbox.old }
     {
         let ready = inbox.try_receive(rt);
-        self.wake_in_time(&mut pace.unwoken, ready.is_none() || inbox.is_dear());
+        self.prepare(inbox, onlooker, pace, ready.is_none());
         if let Some(post) = ready {
-            if inbox.begins_turn() {
-                pace.begin(onlooker);
-            }
             return Some(post);
         }
         let post = wait_for_post(rt, inbox, may_leave);
         pace.since = onlooker.nanos();
         post
+    }
+
+    // Before a post is handled, or none is there: wakes the writers if they are due, and begins a turn.
+    fn prepare<O: Onlooker>(
+        &self,
+        inbox: &Inbox<S>,
+        onlooker: &mut O,
+        pace: &mut Pace,
+        is_idle: bool,
+    ) {
+        self.wake_in_time(&mut pace.unwoken, is_idle || inbox.is_dear());
+        if inbox.begins_turn() {
+            pace.begin(onlooker);
+        }
     }
 
     // Wakes the writers if they are due: the actor is to wait or to take long, or has handled many posts since they were woken.

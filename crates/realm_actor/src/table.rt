@@ -5,7 +5,7 @@ ghost use Rattle.realm_actor.specs.Rows.{EachHome};
 use crate::row::Row;
 use crate::seat_guesses::SeatGuesses;
 use realm::Realm;
-use realm_inbox::{RealmChronicle, Shut};
+use realm_inbox::{RealmChronicle, Shut, Weight};
 
 /// A realm, the chronicle of its history, and a row for each of its sessions that is live or held, ascending by connection.
 #[derive(Drop)]
@@ -20,4 +20,15 @@ pub struct Table<S: Shut> {
     pub has_ended: bool,
     ghost told: { chronicle.history ≡ Some realm },
     ghost home: { EachHome chronicle.chronicle rows.items },
+}
+
+impl<S: Shut> Table<S> {
+    /// Hands back what the realm made of the post of this weight, and is done with.
+    pub fn hand_back(&mut self, weight: &Weight)
+        ensures { self.new ≡ self.old }
+    {
+        if let Some(spent) = self.realm.take_spent() {
+            weight.hand_back(spent);
+        }
+    }
 }
