@@ -182,8 +182,9 @@ fn converse<R: Wait, I: Source, S: Shut>(
         has_greeted,
     } = posting;
     let PongPoster { poster, .. } = poster;
+    let EncodingPoster { poster, .. } = poster;
     Conversed {
-        poster: poster.poster,
+        poster,
         read,
         has_aborted,
         has_greeted,

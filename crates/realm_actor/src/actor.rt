@@ -224,6 +224,8 @@ impl<S: Shut, W: IdSource> Actor<S, W> {
           history = Some self.history;
         } }
     {
-        self.state.table.chronicle
+        let state = self.state;
+        let table = state.table;
+        table.chronicle
     }
 }
