@@ -215,6 +215,14 @@ impl Args {
         }
     }
 
+    /// How many octets they are in MessagePack at the end of a message, where that is kept; 0 where it isn't.
+    pub fn octets(&self) -> usize {
+        match self.ending(Serializer::MsgPack) {
+            Some(octets) => octets.len(),
+            None => 0,
+        }
+    }
+
     /// Writes them at the end of a message, each behind a separator.
     ///
     /// # Errors

@@ -36,17 +36,20 @@ use Rattle.session.specs.contracts.fault.Fault as SessionFault
 use Rattle.wamp_messages.specs.contracts.item.Item as Item
 use Rattle.broker_threads.specs.contracts.actor_thread.Acted as Acted
 use Rattle.broker_threads.specs.contracts.actor_thread.ActorThread as ActorThread
+use Rattle.broker_threads.specs.contracts.board.Board as Board
 use Rattle.broker_threads.specs.contracts.closed.Closed as Closed
 use Rattle.broker_threads.specs.contracts.course.Course as Course
 use Rattle.broker_threads.specs.contracts.fate.Fate as Fate
 use Rattle.broker_threads.specs.contracts.fate.Marked as Marked
 use Rattle.broker_threads.specs.contracts.handover.SharedTransport as SharedTransport
+use Rattle.broker_threads.specs.contracts.log.LogState as LogState
 use Rattle.broker_threads.specs.contracts.log.LogWriter as LogWriter
 use Rattle.broker_threads.specs.contracts.seat_table.SeatTable as SeatTable
 use Rattle.broker_threads.specs.contracts.id_words.IdWords as IdWords
 use Rattle.broker_threads.specs.contracts.plan.Plan as Plan
 use Rattle.broker_threads.specs.contracts.reader_thread.Ended as Ended
 use Rattle.broker_threads.specs.contracts.reader_thread.Reader as Reader
+use Rattle.broker_threads.specs.contracts.stats.Teller as Teller
 use Rattle.broker_threads.specs.contracts.writer_thread.Writer as Writer
 use Rattle.broker_threads.specs.contracts.writer_thread.Written as Written
 
@@ -59,11 +62,26 @@ marks_sync = search (maps, crosses, sendable) depth 60 fits 20000
 words_send : IsSend IdWords.the_row
 words_send = search (maps, crosses, sendable) depth 60 fits 20000
 
+board_send : IsSend Board.the_row
+board_send = search (crosses, sendable) depth 60 fits 20000
+
+board_sync : IsSync Board.the_row
+board_sync = search (crosses, sendable) depth 60 fits 20000
+
+state_send : IsSend LogState.the_row
+state_send = search (board_send, maps, crosses, sendable) depth 60 fits 20000
+
+state_sync : IsSync LogState.the_row
+state_sync = search (board_sync, maps, crosses, sendable) depth 60 fits 20000
+
+teller_send : IsSend Teller.the_row
+teller_send = search (maps, crosses, sendable) depth 60 fits 20000
+
 plan_send : IsSend Plan.the_row
-plan_send = search (maps, crosses, sendable) depth 60 fits 20000
+plan_send = search (state_send, state_sync, maps, crosses, sendable) depth 60 fits 20000
 
 plan_sync : IsSync Plan.the_row
-plan_sync = search (maps, crosses, sendable) depth 60 fits 20000
+plan_sync = search (state_send, state_sync, maps, crosses, sendable) depth 60 fits 20000
 
 fate_send : IsSend Fate.the_row
 fate_send = search (maps, crosses, sendable) depth 60 fits 20000
@@ -133,7 +151,7 @@ marked_send S s = declared_send (Marked.the_type S) (as_row_send (row_field S) s
 -- what writes a log
 pub log_writer_send : (S : RattleType) → IsSend S → IsSend (LogWriter.the_row S)
 log_writer_send S s = declared_send (LogWriter.the_type S)
-    (search (heap.send, crosses, sendable) depth 60, (search (maps, heap.send, crosses, sendable) depth 60 fits 20000, (search (maps, crosses, sendable) depth 60 fits 20000, (as_row_send (row_field S) s, tt))))
+    (search (heap.send, crosses, sendable) depth 60, (search (maps, heap.send, crosses, sendable) depth 60 fits 20000, (search (state_send, state_sync, maps, crosses, sendable) depth 60 fits 20000, (as_row_send (row_field S) s, (search (teller_send, crosses, sendable) depth 60 fits 20000, tt)))))
 
 -- a closure over two values
 pub both_send : (name : Sym) (A B : RattleType) → IsSend A → IsSend B → IsSend (TupleAt name (A ∷ B ∷ []))

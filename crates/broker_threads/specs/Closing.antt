@@ -9,9 +9,13 @@ use Rattle.log_lines.specs.declared.reason.CloseReason.TheVariants.{Goodbye, Abo
 use Rattle.session.specs.declared.fault.Fault.TheVariants.{Shape}
 use Rattle.broker_threads.specs.declared.closing.Closing.{Closing}
 
+-- where its client said what ends a session: a session that wasn't admitted comes first, and before that a stop
+abbrev pub if_admitted : Closing → CloseReason → CloseReason
+if_admitted c itself = if c.is_admitted then itself else if c.is_stopping then Stop else NotAdmitted
+
 -- where the stream has ended or failed, which says this for itself: a second HELLO, a stop, a session that wasn't admitted, and a write that failed before come first
 abbrev pub reason_by_stream : Closing → CloseReason → CloseReason
-reason_by_stream c itself = if c.has_greeted then Violation Shape else if c.is_stopping then Stop else if not c.is_admitted then NotAdmitted else if c.is_unwritable then WriteFailed else itself
+reason_by_stream c itself = if c.has_greeted then if_admitted c (Violation Shape) else if c.is_stopping then Stop else if not c.is_admitted then NotAdmitted else if c.is_unwritable then WriteFailed else itself
 
 -- where the client has left: by which word it did
 abbrev pub reason_by_farewell : Closing → CloseReason
@@ -27,8 +31,8 @@ reason_by_octets c = by_octets c c.octets
 
 -- where the writer has no reason of its own: what the reader ended by
 abbrev pub by_reader : Closing → ReadEnd → CloseReason
-by_reader c read.Left = reason_by_farewell c
-by_reader c (read.Violation fault) = Violation fault
+by_reader c read.Left = if_admitted c (reason_by_farewell c)
+by_reader c (read.Violation fault) = if_admitted c (Violation fault)
 by_reader c read.NoMemory = NoMemory
 by_reader c read.TooManyTurns = TooManyTurns
 by_reader c read.ActorGone = Stop

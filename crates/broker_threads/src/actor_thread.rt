@@ -6,16 +6,17 @@ ghost use Rattle.realm_inbox.specs.EndViews.{home_of, inbox_of, received};
 use crate::id_words::IdWords;
 use crate::plan::Plan;
 use crate::seat_table::SeatTable;
-use crate::told::tell_retained_full;
+use crate::told::{tell_request_refused, tell_retained_full};
 use crate::work::{Task, Work};
 use crossbeam_channel::Sender;
-use realm::{Realm, RealmConfig};
-use realm_actor::{Actor, Onlooker};
+use realm::{Realm, RealmConfig, Refusal};
+use realm_actor::{Actor, Load, Onlooker};
 use realm_inbox::{Act, Inbox, Letter, Post, RealmChronicle, Shut};
 use std::alloc::Global;
+use std::io;
 use std::snapshot::Snapshot;
 use std::sync::{Arc, Wait};
-use std::time::Clock;
+use std::time::{Clock, CpuClock, Duration};
 use wamp_ids::SEATS;
 
 /// What the thread of a realm's actor has.
@@ -57,7 +58,7 @@ impl<S: Shut + Send + 'static> Task for ActorThread<S> {
     ghost does = { λ w acted. Acts w acted };
 }
 
-impl<R: Wait + Clock + Copy, S: Shut + Send + 'static> Work<R> for ActorThread<S> {
+impl<R: Wait + Clock + CpuClock + Copy, S: Shut + Send + 'static> Work<R> for ActorThread<S> {
     ghost use Rattle.broker_threads.specs.Acts.{Acts};
 
     /// Makes the actor, which runs until it is stopped, marks whose sessions it holds then, hands their outboxes over to their writers, and
@@ -87,7 +88,7 @@ impl<R: Wait + Clock + Copy, S: Shut + Send + 'static> Work<R> for ActorThread<S
         };
         let _ = teller.send(&rt, true);
         let actor = Actor::of_realm(alloc, chronicle, kept, words);
-        let mut onlooker = StoreNotice {
+        let mut onlooker = Notices {
             rt,
             plan: &plan,
             realm,
@@ -109,16 +110,17 @@ impl<R: Wait + Clock + Copy, S: Shut + Send + 'static> Work<R> for ActorThread<S
     }
 }
 
-// Tells, once, that as many topics of a realm as may have a retained publication have one.
+// Tells what happens in a realm: once, that as many topics as may have a retained publication have one; the first request of each session
+// that is refused; and how much there is, where that is told from time to time.
 #[derive(Drop)]
-struct StoreNotice<'a, R> {
+struct Notices<'a, R> {
     rt: R,
     plan: &'a Plan,
     realm: usize,
     is_told: bool,
 }
 
-impl<R: Wait + Clock> Onlooker for StoreNotice<'_, R> {
+impl<R: Wait + Clock + CpuClock> Onlooker for Notices<'_, R> {
     fn sees_retained(&mut self, is_full: bool) {
         if !is_full || self.is_told {
             return;
@@ -129,14 +131,40 @@ impl<R: Wait + Clock> Onlooker for StoreNotice<'_, R> {
         }
     }
 
-    fn nanos(&mut self) -> u64 {
-        let Ok(time) = self.rt.monotonic() else {
-            return 0;
-        };
-        time.as_secs()
-            .wrapping_mul(1_000_000_000)
-            .wrapping_add(u64::from(time.subsec_nanos()))
+    fn sees_refusal(&mut self, refusal: Refusal) {
+        tell_request_refused(&self.rt, &self.plan.log, &refusal);
     }
+
+    fn wants_load(&mut self, is_idle: bool) -> bool {
+        match self.plan.board(self.realm) {
+            Some(board) => is_idle || board.is_wanted(),
+            None => false,
+        }
+    }
+
+    fn sees_load(&mut self, load: &Load) {
+        if let Some(board) = self.plan.board(self.realm) {
+            board.put(load);
+        }
+    }
+
+    fn nanos(&mut self) -> u64 {
+        nanos_of(self.rt.monotonic())
+    }
+
+    fn worked(&mut self) -> u64 {
+        nanos_of(self.rt.thread_cpu_time())
+    }
+}
+
+// What a clock tells, in nanoseconds; 0 where it fails.
+fn nanos_of(told: io::Result<Duration>) -> u64 {
+    let Ok(time) = told else {
+        return 0;
+    };
+    time.as_secs()
+        .wrapping_mul(1_000_000_000)
+        .wrapping_add(u64::from(time.subsec_nanos()))
 }
 
 // Receives until the next stop, which is posted once no reader is left that posts, and turns away what comes. It can't be left in the

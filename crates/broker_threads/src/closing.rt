@@ -1,6 +1,6 @@
 //! Why a connection was closed, by all that ended it.
 ghost use Rattle.std.specs.Prelude.{◌≡◌};
-ghost use Rattle.broker_threads.specs.Closing.{reason_by_farewell, reason_by_octets, reason_by_reader, reason_by_stream, reason_of};
+ghost use Rattle.broker_threads.specs.Closing.{if_admitted, reason_by_farewell, reason_by_octets, reason_by_reader, reason_by_stream, reason_of};
 
 use connection::{ReadEnd, WriteEnd};
 use log_lines::CloseReason;
@@ -74,13 +74,27 @@ impl Closing {
         ensures { result ≡ reason_by_reader self.now }
     {
         match self.read {
-            ReadEnd::Left => self.by_farewell(),
-            ReadEnd::Violation(fault) => CloseReason::Violation(fault),
+            ReadEnd::Left => self.if_admitted(self.by_farewell()),
+            ReadEnd::Violation(fault) => self.if_admitted(CloseReason::Violation(fault)),
             ReadEnd::NoMemory => CloseReason::NoMemory,
             ReadEnd::TooManyTurns => CloseReason::TooManyTurns,
             ReadEnd::ActorGone => CloseReason::Stop,
             ReadEnd::Ended => self.by_stream(CloseReason::Ended),
             ReadEnd::Device => self.by_stream(CloseReason::ReadFailed),
+        }
+    }
+
+    // The reason where its client said what ends a session, unless there was none.
+    fn if_admitted(&self, itself: CloseReason) -> CloseReason
+        ensures { result ≡ if_admitted self.now itself }
+    {
+        if self.is_admitted {
+            return itself;
+        }
+        if self.is_stopping {
+            CloseReason::Stop
+        } else {
+            CloseReason::NotAdmitted
         }
     }
 
@@ -100,7 +114,7 @@ impl Closing {
         ensures { result ≡ reason_by_stream self.now itself }
     {
         if self.has_greeted {
-            CloseReason::Violation(Fault::Shape)
+            self.if_admitted(CloseReason::Violation(Fault::Shape))
         } else if self.is_stopping {
             CloseReason::Stop
         } else if !self.is_admitted {

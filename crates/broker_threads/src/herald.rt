@@ -7,8 +7,10 @@ use rawsocket::Serializer;
 use session::{Fault, Item, Who, write_payload};
 use std::alloc::{AllocError, Global};
 use std::sync::Wait;
+use std::time::Clock;
 
-/// Tells of the session that a WELCOME opens, and of each PONG that is written; and counts the octets of an item that can't be.
+/// Tells of the session that a WELCOME opens, and of each PONG that is written; and counts what is taken and written, and the octets of an
+/// item that can't be.
 #[derive(Drop)]
 pub struct Herald<'a, R> {
     rt: &'a R,
@@ -19,8 +21,10 @@ pub struct Herald<'a, R> {
     realm: usize,
     serializer: Serializer,
     limit: u32,
-    // Whether the writer took an item: a WELCOME is the first one.
-    has_begun: bool,
+    // How many items the writer took: a WELCOME is the first one.
+    taken: u64,
+    // How many EVENTs it wrote.
+    events: u64,
     octets: Option<usize>,
 }
 
@@ -45,7 +49,8 @@ impl<'a, R> Herald<'a, R> {
             realm,
             serializer,
             limit,
-            has_begun: false,
+            taken: 0,
+            events: 0,
             octets: None,
         }
     }
@@ -74,7 +79,7 @@ impl<'a, R> Herald<'a, R> {
     }
 }
 
-impl<R: Wait> Herald<'_, R> {
+impl<R: Wait + Clock> Herald<'_, R> {
     // Tells of a session that is open.
     fn welcome(&self, who: &Who) {
         self.fate.admit();
@@ -84,19 +89,26 @@ impl<R: Wait> Herald<'_, R> {
     }
 }
 
-impl<R: Wait> Watch for Herald<'_, R> {
+impl<R: Wait + Clock> Watch for Herald<'_, R> {
     fn takes(&mut self, item: &Item) {
-        if self.has_begun {
-            return;
+        if self.taken == 0 {
+            if let Item::Welcome(who) = item {
+                self.welcome(who);
+            }
         }
-        self.has_begun = true;
-        if let Item::Welcome(who) = item {
-            self.welcome(who);
-        }
+        self.taken = self.taken.wrapping_add(1);
+        self.fate.note_taken(self.taken);
     }
 
     fn writes(&mut self, item: &Item) {
+        if let Item::Event { .. } = item {
+            self.events = self.events.wrapping_add(1);
+        }
         self.pongs.writes(item);
+    }
+
+    fn ends(&mut self, octets: u64) {
+        self.fate.note_written(self.events, octets);
     }
 
     fn gives_up(&mut self, item: &Item, fault: Fault) {

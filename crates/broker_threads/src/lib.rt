@@ -13,6 +13,7 @@
 #![tactic(auto)]
 
 mod actor_thread;
+mod board;
 mod closed;
 mod closing;
 mod course;
@@ -24,12 +25,14 @@ mod log;
 mod plan;
 mod reader_thread;
 mod seat_table;
+mod stats;
 mod talk;
 pub mod told;
 pub mod work;
 mod writer_thread;
 
 pub use actor_thread::{Acted, ActorThread};
+pub use board::Board;
 pub use closed::Closed;
 pub use course::{Course, SessionEnds};
 pub use fate::{Fate, Marked};
@@ -38,4 +41,5 @@ pub use log::{Log, LogEnd};
 pub use plan::Plan;
 pub use reader_thread::{Ended, Reader};
 pub use seat_table::SeatTable;
+pub use stats::Telling;
 pub use writer_thread::{SeenHistory, Writer, Written};

@@ -14,11 +14,12 @@ use crate::work::Task;
 use log_lines::CloseReason;
 use rawsocket::devices::{Sink, Source};
 use realm_inbox::Shut;
-use session::{Fault, open_session};
+use session::{Asked, Fault, open_session_noting};
 use std::alloc::Global;
 use std::sync::atomic::Ordering;
 use std::sync::{Arc, Wait};
 use std::thread::Threads;
+use std::time::Clock;
 use wamp_ids::{Conn, Topic};
 
 /// What a reader's thread has.
@@ -66,7 +67,7 @@ impl<
 > Reader<I, O, S> {
     /// Serves the connection until it is over: both its threads, when it returns, but for what is left of this one. The stream is closed
     /// then, unless the realm's actor is about to let go of it.
-    pub fn run<R: Threads + Wait + Copy + Send + 'static>(self, rt: R) -> Ended<I, O, S>
+    pub fn run<R: Threads + Wait + Clock + Copy + Send + 'static>(self, rt: R) -> Ended<I, O, S>
         ensures { Reads (sight I.seen O.seen) self result }
     {
         let Reader {
@@ -89,7 +90,7 @@ impl<
             fate: &fate,
         };
         let ended = serve(rt, broker, &plan.realms, source, sink, &transport, posters);
-        tell_closed(&rt, &plan.log, conn, ended.reason);
+        tell_closed(&rt, &plan, conn, ended.reason, &fate);
         transport.shut();
         drop(transport);
         drop(shared.take_transport(&rt));
@@ -114,7 +115,7 @@ fn untouched<I: Drop, O: Drop, S: Shut>(source: I, sink: O, posters: Posters<S>)
 
 // Opens a session and serves it until it is over.
 fn serve<
-    R: Threads + Wait + Copy + Send + 'static,
+    R: Threads + Wait + Clock + Copy + Send + 'static,
     I: Source + Drop,
     O: Sink + Drop + Send + 'static,
     S: Shut + Send + 'static,
@@ -131,9 +132,17 @@ fn serve<
         (offer realms.now (arc_value broker.entry.plan.now).outbox)
         (stream source sink posters.items) result.source result.posters.items result.course }
 {
-    let opened = match open_session(broker.alloc, &mut source, &mut sink, realms) {
+    let mut asked = None;
+    let opened = match open_session_noting(
+        broker.alloc,
+        &mut source,
+        &mut sink,
+        realms,
+        &mut asked,
+    ) {
         Ok(opened) => opened,
         Err(fault) => {
+            note_asked(&rt, broker.fate, asked);
             return Ended {
                 source: Closed::of(source),
                 posters,
@@ -164,6 +173,13 @@ fn serve<
         posters,
         course: talked.course,
         reason: talked.reason,
+    }
+}
+
+// Keeps what a HELLO asked for whose realm isn't there.
+fn note_asked<R: Wait>(rt: &R, fate: &Fate, asked: Option<Asked>) {
+    if let Some(asked) = asked {
+        fate.note_asked(rt, asked);
     }
 }
 

@@ -18,20 +18,21 @@ use crate::plan::Plan;
 use crate::work::{Doing, Work};
 use crate::writer_thread::{Writer, Written};
 use connection::{
-    AskedPongs, EncodingPoster, FarewellPoster, OwedPongs, PongPoster, ReadEnd, Using, WriteEnd,
-    read_posts, share_pongs,
+    AskedPongs, EncodingPoster, FarewellPoster, InUse, OwedPongs, PongPoster, ReadEnd, WriteEnd,
+    read_counted, share_pongs,
 };
 use log_lines::CloseReason;
 use message_tree::Text;
 use outbox_queue::{Drain, pair_of};
 use rawsocket::devices::{Sink, Source};
 use realm_inbox::{Act, Joining, Poster, RealmHistory, Shut};
-use session::{Item, Opened};
+use session::{Asked, Item, Opened};
 use std::alloc::Global;
 use std::snapshot::Snapshot;
 use std::sync::atomic::Ordering;
 use std::sync::{Arc, Wait};
 use std::thread::{self, PromisedHandle, Threads};
+use std::time::Clock;
 
 /// The most octets that a payload has.
 const MOST_OCTETS: u32 = 16_777_215;
@@ -66,7 +67,7 @@ pub struct Talked<O, S: Shut> {
 /// Serves a session until it is over: starts its writer, asks the realm's actor for the session, posts what the source gives, and waits
 /// for the writer.
 pub fn talk<
-    R: Threads + Wait + Copy + Send + 'static,
+    R: Threads + Wait + Clock + Copy + Send + 'static,
     I: Source,
     O: Sink + Drop + Send + 'static,
     S: Shut + Send + 'static,
@@ -77,6 +78,8 @@ pub fn talk<
 {
     let broker = session.broker;
     let limit = session.opened.limit.min(MOST_OCTETS);
+    let realm = session.opened.realm;
+    note_asked(&rt, broker, &session.opened);
     let begun = match begin(rt, session, &poster) {
         Ok(begun) => begun,
         Err(refused) => return not_begun(poster, refused),
@@ -87,7 +90,7 @@ pub fn talk<
         read,
         has_aborted,
         has_greeted,
-    } = converse(&rt, broker.alloc, source, made, poster);
+    } = converse(&rt, broker, source, made, poster);
     let is_unwritable = broker.fate.is_unwritable();
     let written = writer.join(&rt);
     let ends = SessionEnds {
@@ -101,8 +104,32 @@ pub fn talk<
     Talked {
         poster,
         course: Course::Served(read, written),
-        reason: reason_of(broker, ends, limit),
+        reason: reason_of(broker, realm, ends, limit),
     }
+}
+
+// Keeps what the HELLO asked for, where it may have to be told that this wasn't granted. Where there is no memory for it, it isn't told.
+fn note_asked<R: Wait>(rt: &R, broker: Broker<'_>, opened: &Opened) {
+    let Broker { alloc, plan, fate } = broker;
+    if plan.log.is_none() {
+        return;
+    }
+    if let Some(asked) = asked_of(alloc, plan, opened) {
+        fate.note_asked(rt, asked);
+    }
+}
+
+// What a HELLO asked for. None where there is no memory for it.
+fn asked_of(alloc: Global, plan: &Plan, opened: &Opened) -> Option<Asked> {
+    let realm = plan.realms.get(opened.realm)?;
+    let authid = match &opened.authid {
+        Some(authid) => Some(Text::of(alloc, authid.as_str()).ok()?),
+        None => None,
+    };
+    Some(Asked {
+        realm: Text::of(alloc, realm.text()).ok()?,
+        authid,
+    })
 }
 
 // Nothing was read or posted, as no writer began.
@@ -136,7 +163,7 @@ struct Conversed<S: Shut> {
 // Asks for the session, and posts what is read, until that is over. Where the Join comes back it is let go of here, so that the writer ends.
 fn converse<R: Wait, I: Source, S: Shut>(
     rt: &R,
-    alloc: Global,
+    broker: Broker<'_>,
     source: &mut I,
     made: Made<S>,
     mut poster: Poster<S>,
@@ -150,7 +177,7 @@ fn converse<R: Wait, I: Source, S: Shut>(
         opened,
         joining,
         pongs,
-        using,
+        in_use,
     } = made;
     if let Err(_) = poster.post(rt, Act::Join(joining), 0) {
         return Conversed {
@@ -161,9 +188,10 @@ fn converse<R: Wait, I: Source, S: Shut>(
         };
     }
     let encoding = EncodingPoster {
-        alloc,
-        in_use: using.in_use(),
+        alloc: broker.alloc,
+        in_use: &in_use,
         own: opened.serializer,
+        using: None,
         poster,
     };
     let mut posting = FarewellPoster {
@@ -173,16 +201,21 @@ fn converse<R: Wait, I: Source, S: Shut>(
         },
         has_aborted: false,
         has_greeted: false,
+        received: 0,
     };
-    let read = read_posts(rt, alloc, source, opened, &mut posting);
+    let mut octets = 0;
+    let read = read_counted(rt, broker.alloc, source, opened, &mut posting, &mut octets);
     let FarewellPoster {
         poster,
         has_aborted,
         has_greeted,
+        received,
     } = posting;
+    broker.fate.note_read(received, octets);
     let PongPoster { poster, .. } = poster;
+    let EncodingPoster { poster, .. } = poster;
     Conversed {
-        poster: poster.poster,
+        poster,
         read,
         has_aborted,
         has_greeted,
@@ -202,7 +235,7 @@ struct SessionEnds {
 }
 
 // Why a session is over.
-fn reason_of(broker: Broker<'_>, ends: SessionEnds, limit: u32) -> CloseReason {
+fn reason_of(broker: Broker<'_>, realm: usize, ends: SessionEnds, limit: u32) -> CloseReason {
     let Broker {
         alloc: _,
         plan,
@@ -222,7 +255,11 @@ fn reason_of(broker: Broker<'_>, ends: SessionEnds, limit: u32) -> CloseReason {
         outbox: plan.outbox,
         limit,
     };
-    closing.reason()
+    let reason = closing.reason();
+    if let CloseReason::OutboxFull(_) = reason {
+        plan.note_cut(realm);
+    }
+    reason
 }
 
 // A session whose writer runs.
@@ -243,7 +280,7 @@ pub(crate) enum Refused<O> {
 
 // Starts the writer of a session. Where no thread can be made for it, it is run here once its outbox is dropped: so it waits for nothing.
 fn begin<
-    R: Threads + Wait + Copy + Send + 'static,
+    R: Threads + Wait + Clock + Copy + Send + 'static,
     O: Sink + Drop + Send + 'static,
     S: Shut + Send + 'static,
 >(rt: R, session: Session<O, S>, poster: &Poster<S>) -> Result<Begun<O, S>, Refused<O>>
@@ -271,8 +308,8 @@ pub(crate) struct Made<S: Shut> {
     opened: Opened,
     joining: Joining<S>,
     pongs: AskedPongs,
-    // Its place among those who use its serialization.
-    using: Using,
+    // What the sessions of its realm use.
+    in_use: InUse,
 }
 
 // What a session begins with, and its writer, of whose sink nothing else is taken. The sink, where memory was refused.
@@ -336,8 +373,7 @@ fn prepare<S: Shut>(
         (home_of_poster poster.now) r.1.drain) }
 {
     let Broker { alloc, plan, fate } = broker;
-    let in_use = plan.in_use.get(opened.realm)?;
-    let using = in_use.enter(opened.serializer).ok()?;
+    let in_use = plan.in_use.get(opened.realm)?.twin().ok()?;
     let (joining, drain) = joining(alloc, plan, opened.authid.take(), poster, transport)?;
     let (asked, owed) = share_pongs(alloc).ok()?;
     let tools = WriterTools {
@@ -351,7 +387,7 @@ fn prepare<S: Shut>(
         opened,
         joining,
         pongs: asked,
-        using,
+        in_use,
     };
     Some((made, tools))
 }

@@ -15,6 +15,7 @@ use session::Item;
 use std::alloc::Global;
 use std::snapshot::Snapshot;
 use std::sync::{Arc, Wait};
+use std::time::Clock;
 
 /// What a writer's thread has.
 #[derive(Drop)]
@@ -92,7 +93,7 @@ impl<O: Sink + Drop + Send + 'static, S: Shut> Task for Writer<O, S> {
     ghost does = { λ w done. Writes O.seen w done };
 }
 
-impl<R: Wait + Copy, O: Sink + Drop + Send + 'static, S: Shut> Work<R> for Writer<O, S> {
+impl<R: Wait + Clock + Copy, O: Sink + Drop + Send + 'static, S: Shut> Work<R> for Writer<O, S> {
     ghost use Rattle.broker_threads.specs.Writes.{Writes};
 
     /// Writes what the session is owed, and shuts the transport.

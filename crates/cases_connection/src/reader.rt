@@ -88,6 +88,7 @@ impl Stream {
             alloc,
             in_use,
             own: client.serializer,
+            using: None,
             poster: Log::new(alloc, self.room)?,
         };
         let source = MemorySource::new(self.octets.as_slice().to_vec(alloc)?);

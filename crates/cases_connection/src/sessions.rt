@@ -41,8 +41,10 @@ impl Sessions {
     /// What two of them use, or more.
     pub fn shared(&self, alloc: Global) -> io::Result<String> {
         let found = in_words(
-            self.in_use.is_shared(Serializer::Json, Serializer::MsgPack),
-            self.in_use.is_shared(Serializer::MsgPack, Serializer::Json),
+            self.in_use
+                .is_shared(Serializer::Json, Some(Serializer::MsgPack)),
+            self.in_use
+                .is_shared(Serializer::MsgPack, Some(Serializer::Json)),
         );
         Ok(format!(in alloc; "shared: {found}\n")?)
     }
@@ -50,9 +52,10 @@ impl Sessions {
     /// What two of them use, or more, beside one that uses it too.
     pub fn others(&self, alloc: Global) -> io::Result<String> {
         let found = in_words(
-            self.in_use.is_shared(Serializer::Json, Serializer::Json),
             self.in_use
-                .is_shared(Serializer::MsgPack, Serializer::MsgPack),
+                .is_shared(Serializer::Json, Some(Serializer::Json)),
+            self.in_use
+                .is_shared(Serializer::MsgPack, Some(Serializer::MsgPack)),
         );
         Ok(format!(in alloc; "others: {found}\n")?)
     }

@@ -7,6 +7,7 @@ use Rattle.realm_inbox.specs.contracts.door.Door as Door
 use Rattle.realm_inbox.specs.contracts.ends.Inbox as Inbox
 use Rattle.realm_inbox.specs.contracts.ends.Poster as Poster
 use Rattle.realm_inbox.specs.contracts.ends.Seat as Seat
+use Rattle.cases_inbox.specs.contracts.paced.Paced as Paced
 use Rattle.cases_inbox.specs.contracts.threads.Numbered as Numbered
 use Rattle.cases_inbox.specs.contracts.wire.Wire as Wire
 use Rattle.cases_inbox.specs.contracts.wire.WireShut.TheImpl as shut
@@ -28,3 +29,6 @@ inbox_send = ends.inbox_send Wire.the_row shut.ghosts wire_send
 
 pub numbered_send : IsSend Numbered.the_row
 numbered_send = declared_send Numbered.the_type (poster_send, (search sendable, (search sendable, (search (crosses, sendable) depth 60, tt))))
+
+pub paced_send : IsSend Paced.the_row
+paced_send = declared_send Paced.the_type (poster_send, (search sendable, (search (crosses, sendable) depth 60, (search (crosses, sendable) depth 60, tt))))

@@ -10,7 +10,8 @@ use realm_inbox::{Act, Joining, Letter, Post, RealmHistory};
 use session::{Item, Said};
 use std::alloc::Global;
 use std::io;
-use wamp_ids::Conn;
+use wamp_ids::{Conn, Id};
+use wamp_messages::{Args, Publish, PublishOptions};
 
 /// The act that a word names, unless it is a Join.
 pub fn act_of(alloc: Global, word: &str, text: &str) -> io::Result<Option<Act<Wire>>>
@@ -21,11 +22,22 @@ pub fn act_of(alloc: Global, word: &str, text: &str) -> io::Result<Option<Act<Wi
             let octets = octets_of(alloc, text)?;
             Ok(Some(Act::Ping(Octets::from_vec(octets))))
         }
+        "publish" => Ok(Some(Act::Said(Said::Publish(publish_of(alloc, text)?)))),
         "goodbye" => Ok(Some(Act::Said(Said::Goodbye))),
         "spoilt" => Ok(Some(Act::Spoilt)),
         "gone" => Ok(Some(Act::Gone)),
         _ => Ok(None),
     }
+}
+
+// A PUBLISH to this topic, without options and arguments.
+fn publish_of(alloc: Global, topic: &str) -> io::Result<Publish> {
+    Ok(Publish {
+        request: Id::of_word(0),
+        options: PublishOptions::none(),
+        topic: Text::of(alloc, topic)?,
+        args: Args::none(),
+    })
 }
 
 /// What a connection brings to join, with an outbox of its own, in which two items may wait.
@@ -65,6 +77,10 @@ pub fn tell_act(out: &mut String, act: &Act<Wire>) -> io::Result<()> {
     match act {
         Act::Join(joining) => tell_joining(out, joining),
         Act::Said(Said::Goodbye) => Ok(out.push_str("goodbye")?),
+        Act::Said(Said::Publish(publish)) => {
+            out.push_str("publish ")?;
+            Ok(out.push_str(publish.topic.as_str())?)
+        }
         Act::Said(_) => Ok(out.push_str("said")?),
         Act::Ping(octets) => {
             out.push_str("ping ")?;

@@ -3,6 +3,7 @@ ghost use Rattle.std.specs.Prelude.{◌≤◌};
 
 use crate::acts::{act_of, answered, joining_of, told};
 use crate::laden::{Laden, pass_laden, strand};
+use crate::paced::pass_paced;
 use crate::room::{Room, post};
 use crate::tally::Received;
 use crate::threads::{Taking, pass_all};
@@ -51,6 +52,7 @@ impl Case {
             "turns" => again(rt, alloc, text, Taking::ByTurns),
             "laden" => laden(rt, alloc, text, false),
             "strand" => laden(rt, alloc, text, true),
+            "paced" => paced(rt, alloc, text),
             "crossing" => ends_cross(alloc),
             _ => match &mut self.room {
                 None => line_of(alloc, "no inbox"),
@@ -67,6 +69,24 @@ impl Case {
             }
             _ => line_of(alloc, "no inbox has that capacity"),
         }
+    }
+}
+
+// How many PINGs came that a thread posted one by one; the text names a capacity, a connection and how many it posts.
+fn paced<R: Threads + Wait + Copy + Send + 'static>(
+    rt: R,
+    alloc: Global,
+    text: &str,
+) -> io::Result<String> {
+    let (cap, rest) = part(text);
+    let (conn, count) = part(rest);
+    let came = match (cap.parse::<usize>(), conn_of(conn), count.parse::<u64>()) {
+        (Ok(cap), Some(conn), Ok(count)) if cap >= 1 => pass_paced(rt, alloc, cap, conn, count)?,
+        _ => None,
+    };
+    match came {
+        Some(came) => Ok(format!(in alloc; "{came} came\n")?),
+        None => line_of(alloc, "no such threads"),
     }
 }
 

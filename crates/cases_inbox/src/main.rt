@@ -26,6 +26,7 @@
 mod acts;
 mod case;
 mod laden;
+mod paced;
 mod room;
 mod tally;
 mod threads;

@@ -22,8 +22,8 @@ pub struct Numbered {
     alloc: Global,
 }
 
-// The PING of this number.
-fn ping_of(alloc: Global, number: u64) -> Result<Act<Wire>, AllocError>
+/// The PING of this number.
+pub fn ping_of(alloc: Global, number: u64) -> Result<Act<Wire>, AllocError>
     ensures { IfOk result (λ act. is_join act ≡ false) }
 {
     let octets = Octets::of(alloc, number.to_be_bytes().as_slice())?;

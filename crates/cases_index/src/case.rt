@@ -40,11 +40,20 @@ impl Table for Case {
             Some(("room", text)) => room(alloc, &self.store, text),
             Some(("kept", text)) => kept(alloc, &self.store, text),
             Some(("count", text)) => count(alloc, &self.store, text),
+            None if line == "held" => held(alloc, &self.index, &self.store),
             None if line == "threads" => threads(alloc),
             None if line == "faults" => faults(alloc),
             _ => line_of(alloc, "no case has this word"),
         }
     }
+}
+
+/// How many patterns are held, how many topics have a retained publication, and how many octets these are.
+fn held(alloc: Global, index: &Index, store: &Store) -> io::Result<String> {
+    let patterns = index.len();
+    let topics = store.len();
+    let octets = store.octets();
+    Ok(format!(in alloc; "{patterns} patterns, {topics} topics of {octets} octets\n")?)
 }
 
 /// Each fault as it is printed.

@@ -1,13 +1,15 @@
 //! What each word is answered by.
-use crate::closing::{full, long, openings, reasons, violations};
+use crate::closing::{asked, full, long, openings, reasons, traffic, violations};
+use crate::telling::{told_request, told_started, told_stats};
 use case_text::{Table, line_of, number_of, part, part_of, text_of};
 use log_lines::{
-    ConnectionRefusal, Opening, Stopping, accept_failed, accepted, listening, lost, opened,
-    refused, retained_full, stopping,
+    ConnectionRefusal, Opening, Stopping, accept_failed, accepted, end_line, listening, lost,
+    moment, opened, refused, retained_full, stopping,
 };
 use rawsocket::Serializer;
 use std::alloc::{AllocError, Global};
 use std::io;
+use std::time::Duration;
 use wamp_ids::Conn;
 
 /// A case, which keeps nothing.
@@ -31,6 +33,13 @@ impl Table for Case {
             "full" => full(alloc, number_of(rest)),
             "long" => long(alloc, rest),
             "reasons" => reasons(alloc),
+            "asked" => asked(alloc, rest),
+            "traffic" => traffic(alloc, rest),
+            "request" => told_request(alloc, rest),
+            "started" => told_started(alloc, rest),
+            "stats" => told_stats(alloc, rest),
+            "ended" => told_ended(alloc, rest),
+            "moment" => told_moment(alloc, rest),
             "violations" => violations(alloc),
             "openings" => openings(alloc),
             _ => line_of(alloc, "no case has this word"),
@@ -38,12 +47,30 @@ impl Table for Case {
     }
 }
 
-/// A line, as a text: what isn't UTF-8 is no line.
+/// A line without its end, as a text: what isn't UTF-8 is no line.
 pub fn in_text(alloc: Global, line: Result<Vec<u8>, AllocError>) -> io::Result<String> {
     match String::from_utf8(line?) {
+        Ok(text) => line_of(alloc, text.as_str()),
+        Err(_) => line_of(alloc, "no text"),
+    }
+}
+
+// A line with its end, as it is written.
+fn told_ended(alloc: Global, at: &str) -> io::Result<String> {
+    let mut line = lost(alloc, 1)?;
+    end_line(&mut line, at)?;
+    match String::from_utf8(line) {
         Ok(text) => Ok(text),
         Err(_) => line_of(alloc, "no text"),
     }
+}
+
+// A moment, by its seconds and milliseconds behind the beginning of 1970.
+fn told_moment(alloc: Global, rest: &str) -> io::Result<String> {
+    let (_, millis) = part(rest);
+    let since = Duration::from_secs(number_of(rest));
+    let since = since.saturating_add(Duration::from_millis(number_of(millis)));
+    line_of(alloc, moment(alloc, since)?.as_str())
 }
 
 /// A connection of this number.
@@ -54,8 +81,8 @@ pub fn conn_of(number: u64) -> io::Result<Conn> {
     }
 }
 
-// The text that a word spells.
-fn word_of(alloc: Global, word: &str) -> io::Result<String> {
+/// The text that a word spells.
+pub fn word_of(alloc: Global, word: &str) -> io::Result<String> {
     text_of(alloc, part_of(word))
 }
 
@@ -67,10 +94,12 @@ fn told_listening(alloc: Global, rest: &str) -> io::Result<String> {
 }
 
 fn told_accepted(alloc: Global, rest: &str) -> io::Result<String> {
-    let (_, peer) = part(rest);
+    let (_, behind) = part(rest);
+    let (peer, connections) = part(behind);
     let peer = word_of(alloc, peer)?;
     let conn = conn_of(number_of(rest))?;
-    in_text(alloc, accepted(alloc, conn, peer.as_str()))
+    let connections = number_of(connections);
+    in_text(alloc, accepted(alloc, conn, peer.as_str(), connections))
 }
 
 fn told_refused(alloc: Global, rest: &str, refusal: ConnectionRefusal) -> io::Result<String> {

@@ -1,7 +1,7 @@
 //! Connections that are closed.
-use crate::case::{conn_of, in_text};
+use crate::case::{conn_of, in_text, word_of};
 use case_text::{number_of, part};
-use log_lines::{CloseReason, closed};
+use log_lines::{CloseReason, ConnectionEnd, Traffic, closed};
 use session::Fault;
 use std::alloc::Global;
 use std::io;
@@ -40,9 +40,55 @@ const FAULTS: [Fault; 15] = [
     Fault::TooManyTurns,
 ];
 
-// A connection 7 that is closed for this reason.
+// A connection 7 that is closed for this reason, one of two, with nothing said or sent.
 fn told(alloc: Global, reason: CloseReason) -> io::Result<String> {
-    in_text(alloc, closed(alloc, conn_of(7)?, reason))
+    let closing = ConnectionEnd {
+        reason,
+        realm: None,
+        authid: None,
+        traffic: Traffic::NONE,
+    };
+    in_text(alloc, closed(alloc, conn_of(7)?, &closing, 1))
+}
+
+/// One whose realm, or the authid in it, wasn't granted: `realm [authid]`.
+pub fn asked(alloc: Global, rest: &str) -> io::Result<String> {
+    let (realm, authid) = part(rest);
+    let realm = word_of(alloc, realm)?;
+    let authid = word_of(alloc, authid)?;
+    let is_named = !authid.as_str().is_empty();
+    let closing = ConnectionEnd {
+        reason: CloseReason::NotAdmitted,
+        realm: Some(realm.as_str()),
+        authid: if is_named {
+            Some(authid.as_str())
+        } else {
+            None
+        },
+        traffic: Traffic::NONE,
+    };
+    in_text(alloc, closed(alloc, conn_of(7)?, &closing, 0))
+}
+
+/// One whose session said and was sent so much: messages, EVENTs, octets in, octets out, refused.
+pub fn traffic(alloc: Global, rest: &str) -> io::Result<String> {
+    let (_, events) = part(rest);
+    let (_, octets_in) = part(events);
+    let (_, octets_out) = part(octets_in);
+    let (_, refused) = part(octets_out);
+    let closing = ConnectionEnd {
+        reason: CloseReason::Goodbye,
+        realm: None,
+        authid: None,
+        traffic: Traffic {
+            received: number_of(rest),
+            events: number_of(events),
+            octets_in: number_of(octets_in),
+            octets_out: number_of(octets_out),
+            refused: number_of(refused),
+        },
+    };
+    in_text(alloc, closed(alloc, conn_of(7)?, &closing, 1))
 }
 
 /// So many items wait for it.

@@ -13,6 +13,7 @@
 
 mod case;
 mod closing;
+mod telling;
 
 use case::Case;
 use case_text::tell_all;

@@ -1,5 +1,5 @@
 //! A case: the input of a replay, the devices that it is read from and written to, and the run.
-use crate::commands::{command, explained, failure, reports};
+use crate::commands::{command, explained, failure, reports, served, warned};
 use crate::script::Script;
 use case_text::{Table, line_of};
 use command_line::Fault;
@@ -47,6 +47,8 @@ impl Case {
         match word {
             "command" => return command(alloc, text),
             "explain" => return explained(alloc, text),
+            "served" => return served(alloc, text),
+            "warned" => return warned(alloc, text),
             "reason" => return failure(alloc, &Fault::ListenFault, text),
             "grants" => self.script.grants = String::from_str(alloc, text)?,
             "read" => self.script.failing_read = call_of(text),

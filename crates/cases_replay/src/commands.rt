@@ -1,10 +1,14 @@
 //! Words of a command line, and faults as they are reported.
 use crate::clients::{publish_line, subscribe_line};
 use broker_config::{Config, Ids};
-use command_line::{Command, Fault, explain, read_command, report, report_failure, shown_line};
+use command_line::{
+    Command, Fault, Purpose, Serving, explain, read_command, report, report_failure, served_lines,
+    shown_line, warn_of_exposure,
+};
 use rawsocket::devices::MemorySink;
 use std::alloc::{AllocError, Global};
 use std::io;
+use std::net::IpAddr;
 
 /// Words, which stand apart by spaces.
 fn words_of(alloc: Global, text: &str) -> Result<Vec<String>, AllocError> {
@@ -30,13 +34,19 @@ pub fn command(alloc: Global, text: &str) -> io::Result<String> {
                 port,
                 config,
                 log,
+                stats,
+                purpose,
             },
         ) => {
-            let mut line = serve_line(alloc, host.as_str(), port, &config)?;
-            if log {
-                line.insert_str(0, "logged ")?;
-            }
-            Ok(line)
+            let serving = Serving {
+                purpose,
+                host,
+                port,
+                config,
+                log,
+                stats,
+            };
+            serve_line(alloc, &serving)
         }
         Ok(Command::Subscribe(command)) => subscribe_line(alloc, &command),
         Ok(Command::Publish(command)) => publish_line(alloc, &command),
@@ -81,15 +91,80 @@ fn help_line(alloc: Global, help: &str) -> io::Result<String> {
     Ok(String::from_str(alloc, told)?)
 }
 
-/// What a broker is served with.
-fn serve_line(alloc: Global, host: &str, port: u16, config: &Config) -> io::Result<String> {
-    let ids = match config.ids {
+/// What a broker is served with, or checked.
+fn serve_line(alloc: Global, serving: &Serving) -> io::Result<String> {
+    let purpose = match serving.purpose {
+        Purpose::Serve => "serve",
+        Purpose::Check => "check",
+        Purpose::CheckUnbound => "check unbound",
+    };
+    let ids = match serving.config.ids {
         Ids::Random => "random",
         Ids::Count => "count",
     };
-    let outbox = config.outbox;
-    let start = format!(in alloc; "serve {host} {port} outbox {outbox} ids {ids}")?;
-    config_line(start, config)
+    let mut line = log_words(alloc, serving)?;
+    let host = serving.host.as_str();
+    let port = serving.port;
+    let outbox = serving.config.outbox;
+    let place = format!(in alloc; "{purpose} {host} {port} outbox {outbox} ids {ids}")?;
+    line.push_str(place.as_str())?;
+    config_line(line, &serving.config)
+}
+
+/// Whether there is a log, and how often it tells of each realm, if it does.
+fn log_words(alloc: Global, serving: &Serving) -> io::Result<String> {
+    let mut words = String::new(alloc);
+    if serving.log {
+        words.push_str("logged ")?;
+    }
+    if let Some(seconds) = serving.stats {
+        words.push_str(format!(in alloc; "every {seconds} ")?.as_str())?;
+    }
+    Ok(words)
+}
+
+/// What a broker would serve by these words, as `--check` prints it.
+pub fn served(alloc: Global, text: &str) -> io::Result<String> {
+    let serving = match read_command(alloc, &words_of(alloc, text)?) {
+        Ok(
+            Command::Serve {
+                host,
+                port,
+                config,
+                log,
+                stats,
+                purpose,
+            },
+        ) => Serving {
+            purpose,
+            host,
+            port,
+            config,
+            log,
+            stats,
+        },
+        Err(Fault::NoMemory) => return Err(AllocError)?,
+        _ => return Ok(String::from_str(alloc, "no broker\n")?),
+    };
+    let lines = served_lines(alloc, &serving)?;
+    Ok(String::from_str(alloc, std::str::from_utf8(&lines).unwrap_or(""))?)
+}
+
+/// What is told where a broker listens at this address.
+pub fn warned(alloc: Global, text: &str) -> io::Result<String> {
+    let Ok(address) = text.parse::<IpAddr>() else {
+        return Ok(String::from_str(alloc, "no address\n")?);
+    };
+    let mut sink = MemorySink::new(alloc);
+    warn_of_exposure(address, &mut sink);
+    if sink.octets().is_empty() {
+        if address.is_unspecified() {
+            // A sink without memory takes nothing.
+            return Err(AllocError)?;
+        }
+        return Ok(String::from_str(alloc, "no warning\n")?);
+    }
+    Ok(String::from_str(alloc, std::str::from_utf8(sink.octets()).unwrap_or(""))?)
 }
 
 /// A line that goes on with the realms and the grants.

@@ -10,6 +10,8 @@
 //!   none does, and says how many octets were written and the fault: a line for those that come to the same.
 //! - `command WORDS`: what is read of these words of a command line.
 //! - `explain WORDS`: what is written of these words, which are refused, and the exit status.
+//! - `served WORDS`: what a broker would serve by these words, as `serve --check` prints it.
+//! - `warned ADDRESS`: what is told where a broker listens at this address.
 //! - `reason TEXT`: what is written of a fault with this reason, and the exit status.
 //! - `reports`: what is reported of each fault, and the exit status.
 #![tactic(auto)]

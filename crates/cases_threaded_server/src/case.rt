@@ -17,7 +17,7 @@ use std::os::unix::net::UnixStream;
 use std::random::RandomSource;
 use std::sync::Wait;
 use std::thread::Threads;
-use std::time::Clock;
+use std::time::{Clock, CpuClock};
 use threaded_server::{Acceptor, Config, Ids, Log, Seats, copy_grants, serve_logged};
 use wamp_ids::Topic;
 
@@ -143,11 +143,9 @@ impl Case {
     }
 
     /// Serves the clients over pairs of connected sockets.
-    pub fn serve<R: Threads + Wait + Clock + RandomSource + Net + Drop + Copy + Send + 'static>(
-        &mut self,
-        rt: R,
-        alloc: Global,
-    ) -> io::Result<String> {
+    pub fn serve<
+        R: Threads + Wait + Clock + CpuClock + RandomSource + Net + Drop + Copy + Send + 'static,
+    >(&mut self, rt: R, alloc: Global) -> io::Result<String> {
         let config = self.config(alloc)?;
         let mut script = Script::new(rt, alloc, self.take_steps(alloc));
         let mut told = run(rt, alloc, &mut script, &config, None)?;
@@ -160,7 +158,7 @@ impl Case {
 
     /// Does what [`Case::serve`] does with a log, and tells that in place of what the clients got: its lines, sorted.
     pub fn serve_logged<
-        R: Threads + Wait + Clock + RandomSource + Net + Drop + Copy + Send + 'static,
+        R: Threads + Wait + Clock + CpuClock + RandomSource + Net + Drop + Copy + Send + 'static,
     >(&mut self, rt: R, alloc: Global) -> io::Result<String> {
         let config = self.config(alloc)?;
         let mut script = Script::new(rt, alloc, self.take_steps(alloc));
@@ -175,7 +173,7 @@ impl Case {
 
     /// Does so many times what [`Case::serve`] does once. Where it is told the same each time it is told once.
     pub fn serve_often<
-        R: Threads + Wait + Clock + RandomSource + Net + Drop + Copy + Send + 'static,
+        R: Threads + Wait + Clock + CpuClock + RandomSource + Net + Drop + Copy + Send + 'static,
     >(&mut self, rt: R, alloc: Global, times: u64) -> io::Result<String> {
         let steps = self.take_steps(alloc);
         let mut first = None;
@@ -199,6 +197,7 @@ impl Case {
             + RandomSource
             + Net<Stream = TcpStream, Listener = TcpListener>
             + Clock
+            + CpuClock
             + Drop
             + Copy
             + Send
@@ -252,11 +251,23 @@ fn copies_of(alloc: Global, steps: &VecDeque<Step>) -> io::Result<VecDeque<Step>
     Ok(copies)
 }
 
-// The same lines, sorted.
+// A line of the log up to what differs from run to run: how many connections there were, what a session did, and when it was told.
+fn steady(line: &str) -> &str {
+    let told = match line.split_once(" connections=") {
+        Some((front, _)) => front,
+        None => line,
+    };
+    match told.split_once(" at=") {
+        Some((front, _)) => front,
+        None => told,
+    }
+}
+
+// The same lines, sorted, without what differs from run to run.
 fn sorted(alloc: Global, text: &str) -> io::Result<String> {
     let mut lines: Vec<&str> = Vec::new(alloc);
     for line in text.lines() {
-        lines.push(line)?;
+        lines.push(steady(line))?;
     }
     lines.sort()?;
     let mut all = String::new(alloc);
@@ -268,7 +279,7 @@ fn sorted(alloc: Global, text: &str) -> io::Result<String> {
 }
 
 // How serving ended.
-fn run<R: Threads + Wait + Clock + RandomSource + Copy + Send + 'static, A: Acceptor>(
+fn run<R: Threads + Wait + Clock + CpuClock + RandomSource + Copy + Send + 'static, A: Acceptor>(
     rt: R,
     alloc: Global,
     acceptor: &mut A,

@@ -1,11 +1,14 @@
 -- What a command line asks for, and what a fault means to the program.
-use Rattle.std.specs.Prelude.{◌≡◌, ◌⊎◌, ℕ, Bool, true, false, not, ◌&&◌, ◌||◌, MatchOption, List, [], ◌∷◌, ◌++◌, ◌<◌, ◌≤◌, codes, decimal, length, ⊤, String, string_bytes}
+use Rattle.std.specs.Prelude.{◌≡◌, ◌⊎◌, ℕ, Bool, true, false, not, ◌&&◌, ◌||◌, MatchOption, None, Some, List, [], ◌∷◌, ◌++◌, ◌<◌, ◌≤◌, codes, decimal, length, ⊤, String, string_bytes, if◌then◌else◌}
 use Rattle.std.specs.declared.alloc.Global.{Global}
+use Rattle.std.specs.declared.option.Option.{Option}
 use Rattle.std.specs.List.{list_any}
 use Rattle.std.specs.Str.{bytes_eq}
 use Rattle.session.specs.Opened.{AreUsedUp}
 use Rattle.broker_config.specs.declared.config.Config.{Config}
 use Rattle.command_line.specs.declared.command.Command.{Command}
+use Rattle.command_line.specs.declared.serving.Purpose.{Purpose}
+use Rattle.command_line.specs.declared.serving.Purpose.TheVariants as purpose
 use Rattle.command_line.specs.declared.command.Command.TheVariants.{Help, Version, Replay, Serve, Subscribe, Publish, PublishFile}
 use Rattle.command_line.specs.declared.refusal.CommandRefusal.{CommandRefusal}
 use Rattle.command_line.specs.declared.refusal.CommandRefusal.TheVariants.{NoMemory as WordsNoMemory, Usage as WordsRefused}
@@ -48,7 +51,7 @@ abbrev pub IsRunnable : Command → Type 0
 IsRunnable (Help text) = ⊤
 IsRunnable (Version text) = ⊤
 IsRunnable (Replay config) = 0 < length config.realms.items
-IsRunnable (Serve host port config log) = (1 ≤ port) × IsServable config
+IsRunnable (Serve host port config log stats purpose) = (1 ≤ port) × IsServable config
 IsRunnable (Subscribe command) = IsReachable command.contact × (1 ≤ length command.topics.items) × MatchOption command.count ⊤ (λ count. 1 ≤ count)
 IsRunnable (Publish command) = IsReachable command.contact
 IsRunnable (PublishFile path command) = IsReachable command.contact
@@ -67,7 +70,7 @@ abbrev pub IsVersion : Command → Type 0
 IsVersion (Version text) = ⊤
 IsVersion (Help text) = ⊥
 IsVersion (Replay config) = ⊥
-IsVersion (Serve host port config log) = ⊥
+IsVersion (Serve host port config log stats purpose) = ⊥
 IsVersion (Subscribe command) = ⊥
 IsVersion (Publish command) = ⊥
 IsVersion (PublishFile path command) = ⊥
@@ -77,10 +80,44 @@ abbrev pub SaysVersion : Command → Type 0
 SaysVersion (Version text) = string_bytes text ≡ version_line
 SaysVersion (Help text) = ⊤
 SaysVersion (Replay config) = ⊤
-SaysVersion (Serve host port config log) = ⊤
+SaysVersion (Serve host port config log stats purpose) = ⊤
 SaysVersion (Subscribe command) = ⊤
 SaysVersion (Publish command) = ⊤
 SaysVersion (PublishFile path command) = ⊤
+
+-- one of these words is this option: what stands behind `--` is none
+abbrev pub has_option : List ℕ → List (String Global) → Bool
+has_option option [] = false
+has_option option (word ∷ words) = if bytes_eq (string_bytes word) (codes "--") then false else bytes_eq (string_bytes word) option || has_option option words
+
+-- what the words of `serve` ask for
+abbrev pub purpose_of : List (String Global) → Purpose
+purpose_of words = if has_option (codes "--check") words then (if has_option (codes "--no-bind") words then purpose.CheckUnbound else purpose.Check) else purpose.Serve
+
+-- where the words of `serve` are read, this is what they ask for
+abbrev pub SuitsPurpose : Purpose → Command → Type 0
+SuitsPurpose wanted (Serve host port config log stats purpose) = purpose ≡ wanted
+SuitsPurpose wanted (Version text) = ⊤
+SuitsPurpose wanted (Help text) = ⊤
+SuitsPurpose wanted (Replay config) = ⊤
+SuitsPurpose wanted (Subscribe command) = ⊤
+SuitsPurpose wanted (Publish command) = ⊤
+SuitsPurpose wanted (PublishFile path command) = ⊤
+
+-- how often a log tells of each realm, in seconds, where it does: from 1 to a day, and there is a log
+abbrev pub IsInterval : Bool → Option ℕ → Type 0
+IsInterval log None = ⊤
+IsInterval log (Some seconds) = (1 ≤ seconds) × (seconds ≤ 86400) × (log ≡ true)
+
+-- where a log is to tell of each realm, there is one, and it tells every 1 to 86,400 seconds
+abbrev pub SuitsLog : Command → Type 0
+SuitsLog (Serve host port config log stats purpose) = IsInterval log stats
+SuitsLog (Version text) = ⊤
+SuitsLog (Help text) = ⊤
+SuitsLog (Replay config) = ⊤
+SuitsLog (Subscribe command) = ⊤
+SuitsLog (Publish command) = ⊤
+SuitsLog (PublishFile path command) = ⊤
 
 -- the fault of words that are refused
 abbrev pub fault_of_refusal : CommandRefusal → Fault
@@ -160,6 +197,10 @@ line_number FileFault = []
 -- the line by which the program tells of a fault
 abbrev pub fault_line : Fault → List ℕ
 fault_line fault = codes "wampd: " ++ (name_of fault ++ (line_number fault ++ 10 ∷ []))
+
+-- what is told where a broker listens at every address of the machine
+abbrev pub exposure_warning : List ℕ
+exposure_warning = codes "wampd: warning: this --host is every address of the machine: whoever reaches the port can publish and subscribe without a password; a firewall keeps others out, or --host 127.0.0.1 behind a proxy" ++ 10 ∷ []
 
 -- these octets were written, unless all turns were used up
 abbrev pub IsWritten : List ℕ → List ℕ → List ℕ → ℕ → ℕ → Type 0

@@ -2,3 +2,4 @@ pub mod Commands
 pub mod Reasons
 pub mod Grants
 pub mod Sessions
+pub mod Served

@@ -1,6 +1,6 @@
 //! What a command line asks for.
 ghost use Rattle.std.specs.Prelude.{◌≡◌, ◌⊎◌, ◌≤◌, true, IfErr, IfOk, length, string_bytes};
-ghost use Rattle.command_line.specs.Commands.{IsRunnable, IsVersion, SaysVersion, are_distinct, asks_for_version, is_among};
+ghost use Rattle.command_line.specs.Commands.{IsInterval, IsRunnable, IsVersion, SaysVersion, SuitsLog, SuitsPurpose, are_distinct, asks_for_version, has_option, is_among, purpose_of};
 ghost use Rattle.command_line.specs.Reasons.{EndsIn, NamesValue, command_of, hint, no_realm};
 
 use crate::clients::{read_publish, read_subscribe};
@@ -8,6 +8,7 @@ use crate::fault::Fault;
 use crate::grammar::grammar;
 use crate::grants::{read_grants, wrong_grants};
 use crate::refusal::{CommandRefusal, command_of, one_line, refused, refused_value, with_hint};
+use crate::serving::Purpose;
 use crate::version::{asks_for_version, version};
 use broker_config::{Config, Ids};
 use clap::ArgMatches;
@@ -28,6 +29,9 @@ const MOST_OUTBOX: usize = 65536;
 /// The most realms.
 const MOST_REALMS: usize = 16;
 
+/// The most seconds from one time that the log tells of each realm to the next: a day.
+const LONGEST_INTERVAL: u32 = 86400;
+
 /// What the words behind `serve` are, to the parser.
 const REALMS: &str = "<REALM>...";
 
@@ -40,7 +44,7 @@ pub enum Command {
     Version(String),
     /// A replay of the first realm.
     Replay(Config),
-    /// A broker over TCP.
+    /// A broker over TCP, or a check of what one would serve.
     Serve {
         /// The name or address that it listens at.
         host: String,
@@ -50,6 +54,10 @@ pub enum Command {
         config: Config,
         /// Whether it tells on standard error what happens to connections.
         log: bool,
+        /// How often that tells of each realm, in seconds from 1 to 86,400, if it does; only where `log` is true.
+        stats: Option<u32>,
+        /// Whether it is served, or only checked.
+        purpose: Purpose,
     },
     /// A client that prints events.
     Subscribe(SubscribeCommand),
@@ -75,6 +83,8 @@ pub fn read_command(alloc: Global, words: &[String]) -> Result<Command, Fault>
     ensures asked { asks_for_version words.now ≡ true
         → IfErr result (λ fault. fault ≡ Fault.NoMemory) }
     ensures says { IfOk result SaysVersion }
+    ensures purpose { IfOk result (SuitsPurpose (purpose_of words.now)) }
+    ensures stats { IfOk result SuitsLog }
 {
     match read_words(alloc, words) {
         Ok(command) => Ok(command),
@@ -122,12 +132,14 @@ fn read_words(alloc: Global, words: &[String]) -> Result<Command, CommandRefusal
     ensures asked { asks_for_version words.now ≡ true
         → IfErr result (λ refusal. refusal ≡ CommandRefusal.NoMemory) }
     ensures says { IfOk result SaysVersion }
+    ensures purpose { IfOk result (SuitsPurpose (purpose_of words.now)) }
+    ensures stats { IfOk result SuitsLog }
 {
     if asks_for_version(words) {
         return Ok(Command::Version(version(alloc)?));
     }
     match grammar(alloc)?.try_get_matches_from(words) {
-        Ok(matches) => read_matches(alloc, &matches),
+        Ok(matches) => read_matches(alloc, &matches, purpose_of(words)),
         Err(error) => read_error(alloc, &error),
     }
 }
@@ -136,6 +148,8 @@ fn read_words(alloc: Global, words: &[String]) -> Result<Command, CommandRefusal
 fn read_error(alloc: Global, error: &clap::Error) -> Result<Command, CommandRefusal>
     ensures runnable { IfOk result IsRunnable }
     ensures says { IfOk result SaysVersion }
+    ensures purpose { (wanted : Purpose) → IfOk result (SuitsPurpose wanted) }
+    ensures stats { IfOk result SuitsLog }
 {
     match error.kind() {
         ErrorKind::DisplayHelp => Ok(Command::Help(format!(in alloc; "{error}")?)),
@@ -148,10 +162,16 @@ fn read_error(alloc: Global, error: &clap::Error) -> Result<Command, CommandRefu
     }
 }
 
-/// What the words that were found ask for.
-fn read_matches(alloc: Global, matches: &ArgMatches<'_>) -> Result<Command, CommandRefusal>
+/// What the words that were found ask for; those of `serve` for this.
+fn read_matches(
+    alloc: Global,
+    matches: &ArgMatches<'_>,
+    purpose: Purpose,
+) -> Result<Command, CommandRefusal>
     ensures runnable { IfOk result IsRunnable }
     ensures says { IfOk result SaysVersion }
+    ensures purpose { IfOk result (SuitsPurpose purpose) }
+    ensures stats { IfOk result SuitsLog }
 {
     if let Some(replay) = matches.subcommand_matches("replay") {
         return read_replay(alloc, replay);
@@ -163,7 +183,7 @@ fn read_matches(alloc: Global, matches: &ArgMatches<'_>) -> Result<Command, Comm
         return read_publishing(alloc, publish);
     }
     match matches.subcommand_matches("serve") {
-        Some(serve) => read_serve(alloc, serve),
+        Some(serve) => read_serve(alloc, serve, purpose),
         None => refused(
             alloc,
             "a command is missing: replay, serve, subscribe or publish",
@@ -175,6 +195,8 @@ fn read_matches(alloc: Global, matches: &ArgMatches<'_>) -> Result<Command, Comm
 fn read_publishing(alloc: Global, publish: &ArgMatches<'_>) -> Result<Command, CommandRefusal>
     ensures runnable { IfOk result IsRunnable }
     ensures says { IfOk result SaysVersion }
+    ensures purpose { (wanted : Purpose) → IfOk result (SuitsPurpose wanted) }
+    ensures stats { IfOk result SuitsLog }
 {
     let command = read_publish(alloc, publish)?;
     match publish.get_str("file") {
@@ -190,6 +212,8 @@ fn read_publishing(alloc: Global, publish: &ArgMatches<'_>) -> Result<Command, C
 fn read_replay(alloc: Global, replay: &ArgMatches<'_>) -> Result<Command, CommandRefusal>
     ensures runnable { IfOk result IsRunnable }
     ensures says { IfOk result SaysVersion }
+    ensures purpose { (wanted : Purpose) → IfOk result (SuitsPurpose wanted) }
+    ensures stats { IfOk result SuitsLog }
 {
     let Some(realm) = replay.get_str("realm") else {
         return refused(alloc, "no realm is named");
@@ -203,10 +227,16 @@ fn read_replay(alloc: Global, replay: &ArgMatches<'_>) -> Result<Command, Comman
     }))
 }
 
-/// What the words after `serve` ask for.
-fn read_serve(alloc: Global, serve: &ArgMatches<'_>) -> Result<Command, CommandRefusal>
+/// What the words after `serve` ask for, which is to be served or checked.
+fn read_serve(
+    alloc: Global,
+    serve: &ArgMatches<'_>,
+    purpose: Purpose,
+) -> Result<Command, CommandRefusal>
     ensures runnable { IfOk result IsRunnable }
     ensures says { IfOk result SaysVersion }
+    ensures purpose { IfOk result (SuitsPurpose purpose) }
+    ensures stats { IfOk result SuitsLog }
 {
     let port = read_port(alloc, serve)?;
     let host = String::from_str(alloc, serve.get_str("host").unwrap_or(HOST))?;
@@ -216,12 +246,43 @@ fn read_serve(alloc: Global, serve: &ArgMatches<'_>) -> Result<Command, CommandR
         outbox: read_outbox(alloc, serve)?,
         ids: read_ids(alloc, serve)?,
     };
+    let log = serve.get_flag("log");
     Ok(Command::Serve {
         host,
         port,
         config,
-        log: serve.get_flag("log"),
+        log,
+        stats: read_stats(alloc, serve, log)?,
+        purpose,
     })
+}
+
+/// What the words of `serve` ask for. The grammar lets `--no-bind` stand only beside `--check`.
+fn purpose_of(words: &[String]) -> Purpose
+    ensures { result ≡ purpose_of words.now }
+{
+    if !has_option(words, "--check") {
+        Purpose::Serve
+    } else if has_option(words, "--no-bind") {
+        Purpose::CheckUnbound
+    } else {
+        Purpose::Check
+    }
+}
+
+/// Whether one of the words is this option. Behind `--` stand realms.
+fn has_option(words: &[String], option: &str) -> bool
+    ensures { result ≡ has_option option.now words.now }
+{
+    for word in words {
+        if word.as_str() == "--" {
+            return false;
+        }
+        if word.as_str() == option {
+            return true;
+        }
+    }
+    false
 }
 
 /// Why a text is no realm.
@@ -337,6 +398,31 @@ fn read_outbox(alloc: Global, serve: &ArgMatches<'_>) -> Result<usize, CommandRe
             text,
             "--outbox <ITEMS>",
             "a number from 1 to 65536 is wanted",
+        ),
+    }
+}
+
+/// How often the log, which has to be asked for then, tells of each realm, in seconds, if it does.
+fn read_stats(
+    alloc: Global,
+    serve: &ArgMatches<'_>,
+    log: bool,
+) -> Result<Option<u32>, CommandRefusal>
+    ensures { IfOk result (IsInterval log) }
+{
+    let Some(text) = serve.get_str("stats") else {
+        return Ok(None);
+    };
+    if !log {
+        return refused(alloc, "--stats needs --log");
+    }
+    match text.parse::<u32>() {
+        Ok(seconds) if 1 <= seconds && seconds <= LONGEST_INTERVAL => Ok(Some(seconds)),
+        _ => refused_value(
+            alloc,
+            text,
+            "--stats <SECONDS>",
+            "a number from 1 to 86400 is wanted",
         ),
     }
 }

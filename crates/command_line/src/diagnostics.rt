@@ -4,11 +4,13 @@ ghost use Rattle.rawsocket.specs.Devices.{Takes, TakesBeginning};
 ghost use Rattle.rawsocket.specs.Steps.{Steps, device_told, told_by, write_meter};
 ghost use Rattle.rawsocket.specs.declared.fault.Fault.TheVariants.{WriteFault as WriteFailed, TooManyTurns as NoTurnLeft};
 ghost use Rattle.session.specs.Opened.{AreUsedUp, AreWithinTurns};
-ghost use Rattle.command_line.specs.Commands.{IsWritten, fault_line, line_number, name_of, status_of};
+ghost use Rattle.command_line.specs.Commands.{IsWritten, exposure_warning, fault_line, line_number, name_of, status_of};
+ghost use Rattle.std.specs.Net.Addr.{IsUnspecifiedV4, IsUnspecifiedV6, MatchIp};
 
 use crate::fault::Fault;
 use itoa::Buffer;
 use rawsocket::devices::{Sink, Turns, send, write_all};
+use std::net::IpAddr;
 
 /// The name of a fault, without the line's number.
 fn name(fault: &Fault) -> &'static str
@@ -140,4 +142,34 @@ pub fn report_failure<S: Sink>(fault: &Fault, more: &[u8], sink: &mut S) -> u8
     let mut turns = Turns::new();
     let _ = write_failure(fault, more, sink, &mut turns);
     status(fault)
+}
+
+/// What is told where a broker listens at every address of the machine.
+const EXPOSURE: &[u8] =
+    b"wampd: warning: this --host is every address of the machine: whoever reaches the port can publish \
+    and subscribe without a password; a firewall keeps others out, or --host 127.0.0.1 behind a proxy\n";
+
+/// Warns, in a line, where a broker that listens at this address listens at every one of the machine: `0.0.0.0`, `::`. A sink that fails is
+/// passed over. It takes no memory.
+pub fn warn_of_exposure<S: Sink>(address: IpAddr, sink: &mut S)
+    ensures warned { MatchIp address IsUnspecifiedV4 IsUnspecifiedV6
+        → (S.seen sink.new).failures ≡ (S.seen sink.old).failures → IsWritten exposure_warning
+        (S.seen sink.old).taken (S.seen sink.new).taken (S.seen sink.old).calls
+        (S.seen sink.new).calls }
+    ensures silent { (MatchIp address IsUnspecifiedV4 IsUnspecifiedV6 → ⊥)
+        → S.seen sink.new ≡ S.seen sink.old }
+{
+    if address.is_unspecified() {
+        write_warning(sink);
+    }
+}
+
+/// Writes the warning.
+fn write_warning<S: Sink>(sink: &mut S)
+    ensures { (S.seen sink.new).failures ≡ (S.seen sink.old).failures → IsWritten exposure_warning
+        (S.seen sink.old).taken (S.seen sink.new).taken (S.seen sink.old).calls
+        (S.seen sink.new).calls }
+{
+    let mut turns = Turns::new();
+    let _ = send(sink, EXPOSURE, &mut turns);
 }

@@ -61,6 +61,20 @@ fn serve<'a>(alloc: Global) -> Result<Command<'a>, AllocError> {
             "Tell on standard error what happens to connections, a line each",
         ))?
         .arg(
+            option(alloc, "stats")
+                .value_name("SECONDS")
+                .requires_arg("log")?
+                .help("How often, in seconds, the log tells of each realm (needs --log)"),
+        )?
+        .arg(flag(alloc, "check").help(
+            "Serve nothing: print what would be served, and end with status 0, or by the fault that serving would end by",
+        ))?
+        .arg(
+            flag(alloc, "no-bind").requires_arg("check")?.help(
+                "With --check: leave the port alone, as a broker that runs has it",
+            ),
+        )?
+        .arg(
             Arg::new(alloc, "realm")
                 .value_name("REALM")
                 .help("The realms, from 1 to 16")

@@ -12,10 +12,13 @@ mod grammar;
 mod grants;
 mod printable;
 mod refusal;
+mod serving;
 mod version;
 
 pub use command::{Command, explain, help, read_command};
-pub use diagnostics::{report, report_failure};
+pub use diagnostics::{report, report_failure, warn_of_exposure};
 pub use fault::Fault;
 pub use grants::read_grants;
 pub use printable::shown_line;
+pub use serving::{Purpose, Serving, served_lines};
+pub use version::VERSION;

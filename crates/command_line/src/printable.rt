@@ -73,7 +73,7 @@ fn line_of(alloc: Global, octets: &[u8]) -> Result<Vec<u8>, AllocError>
 }
 
 /// Adds octets as they are shown.
-fn push_all(line: &mut Vec<u8>, octets: &[u8]) -> Result<(), AllocError>
+pub fn push_all(line: &mut Vec<u8>, octets: &[u8]) -> Result<(), AllocError>
     ensures added { OnOk result (line.new.items ≡ line.old.items ++ shown octets.now) }
 {
     for octet in octets {

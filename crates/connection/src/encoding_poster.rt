@@ -3,7 +3,7 @@ ghost use Rattle.std.specs.Prelude.{◌≡◌, ◌∷◌, [], MatchResult, false
 ghost use Rattle.realm_inbox.specs.Joins.{is_join};
 ghost use Rattle.realm_inbox.specs.Posted.{with_acts};
 
-use crate::in_use::InUse;
+use crate::in_use::{InUse, Using};
 use rawsocket::Serializer;
 use realm_inbox::{Act, Posting, Shut};
 use std::alloc::Global;
@@ -11,8 +11,8 @@ use std::sync::Wait;
 use wamp_messages::{Publish, Said};
 
 /// Posts what a client does by way of `poster`. The arguments of a PUBLISH get the octets beside them that they are in an EVENT in JSON
-/// ([`session::Args::with_json`]), where two live sessions or more use JSON beside the publisher's; so the writers of its receivers copy octets, and
-/// the work is done by the publisher's reader, beside the realm's actor.
+/// ([`session::Args::with_json`]), where two live sessions or more that subscribed use JSON beside the publisher's; so the writers of its receivers
+/// copy octets, and the work is done by the publisher's reader, beside the realm's actor. The client is counted itself once it subscribes.
 ///
 /// What is posted is the same to every contract. Where memory is refused for the octets, the arguments are posted without them. The
 /// realm keeps none of them with a publication that it retains.
@@ -20,10 +20,12 @@ use wamp_messages::{Publish, Said};
 pub struct EncodingPoster<'a, P> {
     /// Where the octets are kept.
     pub alloc: Global,
-    /// What the live sessions of the realm use.
+    /// What the live sessions of the realm use that subscribed.
     pub in_use: &'a InUse,
     /// What the client itself uses.
     pub own: Serializer,
+    /// That it is counted, once it has subscribed.
+    pub using: Option<Using>,
     /// Posts it.
     pub poster: P,
 }
@@ -37,13 +39,35 @@ impl<S: Shut, P: Posting<S>> Posting<S> for EncodingPoster<'_, P> {
             P.posted self.new.poster ≡ with_acts (P.posted self.old.poster) (act ∷ []))
             (λ back. (back ≡ act) × (P.posted self.new.poster ≡ P.posted self.old.poster)) }
     {
-        let act = encoded(self.alloc, self.in_use, self.own, act);
+        let own = counted(&mut self.using, self.in_use, self.own, &act);
+        let act = encoded(self.alloc, self.in_use, own, act);
         self.poster.post(rt, act, octets)
     }
 }
 
+// What the client uses, where it is counted: from its first SUBSCRIBE on.
+fn counted<S: Shut>(
+    using: &mut Option<Using>,
+    in_use: &InUse,
+    own: Serializer,
+    act: &Act<S>,
+) -> Option<Serializer> {
+    if using.is_none() && subscribes(act) {
+        *using = in_use.enter(own).ok();
+    }
+    if using.is_some() { Some(own) } else { None }
+}
+
+// Whether it is a SUBSCRIBE.
+fn subscribes<S: Shut>(act: &Act<S>) -> bool {
+    match act {
+        Act::Said(Said::Subscribe { .. }) => true,
+        _ => false,
+    }
+}
+
 // The same act. MessagePack's octets are what arguments are held as, so only JSON's are made.
-fn encoded<S: Shut>(alloc: Global, in_use: &InUse, own: Serializer, act: Act<S>) -> Act<S>
+fn encoded<S: Shut>(alloc: Global, in_use: &InUse, own: Option<Serializer>, act: Act<S>) -> Act<S>
     ensures { result ≡ act }
 {
     if !in_use.is_shared(Serializer::Json, own) {

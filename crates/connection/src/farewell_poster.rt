@@ -7,7 +7,7 @@ use realm_inbox::{Act, Posting, Shut};
 use std::sync::Wait;
 use wamp_messages::Said;
 
-/// Posts what a client does by way of `poster`, and remembers whether it said ABORT, or HELLO once more.
+/// Posts what a client does by way of `poster`, counts it, and remembers whether it said ABORT, or HELLO once more.
 #[derive(Drop)]
 pub struct FarewellPoster<P> {
     /// Posts it.
@@ -16,6 +16,8 @@ pub struct FarewellPoster<P> {
     pub has_aborted: bool,
     /// Whether it said HELLO so far, for a second time then.
     pub has_greeted: bool,
+    /// How many messages and PINGs the client sent so far.
+    pub received: u64,
 }
 
 impl<S: Shut, P: Posting<S>> Posting<S> for FarewellPoster<P> {
@@ -29,7 +31,16 @@ impl<S: Shut, P: Posting<S>> Posting<S> for FarewellPoster<P> {
     {
         self.has_aborted = self.has_aborted || is_abort(&act);
         self.has_greeted = self.has_greeted || is_hello(&act);
+        self.received = self.received.wrapping_add(sent_by(&act));
         self.poster.post(rt, act, octets)
+    }
+}
+
+// How many messages and PINGs the client sends by this: one, or none.
+fn sent_by<S: Shut>(act: &Act<S>) -> u64 {
+    match act {
+        Act::Said(_) | Act::Ping(_) => 1,
+        _ => 0,
     }
 }
 

@@ -20,7 +20,7 @@ impl UseCounts {
     }
 }
 
-/// How many live sessions of a realm use each serialization. All holders of it share the same counts.
+/// How many live sessions of a realm that subscribed use each serialization. All holders of it share the same counts.
 ///
 /// It is a hint, by which a reader decides what is worth its time, and nothing is promised of it but safety: another thread may
 /// change a count at any time, so no contract can speak of one.
@@ -63,9 +63,10 @@ impl InUse {
         Ok(Using { in_use, serializer })
     }
 
-    /// Whether two sessions or more were counted that use the serialization, beside one that uses `own`.
-    pub fn is_shared(&self, serializer: Serializer, own: Serializer) -> bool {
-        let least = if own == serializer { 3 } else { 2 };
+    /// Whether two sessions or more were counted that use the serialization, beside the one that asks: that is counted as one that
+    /// uses `own`, or isn't counted.
+    pub fn is_shared(&self, serializer: Serializer, own: Option<Serializer>) -> bool {
+        let least = if own == Some(serializer) { 3 } else { 2 };
         self.counts.of(serializer).load(Ordering::SeqCst) >= least
     }
 }
@@ -74,13 +75,6 @@ impl InUse {
 pub struct Using {
     in_use: InUse,
     serializer: Serializer,
-}
-
-impl Using {
-    /// The counts that it is counted in.
-    pub fn in_use(&self) -> &InUse {
-        &self.in_use
-    }
 }
 
 impl Drop for Using {

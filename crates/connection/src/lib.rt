@@ -22,5 +22,5 @@ pub use encoding_poster::EncodingPoster;
 pub use farewell_poster::FarewellPoster;
 pub use in_use::{InUse, Using};
 pub use pongs::{AskedPongs, OwedPongs, PongPoster, share_pongs};
-pub use reader::{ReadEnd, read_posts};
+pub use reader::{ReadEnd, read_counted, read_posts};
 pub use writer::{Watch, WriteEnd, write_items, write_watched};

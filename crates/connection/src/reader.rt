@@ -312,6 +312,7 @@ fn read_on<R: Wait, S: Shut, I: Source, P: Posting<S>>(
     deframer: Deframer,
     buffer: &mut [u8],
     poster: &mut P,
+    octets: &mut u64,
 ) -> ReadEnd
     requires some { 0 < length buffer.old }
     requires piece { length buffer.old ≤ 65536 }
@@ -331,6 +332,7 @@ fn read_on<R: Wait, S: Shut, I: Source, P: Posting<S>>(
             Ok(count) => count,
             Err(none) => return ReadEnd::from(none),
         };
+        *octets = octets.wrapping_add(count as u64);
         let piece = &buffer[..count];
         if let Err(end) = advance(rt, alloc, serializer, &mut deframer, piece, poster) {
             return end;
@@ -361,6 +363,7 @@ fn read_up_to<R: Wait, S: Shut, I: Source, P: Posting<S>>(
     source: &mut I,
     opened: Opened,
     poster: &mut P,
+    octets: &mut u64,
 ) -> ReadEnd
     ensures posted { ReadsSince (I.seen source.old).given (I.seen source.new).given
         (P.posted poster.old) (P.posted poster.new) (IsReadUpTo
@@ -380,6 +383,7 @@ fn read_up_to<R: Wait, S: Shut, I: Source, P: Posting<S>>(
         opened.deframer,
         &mut buffer,
         poster,
+        octets,
     )
 }
 
@@ -404,6 +408,25 @@ pub fn read_posts<R: Wait, S: Shut, I: Source, P: Posting<S>>(
     ensures reads { ReadsUntil (read_meter (I.seen source.old)) (read_meter (I.seen source.new))
         result }
 {
-    let end = read_up_to(rt, alloc, source, opened, poster);
+    read_counted(rt, alloc, source, opened, poster, &mut 0)
+}
+
+/// The same. It adds to `octets` how many octets it read.
+pub fn read_counted<R: Wait, S: Shut, I: Source, P: Posting<S>>(
+    rt: &R,
+    alloc: Global,
+    source: &mut I,
+    opened: Opened,
+    poster: &mut P,
+    octets: &mut u64,
+) -> ReadEnd
+    ensures posted { ReadsSince (I.seen source.old).given (I.seen source.new).given
+        (P.posted poster.old) (P.posted poster.new)
+        (IsReadBy (start opened.serializer (contents opened.early.items) opened.deframer) result) }
+    ensures ended { result ≡ ReadEnd.Ended → (I.seen source.new).is_ended ≡ true }
+    ensures reads { ReadsUntil (read_meter (I.seen source.old)) (read_meter (I.seen source.new))
+        result }
+{
+    let end = read_up_to(rt, alloc, source, opened, poster, octets);
     leave(rt, poster, end)
 }

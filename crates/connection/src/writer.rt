@@ -48,6 +48,9 @@ pub trait Watch {
 
     /// The writer gives up, as it can't make the frame of the item, by this fault. Nothing of it is written.
     fn gives_up(&mut self, item: &Item, fault: Fault);
+
+    /// The writer has ended. So many octets were handed to the device.
+    fn ends(&mut self, _octets: u64) {}
 }
 
 /// Nobody watches.
@@ -84,6 +87,8 @@ struct Gathered {
     alloc: Global,
     frames: Vec<u8>,
     turns: Turns,
+    // How many octets were handed to the device, for who watches.
+    octets: u64,
 }
 
 impl Gathered {
@@ -96,6 +101,7 @@ impl Gathered {
             alloc,
             frames: Vec::new(alloc),
             turns: Turns::new(),
+            octets: 0,
         }
     }
 }
@@ -128,6 +134,7 @@ fn hand_over<S: Sink>(sink: &mut S, gathered: &mut Gathered) -> Result<(), Write
     if let Err(end) = write(sink, gathered.frames.as_slice(), &mut gathered.turns) {
         return Err(end);
     }
+    gathered.octets = gathered.octets.wrapping_add(gathered.frames.len() as u64);
     if gathered.frames.capacity() > KEPT {
         gathered.frames = Vec::new(gathered.alloc);
     } else {
@@ -160,6 +167,8 @@ fn hand_over_large<S: Sink>(
     if let Err(fault) = write(sink, end.closing, &mut gathered.turns) {
         return Err(fault);
     }
+    let octets = (end.arguments.len() as u64).wrapping_add(end.closing.len() as u64);
+    gathered.octets = gathered.octets.wrapping_add(octets);
     Ok(())
 }
 
@@ -426,6 +435,7 @@ fn write_until<R: Wait, H: Owed<Item>, S: Sink, W: Watch>(
     let mut gathered = Gathered::nothing(alloc);
     'items: for _ in rt.forever() {
         if let Err(end) = write_next(rt, &mut drain, sink, client, &mut gathered, watch, until) {
+            watch.ends(gathered.octets);
             return (drain, end);
         }
     }

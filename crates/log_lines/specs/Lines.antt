@@ -1,11 +1,18 @@
--- The lines, octet by octet.
-use Rattle.std.specs.Prelude.{ℕ, List, [], ◌∷◌, ◌++◌, codes, decimal}
+-- The lines, octet by octet, without their ends.
+use Rattle.std.specs.Prelude.{ℕ, List, Option, None, Some, [], ◌∷◌, ◌++◌, codes, decimal, option_map}
 use Rattle.rawsocket.specs.declared.handshake.Serializer.{Serializer}
 use Rattle.rawsocket.specs.declared.handshake.Serializer.TheVariants.{Json, MsgPack}
 use Rattle.session.specs.declared.fault.Fault.{Fault}
 use Rattle.session.specs.declared.fault.Fault.TheVariants as fault
-use Rattle.log_lines.specs.Values.{quoted}
+use Rattle.log_lines.specs.Values.{beginning, quoted}
+use Rattle.wamp_messages.specs.declared.item.Request.{Request}
+use Rattle.wamp_messages.specs.declared.item.Request.TheVariants.{Publish, Subscribe, Unsubscribe}
+use Rattle.log_lines.specs.declared.lines.BrokerSummary.{BrokerSummary}
+use Rattle.log_lines.specs.declared.lines.ConnectionEnd.{ConnectionEnd}
 use Rattle.log_lines.specs.declared.lines.Opening.{Opening}
+use Rattle.log_lines.specs.declared.lines.RefusedRequest.{RefusedRequest}
+use Rattle.log_lines.specs.declared.lines.RealmStats.{RealmStats}
+use Rattle.log_lines.specs.declared.lines.Traffic.{Traffic}
 use Rattle.log_lines.specs.declared.reason.ConnectionRefusal.{ConnectionRefusal}
 use Rattle.log_lines.specs.declared.reason.ConnectionRefusal.TheVariants.{NoSeat, NoMemory as OutOfMemory}
 use Rattle.log_lines.specs.declared.reason.CloseReason.{CloseReason}
@@ -14,23 +21,23 @@ use Rattle.log_lines.specs.declared.reason.Stopping.{Stopping}
 use Rattle.log_lines.specs.declared.reason.Stopping.TheVariants as stopping
 
 abbrev pub listening_line : List ℕ → ℕ → List ℕ
-listening_line host port = codes "listening host=" ++ quoted host ++ codes " port=" ++ decimal port ++ 10 ∷ []
+listening_line host port = codes "listening host=" ++ quoted host ++ codes " port=" ++ decimal port
 
-abbrev pub accepted_line : ℕ → List ℕ → List ℕ
-accepted_line conn peer = codes "accepted connection=" ++ decimal conn ++ codes " peer=" ++ quoted peer ++ 10 ∷ []
+abbrev pub accepted_line : ℕ → List ℕ → ℕ → List ℕ
+accepted_line conn peer connections = codes "accepted connection=" ++ decimal conn ++ codes " peer=" ++ quoted peer ++ (codes " connections=" ++ decimal connections)
 
 abbrev pub refusal_word : ConnectionRefusal → List ℕ
 refusal_word NoSeat = codes "no_seat"
 refusal_word OutOfMemory = codes "no_memory"
 
 abbrev pub refused_line : List ℕ → ConnectionRefusal → List ℕ
-refused_line peer refusal = codes "refused peer=" ++ quoted peer ++ codes " reason=" ++ refusal_word refusal ++ 10 ∷ []
+refused_line peer refusal = codes "refused peer=" ++ quoted peer ++ codes " reason=" ++ refusal_word refusal
 
 abbrev pub retained_full_line : List ℕ → List ℕ
-retained_full_line realm = codes "retained_full realm=" ++ quoted realm ++ 10 ∷ []
+retained_full_line realm = codes "retained_full realm=" ++ quoted realm
 
 abbrev pub accept_failed_line : List ℕ → List ℕ
-accept_failed_line why = codes "accept_failed reason=" ++ quoted why ++ 10 ∷ []
+accept_failed_line why = codes "accept_failed reason=" ++ quoted why
 
 abbrev pub stopping_word : Stopping → List ℕ
 stopping_word stopping.Asked = codes "asked"
@@ -38,10 +45,10 @@ stopping_word stopping.ListenFault = codes "listen_fault"
 stopping_word stopping.NoMemory = codes "no_memory"
 
 abbrev pub stopping_line : Stopping → List ℕ
-stopping_line why = codes "stopping reason=" ++ stopping_word why ++ 10 ∷ []
+stopping_line why = codes "stopping reason=" ++ stopping_word why
 
 abbrev pub lost_line : ℕ → List ℕ
-lost_line lines = codes "lost lines=" ++ decimal lines ++ 10 ∷ []
+lost_line lines = codes "lost lines=" ++ decimal lines
 
 abbrev pub serialization : Serializer → List ℕ
 serialization Json = codes "json"
@@ -50,7 +57,7 @@ serialization MsgPack = codes "msgpack"
 -- who it is, and what its client takes, behind what stands before
 abbrev pub who_part : List ℕ → Opening → List ℕ
 who_part front o =
-    front ++ codes " authid=" ++ quoted o.authid.now ++ codes " authrole=" ++ quoted o.authrole.now ++ codes " serialization=" ++ serialization o.serializer ++ codes " limit=" ++ decimal o.limit ++ 10 ∷ []
+    front ++ codes " authid=" ++ quoted o.authid.now ++ codes " authrole=" ++ quoted o.authrole.now ++ codes " serialization=" ++ serialization o.serializer ++ codes " limit=" ++ decimal o.limit
 
 abbrev pub opened_line : ℕ → Opening → List ℕ
 opened_line conn o = who_part (codes "opened connection=" ++ decimal conn ++ codes " realm=" ++ quoted o.realm.now ++ codes " session=" ++ decimal o.session) o
@@ -100,5 +107,42 @@ reason_more (reason.OutboxFull items) = codes " items=" ++ decimal items
 reason_more (reason.TooLong octets limit) = codes " octets=" ++ decimal octets ++ (codes " limit=" ++ decimal limit)
 reason_more _ = []
 
-abbrev pub closed_line : ℕ → CloseReason → List ℕ
-closed_line conn why = codes "closed connection=" ++ decimal conn ++ codes " reason=" ++ reason_word why ++ reason_more why ++ 10 ∷ []
+-- what was asked for, under a key: its first 128 octets
+abbrev pub asked_part : List ℕ → Option (List ℕ) → List ℕ
+asked_part key None = []
+asked_part key (Some text) = key ++ quoted (beginning text)
+
+abbrev pub count_part : List ℕ → ℕ → List ℕ
+count_part key n = key ++ decimal n
+
+-- what a session said and was sent
+abbrev pub traffic_part : Traffic → List ℕ
+traffic_part t =
+    count_part (codes " received=") t.received ++ count_part (codes " events=") t.events ++ count_part (codes " octets_in=") t.octets_in ++ count_part (codes " octets_out=") t.octets_out ++ count_part (codes " refused=") t.refused
+
+abbrev pub closed_line : ℕ → ConnectionEnd → ℕ → List ℕ
+closed_line conn c connections =
+    codes "closed connection=" ++ decimal conn ++ codes " reason=" ++ reason_word c.reason ++ reason_more c.reason ++ asked_part (codes " realm=") (option_map (λ t. t.now) c.realm) ++ asked_part (codes " authid=") (option_map (λ t. t.now) c.authid) ++ count_part (codes " connections=") connections ++ traffic_part c.traffic
+
+abbrev pub kind_word : Request → List ℕ
+kind_word Publish = codes "publish"
+kind_word Subscribe = codes "subscribe"
+kind_word Unsubscribe = codes "unsubscribe"
+
+abbrev pub request_refused_line : ℕ → RefusedRequest → List ℕ
+request_refused_line conn r =
+    codes "refused connection=" ++ decimal conn ++ codes " kind=" ++ kind_word r.kind ++ count_part (codes " request=") r.request ++ codes " error=" ++ quoted r.error.now ++ asked_part (codes " topic=") (option_map (λ t. t.now) r.topic)
+
+abbrev pub started_line : BrokerSummary → List ℕ
+started_line b =
+    codes "started version=" ++ quoted b.version.now ++ codes " realms=" ++ quoted b.realms.now ++ count_part (codes " outbox=") b.outbox ++ codes " limits=" ++ quoted b.limits.now
+
+abbrev pub held_part : RealmStats → List ℕ
+held_part s =
+    count_part (codes " sessions=") s.sessions ++ count_part (codes " subscriptions=") s.subscriptions ++ count_part (codes " retained=") s.retained ++ count_part (codes " retained_octets=") s.retained_octets ++ count_part (codes " longest_outbox=") s.longest_outbox ++ count_part (codes " posts=") s.posts
+
+abbrev pub done_part : RealmStats → List ℕ
+done_part s = count_part (codes " publications=") s.publications ++ count_part (codes " events=") s.events ++ count_part (codes " cut=") s.cut
+
+abbrev pub stats_line : List ℕ → RealmStats → List ℕ
+stats_line realm s = codes "stats realm=" ++ quoted realm ++ held_part s ++ done_part s

@@ -1,5 +1,5 @@
 -- The values of a line.
-use Rattle.std.specs.Prelude.{ℕ, Bool, true, ◌+◌, ◌/◌, ◌%◌, ◌&&◌, ◌==◌, not, nat_le, List, [], ◌∷◌, ◌++◌, if◌then◌else◌}
+use Rattle.std.specs.Prelude.{ℕ, Bool, true, ◌+◌, ◌/◌, ◌%◌, ◌&&◌, ◌==◌, not, nat_le, List, [], ◌∷◌, ◌++◌, if◌then◌else◌, length, min, take}
 
 -- a digit of 0 to 9, a to f
 abbrev pub hex_digit : ℕ → ℕ
@@ -20,6 +20,10 @@ is_plain c = nat_le 32 c && nat_le c 126 && not (c == 34)
 abbrev pub are_plain : List ℕ → Bool
 are_plain [] = true
 are_plain (c ∷ cs) = is_plain c && are_plain cs
+
+-- at most 128 octets of a text, from its beginning
+abbrev pub beginning : List ℕ → List ℕ
+beginning text = take (min (length text) 128) text
 
 -- a text in quotes
 abbrev pub quoted : List ℕ → List ℕ

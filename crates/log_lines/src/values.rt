@@ -1,6 +1,6 @@
 //! The parts of a line.
-ghost use Rattle.std.specs.Prelude.{◌≡◌, ◌<◌, ◌++◌, true, OnOk, decimal};
-ghost use Rattle.log_lines.specs.Values.{are_plain, hex_digit, quoted, spelt, shown};
+ghost use Rattle.std.specs.Prelude.{◌≡◌, ◌<◌, ◌++◌, true, OnOk, codes, decimal, ◌∷◌, []};
+ghost use Rattle.log_lines.specs.Values.{are_plain, beginning, hex_digit, quoted, spelt, shown};
 
 use std::alloc::{AllocError, Global};
 
@@ -67,4 +67,29 @@ pub fn put_quoted(line: &mut Vec<u8>, text: &str) -> Result<(), AllocError>
     put(line, "\"")?;
     put_octets(line, text.as_bytes())?;
     put(line, "\"")
+}
+
+/// How many octets of a client's text a line has.
+const MOST_TOLD: usize = 128;
+
+/// Adds the beginning of a text in quotes: 128 octets of it, or all if it has no more.
+pub fn put_beginning(line: &mut Vec<u8>, text: &str) -> Result<(), AllocError>
+    ensures { OnOk result (line.new.items ≡ line.old.items ++ quoted (beginning text.now)) }
+{
+    let octets = text.as_bytes();
+    put(line, "\"")?;
+    put_octets(line, &octets[..octets.len().min(MOST_TOLD)])?;
+    put(line, "\"")
+}
+
+/// Ends a line by when it was told.
+///
+/// # Errors
+/// [`AllocError`] where a growth of memory was refused.
+pub fn end_line(line: &mut Vec<u8>, at: &str) -> Result<(), AllocError>
+    ensures { OnOk result (line.new.items ≡ line.old.items ++ (codes " at=" ++ at.now ++ 10 ∷ [])) }
+{
+    put(line, " at=")?;
+    put(line, at)?;
+    put(line, "\n")
 }

@@ -35,6 +35,7 @@ mod joins;
 mod last_asked;
 pub mod laws;
 mod meta_events;
+mod notes;
 mod publications;
 mod realm;
 mod sessions;
@@ -44,6 +45,7 @@ mod subscriptions;
 
 pub use entry::{Entry, says_with_word};
 pub use fault::Fault;
+pub use notes::{Refusal, Tally};
 pub use realm::{Realm, RealmConfig};
 pub use wamp_messages::{
     Args, CarriedArgs, Item, Lists, Publication, Publish, PublishOptions, Reason, Request, Said,

@@ -12,6 +12,7 @@ ghost use Rattle.realm.specs.body.Transitions.{IsPublished, made_with, is_some_t
 use crate::accepted_options::{AcceptedOptions, accepted_options};
 use crate::events::{Given, events_to, events_without_lists, one, put_before, receivers};
 use crate::fault::Fault;
+use crate::notes::Refusal;
 use crate::state::State;
 use message_tree::{Shared, Text};
 use retained::Store;
@@ -56,23 +57,37 @@ fn carried(args: Args) -> Option<CarriedArgs>
     }
 }
 
-/// The topic of a PUBLISH; none where it is no topic, or a reserved one.
-fn open_topic(text: Text) -> Option<Topic>
+/// Moves the text of a topic that a refused PUBLISH named.
+fn name(named: &mut Option<Text>, topic: Topic) {
+    *named = Some(Text::from_string(topic.into_string()));
+}
+
+/// The topic of a PUBLISH; none where it is no topic, or a reserved one, and then it stands in `named`.
+fn open_topic(text: Text, named: &mut Option<Text>) -> Option<Topic>
     ensures same { IfSome result (λ topic. topic ≡ text) }
     ensures open { is_some result ≡ (is_topic text && not (is_reserved text)) }
 {
-    match Topic::from_string(text.into_string()) {
+    match Topic::or_text(text.into_string()) {
         Ok(topic) if !topic.is_reserved() => Some(topic),
-        _ => None,
+        Ok(topic) => {
+            name(named, topic);
+            None
+        }
+        Err(text) => {
+            *named = Some(Text::from_string(text));
+            None
+        }
     }
 }
 
-/// What a PUBLISH with these options asks for where it is accepted, or why it is refused.
+/// What a PUBLISH with these options asks for where it is accepted, or why it is refused. Then its
+/// topic stands in `named`.
 fn accepted_with(
     store: &Store,
     options: AcceptedOptions,
     topic: Text,
     args: Args,
+    named: &mut Option<Text>,
 ) -> Result<AcceptedPublication, Reason>
     ensures answer { (word : ℕ) (w : Who)
         → published_by (has_room store.now topic) word w topic args (Some options)
@@ -81,13 +96,15 @@ fn accepted_with(
         → has_room store.now a.topic ≡ true) }
     ensures options { IfOk result (λ a. a.options ≡ options) }
 {
-    let Some(topic) = open_topic(topic) else {
+    let Some(topic) = open_topic(topic, named) else {
         return Err(Reason::InvalidUri);
     };
     let Some(args) = carried(args) else {
+        name(named, topic);
         return Err(Reason::InvalidArgument);
     };
     if options.retained && !store.has_room(topic.text()) {
+        name(named, topic);
         return Err(Reason::RetainedFull);
     }
     Ok(AcceptedPublication {
@@ -97,12 +114,14 @@ fn accepted_with(
     })
 }
 
-/// What a PUBLISH asks for where it is accepted, or why it is refused.
+/// What a PUBLISH asks for where it is accepted, or why it is refused. Then its topic stands in
+/// `named`.
 fn accepted(
     store: &Store,
     options: PublishOptions,
     topic: Text,
     args: Args,
+    named: &mut Option<Text>,
 ) -> Result<AcceptedPublication, Reason>
     ensures answer { (word : ℕ) (w : Who)
         → published_by (has_room store.now topic) word w topic args (accepted_options_of options)
@@ -112,8 +131,11 @@ fn accepted(
     ensures options { IfOk result (λ a. accepted_options_of options ≡ Some a.options) }
 {
     match accepted_options(options) {
-        Some(options) => accepted_with(store, options, topic, args),
-        None => Err(Reason::InvalidArgument),
+        Some(options) => accepted_with(store, options, topic, args, named),
+        None => {
+            *named = Some(topic);
+            Err(Reason::InvalidArgument)
+        }
     }
 }
 
@@ -219,6 +241,15 @@ fn told(
     Ok(given)
 }
 
+/// How many EVENTs there are among what an accepted publication gives.
+fn events_in(given: &Given, requester: &Requester) -> usize {
+    if is_acknowledged(requester) {
+        given.len().saturating_sub(1)
+    } else {
+        given.len()
+    }
+}
+
 /// An equal publication, with nothing in JSON beside its arguments.
 fn without_json(alloc: Global, made: &Publication) -> Result<Publication, Fault>
     ensures { IfOk result (λ copy. copy ≡ made.now) }
@@ -285,9 +316,19 @@ pub fn publish(alloc: Global, state: &mut State, asked: PublishRequest) -> Resul
         request,
         acknowledge: options.acknowledge,
     };
-    let accepted = match accepted(&state.store, options, topic, args) {
+    let mut named = None;
+    let accepted = match accepted(&state.store, options, topic, args, &mut named) {
         Ok(accepted) => accepted,
-        Err(reason) => return refused(alloc, &requester, reason),
+        Err(reason) => {
+            state.spare.note_refusal(Refusal {
+                conn,
+                kind: Request::Publish,
+                request: requester.request,
+                reason,
+                topic: named,
+            });
+            return refused(alloc, &requester, reason);
+        }
     };
     let Some(publisher) = state.sessions.find(conn) else {
         unreachable!()
@@ -299,6 +340,9 @@ pub fn publish(alloc: Global, state: &mut State, asked: PublishRequest) -> Resul
     let given = told(alloc, spare, state, &requester, &made)?;
     if retained {
         retain(alloc, &mut state.store, made)?;
+    } else {
+        state.spare.put_aside(made);
     }
+    state.spare.note_publication(events_in(&given, &requester));
     Ok(given)
 }

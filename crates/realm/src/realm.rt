@@ -12,16 +12,18 @@ use crate::entry::Entry;
 use crate::fault::Fault;
 use crate::grants::Grants;
 use crate::last_asked::LastAsked;
+use crate::notes::{Refusal, Tally};
 use crate::sessions::Sessions;
 use crate::spare::Spare;
 use crate::state::State;
+use message_tree::Shared;
 use retained::Store;
 use std::alloc::{AllocError, Global};
 use std::marker::Model;
 use std::snapshot::Snapshot;
 use subscription_index::Index;
 use wamp_ids::{Conn, Topic};
-use wamp_messages::Item;
+use wamp_messages::{Item, Publication};
 
 /// What a realm is made from.
 #[derive(Drop)]
@@ -157,6 +159,33 @@ impl Realm {
         ensures { self.new ≡ self.old }
     {
         self.state.spare.keep(given);
+    }
+
+    /// The last request that was refused, where it wasn't taken yet: for a log.
+    pub fn take_refusal(&mut self) -> Option<Refusal>
+        ensures { self.new ≡ self.old }
+    {
+        self.state.spare.take_refusal()
+    }
+
+    /// How much it holds, and gave so far: for a log.
+    pub fn tally(&self) -> Tally {
+        let notes = self.state.spare.notes();
+        Tally {
+            sessions: self.state.sessions.len(),
+            subscriptions: self.state.index.len(),
+            retained: self.state.store.len(),
+            retained_octets: self.state.store.octets(),
+            publications: notes.publications(),
+            events: notes.events(),
+        }
+    }
+
+    /// The last publication that was made and isn't retained, where it wasn't taken yet: so that another thread can drop it.
+    pub fn take_spent(&mut self) -> Option<Shared<Publication>>
+        ensures { self.new ≡ self.old }
+    {
+        self.state.spare.take_spent()
     }
 }
 

@@ -9,6 +9,8 @@ ghost use Rattle.realm.specs.body.Transitions.{IsHeld, IsSubscribed, IsUnsubscri
 
 use crate::events::{Given, names_topic, one};
 use crate::fault::Fault;
+use crate::notes::Refusal;
+use crate::spare::Spare;
 use crate::state::State;
 use message_tree::{Shared, Text};
 use retained::Store;
@@ -85,6 +87,17 @@ fn give_retained(
     }
 }
 
+/// Notes that a SUBSCRIBE was refused.
+fn note(alloc: Global, spare: &mut Spare, asked: &SubscribeRequest<'_>, reason: Reason) {
+    spare.note_refusal(Refusal {
+        conn: asked.conn,
+        kind: Request::Subscribe,
+        request: asked.request,
+        reason,
+        topic: asked.topic.try_copy(alloc).ok(),
+    });
+}
+
 /// The ERROR that refuses a request.
 fn refusal(kind: Request, request: Id, reason: Reason) -> Item
     ensures { result ≡ Item.Error kind request reason }
@@ -114,6 +127,7 @@ pub fn subscribe(
     let pattern = match pattern_of(alloc, asked.options, asked.topic)? {
         Ok(pattern) => pattern,
         Err(reason) => {
+            note(alloc, &mut state.spare, asked, reason);
             let item = refusal(Request::Subscribe, asked.request, reason);
             return one(alloc, asked.conn, item);
         }
@@ -152,6 +166,7 @@ fn hold(
         }
         Err(subscription_index::Fault::TooManySubscriptions) => {
             let reason = Reason::TooManySubscriptions;
+            note(alloc, &mut state.spare, asked, reason);
             let item = refusal(Request::Subscribe, asked.request, reason);
             given.push_reserved((asked.conn, item));
             Ok(given)
@@ -177,7 +192,15 @@ pub fn unsubscribe(
     let item = if state.index.release(conn, subscription) {
         Item::Unsubscribed { request }
     } else {
-        refusal(Request::Unsubscribe, request, Reason::NoSuchSubscription)
+        let reason = Reason::NoSuchSubscription;
+        state.spare.note_refusal(Refusal {
+            conn,
+            kind: Request::Unsubscribe,
+            request,
+            reason,
+            topic: None,
+        });
+        refusal(Request::Unsubscribe, request, reason)
     };
     given.push_reserved((conn, item));
     Ok(given)

@@ -12,11 +12,12 @@ ghost use Rattle.realm_actor.specs.HistoryGrowth.{IsMade};
 ghost use Rattle.realm_actor.specs.Invariant.{Stands};
 
 use crate::id_source::IdSource;
+use crate::load::Load;
 use crate::outcome::Outcome;
 use crate::state::ActorState;
 use outbox_queue::{Drain, Rest};
-use realm::{Fault, Realm, RealmConfig};
-use realm_inbox::{Post, RealmChronicle, RealmHistory, Shut};
+use realm::{Fault, Realm, RealmConfig, Refusal};
+use realm_inbox::{Inbox, Post, RealmChronicle, RealmHistory, Shut};
 use std::alloc::{AllocError, Global};
 use std::marker::Model;
 use std::sync::Wait;
@@ -180,6 +181,23 @@ impl<S: Shut, W: IdSource> Actor<S, W> {
         state.handle(rt, alloc, post)
     }
 
+    // The request that was refused last, where it wasn't taken yet and is the first of its session.
+    pub(crate) fn first_refusal(&mut self) -> Option<Refusal>
+        ensures { self.new ≡ self.old }
+    {
+        let state = &mut self.state;
+        state.first_refusal()
+    }
+
+    // How much it holds, with what waits in its inbox.
+    pub(crate) fn load(&self, inbox: &Inbox<S>) -> Load {
+        Load {
+            realm: self.state.tally(),
+            longest_outbox: self.state.longest_outbox(),
+            posts_waiting: inbox.posts_waiting(),
+        }
+    }
+
     // Wakes the writers of those that got something since they were last woken.
     pub(crate) fn wake(&self) {
         self.state.wake();
@@ -224,6 +242,8 @@ impl<S: Shut, W: IdSource> Actor<S, W> {
           history = Some self.history;
         } }
     {
-        self.state.table.chronicle
+        let state = self.state;
+        let table = state.table;
+        table.chronicle
     }
 }

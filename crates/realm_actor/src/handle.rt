@@ -37,10 +37,14 @@ impl<S: Shut, W: IdSource> ActorState<S, W> {
         ensures room { IsRoomy self.old → IsRoomy self.new }
         ensures keeps { KeepsRest self.old self.new }
     {
-        let (conn, act, _weight) = letter.into_parts();
+        let (conn, act, weight) = letter.into_parts();
         match act {
             Act::Join(joining) => self.join(rt, alloc, conn, joining),
-            other => self.enter(rt, alloc, conn, other),
+            other => {
+                let outcome = self.enter(rt, alloc, conn, other);
+                self.table.hand_back(&weight);
+                outcome
+            }
         }
     }
 

@@ -22,6 +22,7 @@ mod handle;
 mod id_source;
 mod last_cut;
 pub mod laws;
+mod load;
 mod outcome;
 mod row;
 mod row_search;
@@ -34,6 +35,7 @@ mod table;
 
 pub use actor::Actor;
 pub use id_source::IdSource;
+pub use load::Load;
 pub use outcome::Outcome;
 pub use realm_inbox::opening::inbox;
 pub use realm_inbox::{

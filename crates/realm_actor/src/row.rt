@@ -44,6 +44,8 @@ pub struct HeldOutbox<S: Shut> {
     pub is_full: bool,
     /// How many items were added since its writer was last woken.
     pub since_wake: Cell<usize>,
+    /// How many items were added, for who looks on.
+    pub added: Cell<u64>,
     ghost full: { is_full ≡ true → 0 < outbox.full_finds },
     ghost never: { is_full ≡ false → outbox.full_finds ≡ 0 },
 }
@@ -85,6 +87,7 @@ impl<S: Shut> HeldOutbox<S> {
     // One item more waits for its writer to be woken.
     fn count(&self) {
         self.since_wake.set(self.since_wake.get().saturating_add(1));
+        self.added.set(self.added.get().wrapping_add(1));
     }
 
     /// Closes the outbox.
@@ -163,6 +166,7 @@ impl<S: Shut> Row<S> {
             transport,
             is_full: false,
             since_wake: Cell::new(0),
+            added: Cell::new(0),
         };
         Row {
             conn,
@@ -183,6 +187,25 @@ impl<S: Shut> Row<S> {
     pub fn tell_lost(&self) {
         if let Some(held) = &self.held {
             held.transport.note_lost();
+        }
+    }
+
+    /// Tells the row's transport, if it is held, that a request of the session was refused. Whether it is the first one that was.
+    pub fn tell_refusal(&self) -> bool {
+        match &self.held {
+            Some(held) => held.transport.note_refusal(),
+            None => false,
+        }
+    }
+
+    /// How many items wait in the row's outbox, if it is held and its transport counts those that were taken.
+    pub fn waiting(&self) -> u64 {
+        let Some(held) = &self.held else {
+            return 0;
+        };
+        match held.transport.taken() {
+            Some(taken) => held.added.get().saturating_sub(taken),
+            None => 0,
         }
     }
 

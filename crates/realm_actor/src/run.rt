@@ -1,20 +1,26 @@
 //! How an actor runs.
-ghost use Rattle.std.specs.Prelude.{◌≡◌, ℕ, ◌++◌, [], ◌∷◌, true, false, None, List, IfSome, MatchOption};
+ghost use Rattle.std.specs.Prelude.{◌≡◌, ℕ, ◌++◌, [], ◌∷◌, true, false, None, Some, List, IfSome, MatchOption};
 ghost use Rattle.realm.specs.History.{Begins};
 ghost use Rattle.realm_inbox.specs.declared.letter.Post.{Post as APost};
 ghost use Rattle.realm_inbox.specs.Seats.{InOrder, IsNext, IsHomed};
 ghost use Rattle.realm_inbox.specs.EndViews.{received, home_of, inbox_of};
 ghost use Rattle.realm_actor.specs.PostedOrder.{KeepsOrderSince, acts_for};
-ghost use Rattle.realm_actor.specs.Run.{EndsInStop, IsAt, KeepsHeld, Ran, SameAtSeats, is_stop};
+ghost use Rattle.realm_actor.specs.Run.{EndsInStop, Handles, IsAt, KeepsHeld, Ran, SameAtSeats, is_stop};
 
 use crate::actor::Actor;
 use crate::id_source::IdSource;
+use crate::load::Load;
+use crate::outcome::Outcome;
+use realm::Refusal;
 use realm_inbox::{Inbox, Post, Shut};
 use std::alloc::Global;
 use std::sync::Wait;
 
 // How many posts may be handled, while more wait, before the writers of those that got something are woken.
 const MOST_UNWOKEN: u64 = 64;
+
+// What took less is taken as it was found. What took longer may be time in which the system didn't let the thread run.
+const LOOKED_INTO: u64 = 20_000;
 
 // Whether it is a stop.
 fn is_stop<S: Shut>(post: &Post<S>) -> bool
@@ -31,10 +37,26 @@ pub trait Onlooker {
     /// Is told after each post whether as many topics as may have a retained publication have one.
     fn sees_retained(&mut self, is_full: bool);
 
+    /// Is told of the first request of a session that was refused.
+    fn sees_refusal(&mut self, _refusal: Refusal) {}
+
+    /// Is asked before each post, and before the actor waits for one, whether it wants to see how much there is.
+    fn wants_load(&mut self, _is_idle: bool) -> bool {
+        false
+    }
+
+    /// Is told how much the realm and its actor hold.
+    fn sees_load(&mut self, _load: &Load) {}
+
     /// The nanoseconds since an arbitrary moment, by which the actor tells its inbox how long posts took. Where it has no clock they
     /// don't go on, and the inbox gives all posts as they come.
     fn nanos(&mut self) -> u64 {
         0
+    }
+
+    /// The nanoseconds that the calling thread has worked so far. Where it has no such clock, those of [`Onlooker::nanos`].
+    fn worked(&mut self) -> u64 {
+        self.nanos()
     }
 }
 
@@ -123,6 +145,7 @@ impl<S: Shut, W: IdSource> Actor<S, W> {
         let mut pace = Pace {
             unwoken: 0,
             since: onlooker.nanos(),
+            worked: onlooker.worked(),
         };
         for _ in rt.forever() {
             self.sweep();
@@ -130,8 +153,7 @@ impl<S: Shut, W: IdSource> Actor<S, W> {
                 return self;
             };
             let ends = is_stop(&post);
-            self.take(rt, alloc, post);
-            onlooker.sees_retained(self.is_retained_full());
+            self.take_shown(rt, alloc, post, onlooker);
             self.note_time(inbox, onlooker, &mut pace);
             if ends {
                 self.wake();
@@ -139,6 +161,33 @@ impl<S: Shut, W: IdSource> Actor<S, W> {
             }
         }
         unreachable!()
+    }
+
+    // Handles a post, and shows what came of it to who looks on.
+    fn take_shown<R: Wait, O: Onlooker>(
+        &mut self,
+        rt: &R,
+        alloc: Global,
+        post: Post<S>,
+        onlooker: &mut O,
+    ) -> Outcome
+        requires home { IsHomed (Some self.old.chronicle) post }
+        ensures handles { Handles result post self.old self.new }
+        ensures chronicle { self.new.chronicle ≡ self.old.chronicle }
+    {
+        let outcome = self.take(rt, alloc, post);
+        self.show(onlooker);
+        outcome
+    }
+
+    // Shows who looks on what came of the last post.
+    fn show<O: Onlooker>(&mut self, onlooker: &mut O)
+        ensures { self.new ≡ self.old }
+    {
+        onlooker.sees_retained(self.is_retained_full());
+        if let Some(refusal) = self.first_refusal() {
+            onlooker.sees_refusal(refusal);
+        }
     }
 
     // The next post. Where none is there, or many were handled since, or it will probably take long, the writers are woken first. `None`
@@ -159,13 +208,30 @@ impl<S: Shut, W: IdSource> Actor<S, W> {
         ensures same { inbox_of inbox.new ≡ inbox_of inbox.old }
     {
         let ready = inbox.try_receive(rt);
-        self.wake_in_time(&mut pace.unwoken, ready.is_none() || inbox.is_dear());
+        self.prepare(inbox, onlooker, pace, ready.is_none());
         if let Some(post) = ready {
             return Some(post);
         }
         let post = wait_for_post(rt, inbox, may_leave);
         pace.since = onlooker.nanos();
         post
+    }
+
+    // Before a post is handled, or none is there: wakes the writers if they are due, and begins a turn.
+    fn prepare<O: Onlooker>(
+        &self,
+        inbox: &Inbox<S>,
+        onlooker: &mut O,
+        pace: &mut Pace,
+        is_idle: bool,
+    ) {
+        self.wake_in_time(&mut pace.unwoken, is_idle || inbox.is_dear());
+        if onlooker.wants_load(is_idle) {
+            onlooker.sees_load(&self.load(inbox));
+        }
+        if inbox.begins_turn() {
+            pace.begin(onlooker);
+        }
     }
 
     // Wakes the writers if they are due: the actor is to wait or to take long, or has handled many posts since they were woken.
@@ -185,12 +251,10 @@ impl<S: Shut, W: IdSource> Actor<S, W> {
         if !inbox.is_due() {
             return;
         }
-        let now = onlooker.nanos();
-        if inbox.note_time(now.saturating_sub(pace.since)) {
+        if inbox.note_time(pace.took(onlooker)) {
             self.wake();
             pace.unwoken = 0;
         }
-        pace.since = now;
     }
 }
 
@@ -199,8 +263,32 @@ impl<S: Shut, W: IdSource> Actor<S, W> {
 struct Pace {
     // How many posts were handled since the writers were woken.
     unwoken: u64,
-    // When the inbox was last told how long posts took, or the actor had waited.
+    // When the inbox was last told how long posts took, a turn began, or the actor had waited.
     since: u64,
+    // What the thread had worked when that was last asked.
+    worked: u64,
+}
+
+impl Pace {
+    // What went by isn't the next post's.
+    fn begin<O: Onlooker>(&mut self, onlooker: &mut O) {
+        self.worked = onlooker.worked();
+        self.since = onlooker.nanos();
+    }
+
+    // How long the posts took since the last look: the time that went by, or of a longer one as much as the thread worked.
+    fn took<O: Onlooker>(&mut self, onlooker: &mut O) -> u64 {
+        let now = onlooker.nanos();
+        let went_by = now.saturating_sub(self.since);
+        self.since = now;
+        if went_by < LOOKED_INTO {
+            return went_by;
+        }
+        let worked = onlooker.worked();
+        let took = went_by.min(worked.saturating_sub(self.worked));
+        self.worked = worked;
+        took
+    }
 }
 
 // Waits for a post. Where each sender is gone it is `None`, if the run may leave then; if it may not, it waits on.

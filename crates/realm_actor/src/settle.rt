@@ -42,6 +42,7 @@ impl<S: Shut> Row<S> {
             transport,
             is_full,
             since_wake,
+            added,
         } = held;
         match settle(rt, alloc, outbox, drain) {
             Ok(rest) => return Ok(rest),
@@ -51,6 +52,7 @@ impl<S: Shut> Row<S> {
                     transport,
                     is_full,
                     since_wake,
+                    added,
                 });
                 return Err((fault, drain));
             }
@@ -174,6 +176,7 @@ fn hand_over<S: Shut>(realm: &Realm, chronicle: &mut RealmChronicle, row: &mut R
         transport: _,
         is_full: _,
         since_wake: _,
+        added: _,
     } = held;
     outbox.hand_over(RealmHistory::by(chronicle, &RealmMoment::of(realm)));
 }

@@ -14,7 +14,7 @@ use crate::id_source::IdSource;
 use crate::outcome::Outcome;
 use crate::seat_guesses::SeatGuesses;
 use crate::table::Table;
-use realm::{Entry, Realm};
+use realm::{Entry, Realm, Refusal, Tally};
 use realm_inbox::{GhostList, Letter, RealmChronicle, Shut};
 use std::alloc::Global;
 use std::sync::Wait;
@@ -82,6 +82,23 @@ impl<S: Shut, W: IdSource> ActorState<S, W> {
         ensures { result.now ≡ self.now.last_cut.items }
     {
         self.last_cut.as_slice()
+    }
+
+    /// The request that was refused last, where it wasn't taken yet and is the first of its session.
+    pub fn first_refusal(&mut self) -> Option<Refusal>
+        ensures { self.new ≡ self.old }
+    {
+        self.table.first_refusal()
+    }
+
+    /// What the realm holds, and gave so far.
+    pub fn tally(&self) -> Tally {
+        self.table.realm.tally()
+    }
+
+    /// How many items wait in the longest outbox.
+    pub fn longest_outbox(&self) -> u64 {
+        self.table.longest_outbox()
     }
 
     /// Wakes each writer for whom items were added since it was last woken.

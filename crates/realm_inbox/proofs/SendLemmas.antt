@@ -2,7 +2,7 @@
 use denote.RattleType.{RattleType}
 use denote.Struct.Field.{row_field}
 use denote.Param.Send.{IsSend, IsSync, sendable}
-use denote.Param.SendFields.{declared_send, variants_send, as_row_send}
+use denote.Param.SendFields.{declared_send, declared_sync, variants_send, as_row_send}
 use Rattle.std.proofs.Crossing.{crosses}
 use Rattle.std.proofs.Crossing as heap
 use Rattle.std.specs.contracts.alloc.Global as Global
@@ -42,7 +42,7 @@ use Rattle.outbox_queue.specs.contracts.recorded.MomentHistory.TheImpl as moment
 use Rattle.outbox_queue.specs.contracts.recorded.Recorded as Recorded
 use Rattle.outbox_queue.specs.contracts.recorded.RecordedOwed.TheImpl as owed
 use Rattle.outbox_queue.specs.declared.owed.Owed as what
-use Rattle.wamp_messages.proofs.SendLemmas.{item_send, said_send}
+use Rattle.wamp_messages.proofs.SendLemmas.{item_send, said_send, shared_send as published_send}
 use Rattle.wamp_messages.specs.contracts.item.Item as Item
 use Rattle.realm_inbox.specs.contracts.act.Act as Act
 use Rattle.realm_inbox.specs.contracts.backlog.Backlog as Backlog
@@ -65,6 +65,7 @@ use Rattle.realm_inbox.specs.contracts.rule.InboxView as InboxView
 use Rattle.realm_inbox.specs.contracts.bells.Bells as Bells
 use Rattle.realm_inbox.specs.contracts.schedule.Schedule as Schedule
 use Rattle.realm_inbox.specs.contracts.schedule.Share as Share
+use Rattle.realm_inbox.specs.contracts.spent.Spent as Spent
 use Rattle.realm_inbox.specs.contracts.seat_lines.SeatLines as SeatLines
 use Rattle.realm_inbox.specs.contracts.seat_turns.SeatTurns as SeatTurns
 use Rattle.realm_inbox.specs.declared.transport.Shut.{Ghosts}
@@ -81,12 +82,19 @@ bell_sync = search (crosses, sendable) depth 60
 room_send : IsSend (Arc.the_row RoomBell.the_row Global.the_row global.ghosts)
 room_send = heap.Arc-send _ bell_send bell_sync
 
+-- of a publication on its way back
+spent_send : IsSend Spent.the_row
+spent_send = search (published_send, crosses, sendable) depth 60 fits 20000
+
+spent_sync : IsSync Spent.the_row
+spent_sync = search (published_send, crosses, sendable) depth 60 fits 20000
+
 -- of a seat's backlog, and what shares it
 pub backlog_send : IsSend Backlog.the_row
-backlog_send = search (crosses, sendable) depth 60
+backlog_send = declared_send Backlog.the_type (search (crosses, sendable) depth 60, (search (crosses, sendable) depth 60, (search (crosses, sendable) depth 60, (search (crosses, sendable) depth 60, (bell_send, (spent_send, tt))))))
 
 pub backlog_sync : IsSync Backlog.the_row
-backlog_sync = search (crosses, sendable) depth 60
+backlog_sync = declared_sync Backlog.the_type (search (crosses, sendable) depth 60, (search (crosses, sendable) depth 60, (search (crosses, sendable) depth 60, (search (crosses, sendable) depth 60, (bell_sync, (spent_sync, tt))))))
 
 abbrev shared : RattleType
 shared = Arc.the_row Backlog.the_row Global.the_row global.ghosts

@@ -1,8 +1,11 @@
 //! How much of a client waits for another thread, and how the client is held back while that is too much.
 use crate::room_bell::RoomBell;
+use crate::spent::Spent;
+use message_tree::Shared;
 use std::mem::size_of;
 use std::sync::atomic::{AtomicBool, AtomicU64, Ordering};
 use std::sync::{Arc, Wait};
+use wamp_messages::Publication;
 
 /// While so many octets of a client wait, or more, nothing more is taken on.
 pub const MOST_WAITING: u64 = 4_194_304;
@@ -13,6 +16,9 @@ const RESUMED: u64 = 2_097_152;
 /// What was read from fewer octets isn't counted: so it costs one comparison. How many of those wait is bounded elsewhere, by the
 /// capacity of what they wait in.
 const LEAST_COUNTED: usize = 256;
+
+/// What was read from so many octets is long: most of its memory is the system's own.
+const LONG: u32 = 65_536;
 
 /// So many posts of one seat wait at most, however few octets they are.
 pub const MOST_POSTS_WAITING: u64 = 256;
@@ -27,10 +33,13 @@ const RESUMED_POSTS: u64 = 128;
 #[derive(Drop)]
 pub struct Backlog {
     waiting: AtomicU64,
+    // How many acts were posted at the seat.
+    posted: AtomicU64,
     // How many posts were given to who receives, as far as it was told.
     given: AtomicU64,
     is_closed: AtomicBool,
     bell: RoomBell,
+    spent: Spent,
 }
 
 impl Backlog {
@@ -38,9 +47,11 @@ impl Backlog {
     pub fn new() -> Backlog {
         Backlog {
             waiting: AtomicU64::new(0),
+            posted: AtomicU64::new(0),
             given: AtomicU64::new(0),
             is_closed: AtomicBool::new(false),
             bell: RoomBell::new(),
+            spent: Spent::none(),
         }
     }
 
@@ -50,6 +61,7 @@ impl Backlog {
         if octets < LEAST_COUNTED {
             return;
         }
+        self.spent.let_go();
         if self.waiting.load(Ordering::SeqCst) >= MOST_WAITING {
             self.wait(rt);
         }
@@ -99,6 +111,12 @@ impl Backlog {
         unreachable!()
     }
 
+    /// How many posts wait to be given, as far as it was told.
+    pub(crate) fn posts_waiting(&self) -> u64 {
+        let given = self.given.load(Ordering::SeqCst);
+        self.posted.load(Ordering::SeqCst).saturating_sub(given)
+    }
+
     /// So many posts more were given.
     pub(crate) fn tell_given(&self, more: u64) {
         self.given.fetch_add(more, Ordering::SeqCst);
@@ -109,6 +127,12 @@ impl Backlog {
     pub fn close(&self) {
         self.is_closed.store(true, Ordering::SeqCst);
         self.bell.ring();
+        self.spent.let_go();
+    }
+
+    /// Drops what was handed back.
+    pub(crate) fn let_go(&self) {
+        self.spent.let_go();
     }
 }
 
@@ -138,6 +162,7 @@ impl PostCount {
             self.given = backlog.await_given(rt, self.posted);
         }
         self.posted = self.posted.wrapping_add(1);
+        backlog.posted.store(self.posted, Ordering::Relaxed);
     }
 }
 
@@ -167,6 +192,16 @@ impl Weight {
         }
         Weight {
             held: held_of(rt, backlog, octets),
+        }
+    }
+
+    /// Hands a publication back that the realm is done with, which was read from the octets of this weight. A long one is dropped by
+    /// the thread that read it, before it takes on what is next, or by the receiving end, when its client's last post is given.
+    pub fn hand_back(&self, spent: Shared<Publication>) {
+        if let GivenBack::Octets(octets, backlog) = &self.held {
+            if *octets >= LONG {
+                backlog.spent.put(spent);
+            }
         }
     }
 }

@@ -13,6 +13,7 @@ use crate::act::Act;
 use crate::backlog::{Backlog, PostCount, Weight};
 use crate::bells::{Bells, send};
 use crate::letter::{Letter, Post};
+use crate::post_kind::kind_of;
 use crate::rule::{Beside, InTurn, InboxView, Posts, Receives};
 use crate::seat_lines::{SeatLines, place_of};
 use crate::seat_turns::SeatTurns;
@@ -172,7 +173,7 @@ impl<S: Shut> Inbox<S> {
             self.lines.add(post);
             return self.deal(TryRecvError::Empty);
         }
-        self.turns.note_given(place);
+        self.turns.note_given(place, kind_of(&post));
         self.given.add(Snapshot::of(&post));
         Ok(post)
     }
@@ -225,7 +226,7 @@ impl<S: Shut> Inbox<S> {
             self.turns.schedule.calm_down();
             return Err(why);
         };
-        self.turns.note_given(place);
+        self.turns.note_given(place, kind_of(&first));
         self.given.add(Snapshot::of(&first));
         Ok(first)
     }
@@ -240,8 +241,18 @@ impl<S: Shut> Inbox<S> {
         self.turns.schedule.is_dear()
     }
 
-    /// Is told how many nanoseconds the posts took that it gave since it was last told, or since it waited. Tells whether that was dear:
-    /// from then on it gives by turns, until nothing waits.
+    /// Whether the post that it gave last begins a turn: [`Inbox::note_time`] is to be told what is worked from here on.
+    pub fn begins_turn(&self) -> bool {
+        self.turns.schedule.begins_turn()
+    }
+
+    /// How many posts wait to be received, for who looks on: what is posted or received meanwhile may be in it or not.
+    pub fn posts_waiting(&self) -> u64 {
+        self.turns.posts_waiting()
+    }
+
+    /// Is told how many nanoseconds the posts took that it gave since it was last told, since the turn began, or since it waited. Tells
+    /// whether that was dear: from then on it gives by turns, until nothing waits.
     pub fn note_time(&mut self, nanos: u64) -> bool
         ensures none { received self.new ≡ received self.old }
         ensures home { home_of self.new ≡ home_of self.old }

@@ -42,6 +42,7 @@ mod joining;
 pub mod laws;
 mod letter;
 pub mod opening;
+mod post_kind;
 mod posting;
 mod room_bell;
 mod rule;
@@ -49,6 +50,7 @@ mod schedule;
 mod seat_line;
 mod seat_lines;
 mod seat_turns;
+mod spent;
 mod transport;
 
 pub use act::Act;

@@ -1,4 +1,5 @@
 //! Whose turn it is.
+use crate::post_kind::PostKind;
 use std::alloc::{AllocError, Global};
 use wamp_ids::SEATS;
 
@@ -14,8 +15,8 @@ const RARELY: u32 = 4;
 /// How many posts a turn has at most.
 const MOST_OF_TURN: u32 = 64;
 
-/// A seat is billed no more at once than so many times what it took before: so whoever is at work while the system doesn't let
-/// the thread run isn't taken for dear.
+/// While posts are given as they come, a seat is billed no more at once than so many times what it took before: a look tells of several
+/// seats' posts then, and of the time in which the system didn't let the thread run.
 const MOST_BILLED: u64 = 4;
 
 /// How many posts of a seat are given before that is told. It is less than what is left where who waits goes on
@@ -27,10 +28,12 @@ pub(crate) const TOLD_AT_ONCE: u32 = 64;
 struct Share {
     // Nanoseconds, on top of the floor that there was when it began to take them.
     spent: u64,
-    // By the last look.
+    // What it was billed by the last look.
     last: u64,
     // The most of late.
     most: u64,
+    // How many of its PUBLISHes were given.
+    tried: u64,
     // How many of its posts were given and not told.
     untold: u32,
 }
@@ -52,6 +55,8 @@ pub(crate) struct Schedule {
     left: u32,
     // How many were given since the last look at the clock.
     unseen: u32,
+    // The most that anybody was billed of late.
+    dearest: u64,
     // Whether no post was dear since nobody waited.
     is_calm: bool,
 }
@@ -62,6 +67,7 @@ impl Schedule {
             spent: 0,
             last: 0,
             most: 0,
+            tried: 0,
             untold: 0,
         };
         let shares = vec![in alloc; none; SEATS as usize + 1]?;
@@ -71,6 +77,7 @@ impl Schedule {
             place: 0,
             left: 0,
             unseen: 0,
+            dearest: 0,
             is_calm: true,
         })
     }
@@ -94,11 +101,33 @@ impl Schedule {
         }
     }
 
-    /// When a place is due, by the time that it has taken.
-    pub(crate) fn due_of(&self, place: u64) -> u64 {
+    /// When a place is due, whose next post is of this kind: by the time that it has taken, and that which the post will probably take.
+    pub(crate) fn due_of(&self, place: u64, kind: PostKind) -> u64 {
         match self.shares.get(place as usize) {
-            Some(share) => share.spent.max(self.floor).saturating_add(share.last),
+            Some(share) => {
+                let probable = share.last.max(self.untried(share, kind));
+                share.spent.max(self.floor).saturating_add(probable)
+            }
             None => u64::MAX,
+        }
+    }
+
+    // What a post may take whose seat hasn't shown what its like take: as much as the dearest of anybody's of late. Of PUBLISHes that is
+    // so once in as many as were given; a client's last post has none before it, and gives up all that its session held. So while
+    // somebody is dear, who never published, or leaves, stands behind who is known to be cheap.
+    fn untried(&self, share: &Share, kind: PostKind) -> u64 {
+        match kind {
+            PostKind::Publish => self.dearest / share.tried.max(1),
+            PostKind::Last => self.dearest,
+            PostKind::Other => 0,
+        }
+    }
+
+    /// How many posts of a place were given and not told.
+    pub(crate) fn untold(&self, place: u64) -> u64 {
+        match self.shares.get(place as usize) {
+            Some(share) => u64::from(share.untold),
+            None => 0,
         }
     }
 
@@ -109,13 +138,18 @@ impl Schedule {
     }
 
     /// A post of a place is given. Tells whether it is time to tell the seat of [`TOLD_AT_ONCE`] posts.
-    pub(crate) fn note_given(&mut self, place: u64) -> bool {
+    pub(crate) fn note_given(&mut self, place: u64, kind: PostKind) -> bool {
         self.place = place;
         self.left = self.left.saturating_sub(1);
         self.unseen = self.unseen.saturating_add(1);
         let Some(share) = self.shares.get_mut(place as usize) else {
             return false;
         };
+        match kind {
+            PostKind::Publish => share.tried = share.tried.saturating_add(1),
+            PostKind::Last => self.unseen = RARELY,
+            PostKind::Other => {}
+        }
         share.untold = share.untold.saturating_add(1);
         if share.untold < TOLD_AT_ONCE {
             return false;
@@ -142,15 +176,26 @@ impl Schedule {
         }
     }
 
-    /// So many nanoseconds went by since the last look: the seat whose post was given last is billed for them. Tells whether that was dear.
+    /// Whether a turn has just begun: its first post was given, and posts are given by turns.
+    pub(crate) fn begins_turn(&self) -> bool {
+        !self.is_calm && self.left == MOST_OF_TURN - 1
+    }
+
+    /// So many nanoseconds were worked since the last look, or since the turn began: the seat whose post was given last is billed for
+    /// them. Tells whether that was dear.
     pub(crate) fn note_time(&mut self, nanos: u64) -> bool {
         self.unseen = 0;
         if let Some(share) = self.shares.get_mut(self.place as usize) {
-            let billed = nanos.min(share.most.max(CHEAP).saturating_mul(MOST_BILLED));
+            let billed = if self.is_calm {
+                nanos.min(share.most.max(CHEAP).saturating_mul(MOST_BILLED))
+            } else {
+                nanos
+            };
             self.floor = self.floor.max(share.spent);
             share.spent = self.floor.saturating_add(billed);
             share.last = billed;
             share.most = billed.max(share.most - share.most / 8);
+            self.dearest = billed.max(self.dearest - self.dearest / 8);
         }
         if nanos < DEAR {
             return false;

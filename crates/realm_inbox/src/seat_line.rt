@@ -41,6 +41,11 @@ impl<S: Shut> SeatLine<S> {
         None
     }
 
+    /// The first post.
+    pub(crate) fn first(&self) -> Option<&Post<S>> {
+        self.posts.front()
+    }
+
     /// The first post, which leaves.
     pub(crate) fn pop(&mut self) -> Option<Post<S>>
         ensures { MatchOption result ((self.old.posts.items ≡ []) × (self.new.posts.items ≡ []))

@@ -3,6 +3,7 @@ ghost use Rattle.std.specs.Prelude.{◌≡◌, ℕ, ◌++◌, ◌∷◌, [], Non
 ghost use Rattle.realm_inbox.specs.SeatLines.{first_part, line_at, own_part, place_of_post, waiting, waiting_in};
 
 use crate::letter::Post;
+use crate::post_kind::{PostKind, kind_of};
 use crate::schedule::Schedule;
 use crate::seat_line::SeatLine;
 use crate::transport::Shut;
@@ -93,12 +94,29 @@ impl<S: Shut> SeatLines<S> {
         let mut best = 0;
         let mut least = u64::MAX;
         for place in 1..=SEATS {
-            if self.waits_at(place) && schedule.due_of(place) < least {
-                least = schedule.due_of(place);
+            let Some(kind) = self.next_kind(place) else {
+                continue;
+            };
+            let due = schedule.due_of(place, kind);
+            if due < least {
+                least = due;
                 best = place;
             }
         }
         best
+    }
+
+    // What kind the next post of a place is, in its line or aside.
+    fn next_kind(&self, place: u64) -> Option<PostKind> {
+        if let Some(line) = self.lines.get(place as usize) {
+            if let Some(first) = line.first() {
+                return Some(kind_of(first));
+            }
+        }
+        match &self.aside {
+            Some(post) if place_of(post) == place => Some(kind_of(post)),
+            _ => None,
+        }
     }
 
     /// Whether somebody waits at a place, in its line or aside.

@@ -1,5 +1,6 @@
 //! What the receiving end tells the posters, and whose turn it is.
 use crate::backlog::Backlog;
+use crate::post_kind::PostKind;
 use crate::room_bell::RoomBell;
 use crate::schedule::{Schedule, TOLD_AT_ONCE};
 use crate::seat_lines::SeatLines;
@@ -43,15 +44,29 @@ impl SeatTurns {
         self.schedule.is_calm() && lines.is_idle() && !self.room.is_awaited()
     }
 
-    /// A post of a place is given: the seat is told in portions, and so is who waits for room.
-    pub(crate) fn note_given(&mut self, place: u64) {
-        if self.schedule.note_given(place) {
+    /// A post of a place is given: the seat is told in portions, and so is who waits for room. Behind a client's last post nobody
+    /// takes on what is next, so that what was handed back is dropped here.
+    pub(crate) fn note_given(&mut self, place: u64, kind: PostKind) {
+        if self.schedule.note_given(place, kind) {
             self.tell(place);
+        }
+        if kind == PostKind::Last {
+            self.let_go(place);
         }
         self.unrung = self.unrung.saturating_add(1);
         if self.unrung >= UNRUNG {
             self.unrung = 0;
             self.room.ring();
+        }
+    }
+
+    // Drops what was handed back to a seat.
+    fn let_go(&self, place: u64) {
+        if place == 0 {
+            return;
+        }
+        if let Some(backlog) = self.backlogs.get((place - 1) as usize) {
+            backlog.let_go();
         }
     }
 
@@ -63,6 +78,18 @@ impl SeatTurns {
         if let Some(backlog) = self.backlogs.get((place - 1) as usize) {
             backlog.tell_given(u64::from(TOLD_AT_ONCE));
         }
+    }
+
+    /// How many posts wait to be given, of all seats.
+    pub(crate) fn posts_waiting(&self) -> u64 {
+        let mut all: u64 = 0;
+        let mut place: u64 = 0;
+        for backlog in &self.backlogs {
+            place = place.wrapping_add(1);
+            let waiting = backlog.posts_waiting();
+            all = all.saturating_add(waiting.saturating_sub(self.schedule.untold(place)));
+        }
+        all
     }
 
     /// The place whose post is next: the one whose turn it is goes on, if it has another post.

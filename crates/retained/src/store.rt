@@ -27,6 +27,8 @@ const MOST_RETAINED: usize = 1000;
 #[derive(Drop)]
 pub struct Store {
     publications: Vec<Kept>,
+    // The octets of their topics and arguments. Contracts see nothing of it.
+    octets: u64,
 }
 
 impl Model for Store {
@@ -52,6 +54,7 @@ impl Store {
     {
         Store {
             publications: Vec::new(alloc),
+            octets: 0,
         }
     }
 
@@ -70,6 +73,26 @@ impl Store {
         MOST_RETAINED <= self.publications.len()
     }
 
+    /// How many topics have a retained publication.
+    pub fn len(&self) -> usize
+        ensures { result ≡ length self.now }
+    {
+        self.publications.len()
+    }
+
+    /// How many octets their topics and arguments take, for who looks on.
+    pub fn octets(&self) -> u64 {
+        self.octets
+    }
+
+    /// The octets without those of the publication at this place.
+    fn octets_without(&self, place: usize) -> u64 {
+        match self.publications.get(place) {
+            Some(kept) => self.octets.wrapping_sub(kept.publication().octets()),
+            None => self.octets,
+        }
+    }
+
     /// Keeps a publication, in the place of what its topic had.
     ///
     /// # Errors
@@ -85,14 +108,20 @@ impl Store {
     {
         match place_of(&self.publications, publication.value().topic.text()) {
             Ok(place) => {
+                let octets = self
+                    .octets_without(place)
+                    .wrapping_add(octets_of(&publication));
                 self.publications[place] = Kept::of(publication);
+                self.octets = octets;
                 Ok(())
             }
             Err(place) => {
                 if self.publications.len() >= MOST_RETAINED {
                     return Err(Fault::RetainedFull);
                 }
+                let octets = self.octets.wrapping_add(octets_of(&publication));
                 self.publications.insert(place, Kept::of(publication))?;
+                self.octets = octets;
                 Ok(())
             }
         }
@@ -144,6 +173,11 @@ impl Store {
         }
         Ok(found)
     }
+}
+
+/// The octets of a publication's topic and arguments.
+fn octets_of(publication: &Shared<Publication>) -> u64 {
+    publication.value().octets()
 }
 
 /// Whether the pattern, whose components are counted where it is a wildcard, matches the

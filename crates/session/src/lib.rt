@@ -29,12 +29,12 @@ mod wire;
 
 pub use fault::Fault;
 pub use messages::from_client::{read_payload, read_said};
-pub use messages::to_client::item_message;
+pub use messages::to_client::{item_message, uri};
 pub use messages::tree_elements::{TreeElements, id_among};
 pub use opening::first_message::{abort_reason, abort_uri, first};
-pub use opening::hello::First;
-pub use opening::open_session;
+pub use opening::hello::{Asked, First};
 pub use opening::opened_session::Opened;
+pub use opening::{open_session, open_session_noting};
 pub use wamp_messages::{
     Args, CarriedArgs, Decoded, Item, Lists, Publication, Publish, PublishOptions, Reason, Request,
     Said, SaidKind, SubscribeOptions, Who,

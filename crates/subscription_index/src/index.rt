@@ -140,6 +140,11 @@ impl Index {
         }
     }
 
+    /// How many patterns are held: each as often as there are connections that hold it.
+    pub fn len(&self) -> usize {
+        self.rows.iter().len()
+    }
+
     /// The least number of the connection.
     fn first_of(&self, conn: Conn) -> Option<Id>
         ensures none { result ≡ None → without_all self.now.rows conn ≡ self.now.rows }

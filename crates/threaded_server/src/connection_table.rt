@@ -29,7 +29,7 @@ use crate::realms::Realms;
 use crate::roster::Roster;
 use crate::seats::Seats;
 use crate::starting::{Newcomer, Started, start};
-use broker_threads::told::{tell_accepted, tell_closed, tell_refused};
+use broker_threads::told::{tell_accepted, tell_refused, tell_unserved};
 use broker_threads::{Closed, Ended, Fate, Plan, SeatTable};
 use ghost_state::GhostList;
 use log_lines::{CloseReason, ConnectionRefusal};
@@ -40,6 +40,7 @@ use std::alloc::{AllocError, Global};
 use std::snapshot::Snapshot;
 use std::sync::{Arc, Wait};
 use std::thread::Threads;
+use std::time::Clock;
 use wamp_ids::{Conn, seat_index};
 
 /// A stream that came, taken apart.
@@ -229,7 +230,7 @@ impl<
 
     /// Starts the reader of a stream at the lowest free seat. Where none is free its client is told so, and where memory or a thread is
     /// refused it is told nothing; the stream is closed then, and this is what is left of it.
-    pub fn admit<R: Threads + Wait + Copy + Send + 'static>(
+    pub fn admit<R: Threads + Wait + Clock + Copy + Send + 'static>(
         &mut self,
         rt: R,
         arrival: Arrival<I, O, S>,
@@ -245,7 +246,7 @@ impl<
             tell_refused(&rt, &self.plan.log, &peer, ConnectionRefusal::NoSeat);
             return Some(self.turn_away(parts));
         };
-        tell_accepted(&rt, &self.plan.log, conn, &peer);
+        tell_accepted(&rt, &self.plan, conn, &peer);
         let place = seat_index(conn);
         let posters = self.posters.take(conn);
         self.marks.sits(conn);
@@ -265,14 +266,14 @@ impl<
                 self.roster.pass(halves, Snapshot::of(&over));
                 let (gone, why) = take_in(&rt, &mut self.realms, &mut self.posters, place, ended);
                 vacate(&self.marks, &mut self.seats, conn);
-                tell_closed(&rt, &self.plan.log, conn, why);
+                tell_unserved(&rt, &self.plan, conn, why);
                 Some(gone)
             }
             Started::Refused(halves, posters) => {
                 self.posters.put(place, posters);
                 let gone = self.roster.let_go(halves);
                 vacate(&self.marks, &mut self.seats, conn);
-                tell_closed(&rt, &self.plan.log, conn, CloseReason::NoMemory);
+                tell_unserved(&rt, &self.plan, conn, CloseReason::NoMemory);
                 Some(gone)
             }
         }

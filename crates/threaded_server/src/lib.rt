@@ -39,7 +39,7 @@ pub use acceptor::{Accepted, Acceptor, Parts};
 pub use account::Account;
 pub use answer::Answer;
 pub use broker_config::{Config, Fault, Ids, copy_grants};
-pub use broker_threads::{Closed, Log, LogEnd, SessionEnds};
+pub use broker_threads::{Closed, Log, LogEnd, SessionEnds, Telling};
 pub use connection::{ReadEnd, WriteEnd};
 pub use seat_fault::SeatFault;
 pub use seats::Seats;

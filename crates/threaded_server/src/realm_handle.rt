@@ -13,7 +13,7 @@ use std::alloc::{AllocError, Global};
 use std::snapshot::Snapshot;
 use std::sync::Wait;
 use std::thread::{PromisedHandle, Threads};
-use std::time::Clock;
+use std::time::{Clock, CpuClock};
 
 /// What the accepting thread has of a realm: the door of its inbox, its actor's thread, and what that tells.
 #[derive(Drop)]
@@ -37,7 +37,7 @@ impl<S: Shut + Send + 'static> RealmHandle<S> {
     ///
     /// # Errors
     /// Where a thread was refused.
-    pub fn start<R: Threads + Wait + Clock + Copy + Send + 'static>(
+    pub fn start<R: Threads + Wait + Clock + CpuClock + Copy + Send + 'static>(
         rt: R,
         alloc: Global,
         door: Door<S>,

@@ -28,10 +28,10 @@ use realm_inbox::{RealmChronicle, Shut};
 use std::alloc::{AllocError, Global};
 use std::random::RandomSource;
 use std::snapshot::Snapshot;
-use std::sync::atomic::{AtomicBool, Ordering};
+use std::sync::atomic::{AtomicBool, AtomicU64, Ordering};
 use std::sync::{Arc, Wait};
 use std::thread::Threads;
-use std::time::Clock;
+use std::time::{Clock, CpuClock};
 use wamp_ids::Topic;
 
 /// How many posts may wait in a realm's inbox.
@@ -52,12 +52,10 @@ const MOST_FAILURES: u32 = 100;
 /// # Errors
 /// [`Fault::NoMemory`] where memory, a thread or a seed was refused before anything was accepted; [`Fault::ListenFault`] after 100
 /// failures in a row.
-pub fn serve_on<R: Threads + Wait + Clock + RandomSource + Copy + Send + 'static, A: Acceptor>(
-    rt: R,
-    alloc: Global,
-    acceptor: &mut A,
-    config: &Config,
-) -> Result<(), Fault>
+pub fn serve_on<
+    R: Threads + Wait + Clock + CpuClock + RandomSource + Copy + Send + 'static,
+    A: Acceptor,
+>(rt: R, alloc: Global, acceptor: &mut A, config: &Config) -> Result<(), Fault>
     requires realms { 0 < length config.now.realms.items }
     requires least { 0 < config.now.outbox }
     requires most { config.now.outbox ≤ 65536 }
@@ -75,13 +73,10 @@ pub fn serve_on<R: Threads + Wait + Clock + RandomSource + Copy + Send + 'static
 ///
 /// # Errors
 /// As for [`serve_on`].
-pub fn serve_logged<R: Threads + Wait + Clock + RandomSource + Copy + Send + 'static, A: Acceptor>(
-    rt: R,
-    alloc: Global,
-    acceptor: &mut A,
-    config: &Config,
-    log: Option<Log>,
-) -> Result<(), Fault>
+pub fn serve_logged<
+    R: Threads + Wait + Clock + CpuClock + RandomSource + Copy + Send + 'static,
+    A: Acceptor,
+>(rt: R, alloc: Global, acceptor: &mut A, config: &Config, log: Option<Log>) -> Result<(), Fault>
     requires realms { 0 < length config.now.realms.items }
     requires least { 0 < config.now.outbox }
     requires most { config.now.outbox ≤ 65536 }
@@ -102,7 +97,10 @@ pub fn serve_logged<R: Threads + Wait + Clock + RandomSource + Copy + Send + 'st
 }
 
 // Starts the realms' actors, and accepts streams until there is an end to it.
-fn open_and_accept<R: Threads + Wait + Clock + RandomSource + Copy + Send + 'static, A: Acceptor>(
+fn open_and_accept<
+    R: Threads + Wait + Clock + CpuClock + RandomSource + Copy + Send + 'static,
+    A: Acceptor,
+>(
     rt: R,
     acceptor: &mut A,
     connection_table: &mut ConnectionTable<A::Source, A::Sink, Marked<A::Shut>>,
@@ -160,6 +158,7 @@ fn plan_of(alloc: Global, config: &Config, log: Option<Log>) -> Result<Plan, All
         outbox: config.outbox,
         log,
         is_stopping: AtomicBool::new(false),
+        connections: AtomicU64::new(0),
     })
 }
 
@@ -176,7 +175,7 @@ fn realm_config(alloc: Global, name: &Topic, config: &Config) -> Result<RealmCon
 
 // Starts the realms' actors.
 fn open<
-    R: Threads + Wait + Clock + RandomSource + Copy + Send + 'static,
+    R: Threads + Wait + Clock + CpuClock + RandomSource + Copy + Send + 'static,
     I: Source + Drop + Send + 'static,
     O: Sink + Drop + Send + 'static,
     S: Shut + Send + 'static,
@@ -196,7 +195,7 @@ fn open<
 }
 
 fn open_realm<
-    R: Threads + Wait + Clock + RandomSource + Copy + Send + 'static,
+    R: Threads + Wait + Clock + CpuClock + RandomSource + Copy + Send + 'static,
     I: Source + Drop + Send + 'static,
     O: Sink + Drop + Send + 'static,
     S: Shut + Send + 'static,
@@ -238,7 +237,7 @@ fn open_realm<
 }
 
 // Accepts streams until there is an end to it.
-fn accept_all<R: Threads + Wait + Copy + Send + 'static, A: Acceptor>(
+fn accept_all<R: Threads + Wait + Clock + Copy + Send + 'static, A: Acceptor>(
     rt: R,
     acceptor: &mut A,
     connection_table: &mut ConnectionTable<A::Source, A::Sink, Marked<A::Shut>>,
@@ -322,7 +321,7 @@ fn join_all<R: Threads + Wait, A: Acceptor>(
 }
 
 // Takes a stream apart, and admits it.
-fn receive<R: Threads + Wait + Copy + Send + 'static, A: Acceptor>(
+fn receive<R: Threads + Wait + Clock + Copy + Send + 'static, A: Acceptor>(
     rt: R,
     acceptor: &mut A,
     connection_table: &mut ConnectionTable<A::Source, A::Sink, Marked<A::Shut>>,
@@ -358,7 +357,7 @@ fn peer_of<A: Acceptor>(acceptor: &A, plan: &Plan, stream: &A::Stream) -> Option
 }
 
 // Tells why accepting failed, where anybody is told.
-fn tell_failure<R: Wait, A: Acceptor>(rt: &R, acceptor: &A, plan: &Plan) {
+fn tell_failure<R: Wait + Clock, A: Acceptor>(rt: &R, acceptor: &A, plan: &Plan) {
     if let Some(log) = &plan.log {
         tell_failed(rt, log, &acceptor.failure(log.alloc()));
     }
@@ -367,7 +366,7 @@ fn tell_failure<R: Wait, A: Acceptor>(rt: &R, acceptor: &A, plan: &Plan) {
 // Admits a stream, whose handle marks the fate of its connection from now on. Where memory is refused it is closed. What is left of it,
 // where it is closed.
 fn admit<
-    R: Threads + Wait + Copy + Send + 'static,
+    R: Threads + Wait + Clock + Copy + Send + 'static,
     I: Source + Drop + Send + 'static,
     O: Sink + Drop + Send + 'static,
     S: Shut + Send + 'static,

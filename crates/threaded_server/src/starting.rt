@@ -16,6 +16,7 @@ use std::snapshot::Snapshot;
 use std::sync::atomic::{AtomicBool, Ordering};
 use std::sync::{Arc, Wait};
 use std::thread::{self, PromisedHandle, Threads};
+use std::time::Clock;
 use wamp_ids::Conn;
 
 /// A connection that is to begin.
@@ -54,7 +55,7 @@ struct ReaderTools<S> {
 
 /// Starts the reader of a connection.
 pub fn start<
-    R: Threads + Wait + Copy + Send + 'static,
+    R: Threads + Wait + Clock + Copy + Send + 'static,
     I: Source + Drop + Send + 'static,
     O: Sink + Drop + Send + 'static,
     S: Shut + Send + 'static,
@@ -106,7 +107,7 @@ fn tools_of<S: Shut>(alloc: Global, plan: &Arc<Plan>, shut: S) -> Option<ReaderT
 
 // Starts the thread of a reader. Where none can be made it has given back what it had.
 fn run<
-    R: Threads + Wait + Copy + Send + 'static,
+    R: Threads + Wait + Clock + Copy + Send + 'static,
     I: Source + Drop + Send + 'static,
     O: Sink + Drop + Send + 'static,
     S: Shut + Send + 'static,
@@ -139,7 +140,7 @@ fn run<
 // Starts the thread of a reader. Where no thread can be made the reader is run here, which is told first that it is over: so it gives back
 // what it has at once.
 fn start_reader<
-    R: Threads + Wait + Copy + Send + 'static,
+    R: Threads + Wait + Clock + Copy + Send + 'static,
     I: Source + Drop + Send + 'static,
     O: Sink + Drop + Send + 'static,
     S: Shut + Send + 'static,

@@ -60,6 +60,14 @@ pub struct Publication {
     pub args: CarriedArgs,
 }
 
+impl Publication {
+    /// How many octets its topic and arguments take, as MessagePack has these.
+    pub fn octets(&self) -> u64 {
+        let topic = self.topic.text().len() as u64;
+        topic.wrapping_add(self.args.args().octets() as u64)
+    }
+}
+
 /// What the broker owes a session: each item is one message to it (WAMP, "Messages"), or the PONG
 /// of a PING (WAMP, "RawSocket Transport").
 #[derive(Drop)]

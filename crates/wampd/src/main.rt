@@ -12,31 +12,35 @@ ghost use Rattle.command_line.specs.Commands.{IsServable, IsWritten, fault_line,
 
 mod arrivals;
 mod away;
+mod checking;
 mod clients;
 mod connecting;
 mod dialer;
 mod due_stream;
 mod failure;
 mod keepalive;
+mod logging;
 mod patient_stream;
 mod places;
 
 use broker_server::{
-    Command, Config, Fault, Log, LogEnd, TcpAcceptor, listening, read_command, replay,
-    report_failure, serve_logged,
+    Command, Config, Fault, Purpose, Serving, TcpAcceptor, read_command, replay, report_failure,
+    serve_logged, warn_of_exposure,
 };
+use checking::{check, warn_of_host};
 use clients::{run_publish, run_publish_file, run_subscribe};
 use failure::Failure;
+use logging::{await_end, start_log};
 use places::fill_closed;
 use rawsocket::devices::{ReadSource, Sink, Turns, WriteSink, send};
-use std::alloc::{AllocError, Global};
+use std::alloc::Global;
 use std::env;
 use std::net::{Net, TcpListener, TcpStream};
 use std::process::ExitCode;
 use std::random::RandomSource;
 use std::sync::Wait;
-use std::thread::{self, Threads};
-use std::time::{Clock, Duration};
+use std::thread::Threads;
+use std::time::{Clock, CpuClock};
 
 fn main(rt: HostRuntime) -> ExitCode {
     let ran = run(&rt, rt);
@@ -65,6 +69,7 @@ where
         + Wait
         + RandomSource
         + Clock
+        + CpuClock
         + Net<Stream = TcpStream, Listener = TcpListener>
         + Copy
         + Send
@@ -86,18 +91,19 @@ where
             port,
             config,
             log,
+            stats,
+            purpose,
         } => {
-            let errors = if log {
-                Some(WriteSink::new(host.stderr()))
-            } else {
-                None
-            };
             let _places = fill_closed(host);
-            let place = Address {
-                host: name.as_str(),
+            let serving = Serving {
+                purpose,
+                host: name,
                 port,
+                config,
+                log,
+                stats,
             };
-            return serve(rt, alloc, &mut output, errors, place, &config);
+            return run_serve(host, rt, alloc, &mut output, &serving);
         }
         Command::Subscribe(command) => {
             let _places = fill_closed(host);
@@ -149,46 +155,100 @@ fn words_of(host: &HostRuntime) -> Result<Vec<String>, Failure> {
     }
 }
 
-/// Where it listens.
-#[derive(Clone, Copy, Drop)]
-struct Address<'a> {
-    host: &'a str,
-    port: u16,
-}
-
-/// Listens, says so, and serves whoever connects. What happens to connections is told to `errors`, if there are any.
-fn serve<R, S: Sink, E: Sink + Drop + Send + 'static>(
+/// Serves, or tells what would be served.
+fn run_serve<R, S: Sink>(
+    host: &HostRuntime,
     rt: R,
     alloc: Global,
     output: &mut S,
-    errors: Option<E>,
-    place: Address<'_>,
-    config: &Config,
+    serving: &Serving,
 ) -> Result<(), Failure>
 where
     R: Threads
         + Wait
         + RandomSource
         + Clock
+        + CpuClock
         + Net<Stream = TcpStream, Listener = TcpListener>
         + Copy
         + Send
         + 'static,
-    requires { IsServable config.now }
+    requires { IsServable serving.now.config }
 {
-    let Address { host, port } = place;
-    let listener = match TcpListener::bind(&rt, (host, port)) {
-        Ok(listener) => listener,
-        Err(error) => return Err(Failure::to_listen(alloc, host, port, &error)),
-    };
-    if let Err(fault) = announce(alloc, output, host, port) {
+    let mut notes = WriteSink::new(host.stderr());
+    match serving.purpose {
+        Purpose::Serve => {
+            let errors = if serving.log {
+                Some(WriteSink::new(host.stderr()))
+            } else {
+                None
+            };
+            serve(rt, alloc, output, &mut notes, errors, serving)
+        }
+        Purpose::Check => {
+            let port = Some(listen(&rt, alloc, serving, &mut notes));
+            check(alloc, output, serving, port)
+        }
+        Purpose::CheckUnbound => {
+            warn_of_host(serving, &mut notes);
+            check(alloc, output, serving, None::<Result<TcpListener, Failure>>)
+        }
+    }
+}
+
+/// Listens at the port, and tells `notes` where that is one of every address of the machine.
+fn listen<R: Net<Stream = TcpStream, Listener = TcpListener>, N: Sink>(
+    rt: &R,
+    alloc: Global,
+    serving: &Serving,
+    notes: &mut N,
+) -> Result<TcpListener, Failure>
+    ensures { IfErr result (λ failure. failure.fault ≡ Fault.ListenFault) }
+{
+    let host = serving.host.as_str();
+    match TcpListener::bind(rt, (host, serving.port)) {
+        Ok(listener) => {
+            if let Ok(address) = listener.local_addr() {
+                warn_of_exposure(address.ip().to_canonical(), notes);
+            }
+            Ok(listener)
+        }
+        Err(error) => Err(Failure::to_listen(alloc, host, serving.port, &error)),
+    }
+}
+
+/// Listens, says so, and serves whoever connects. What happens to connections is told to `errors`, if there are any, and a warning to
+/// `notes`, if there is one.
+fn serve<R, S: Sink, N: Sink, E: Sink + Drop + Send + 'static>(
+    rt: R,
+    alloc: Global,
+    output: &mut S,
+    notes: &mut N,
+    errors: Option<E>,
+    serving: &Serving,
+) -> Result<(), Failure>
+where
+    R: Threads
+        + Wait
+        + RandomSource
+        + Clock
+        + CpuClock
+        + Net<Stream = TcpStream, Listener = TcpListener>
+        + Copy
+        + Send
+        + 'static,
+    requires servable { IsServable serving.now.config }
+    requires asked { serving.now.purpose ≡ Purpose.Serve }
+{
+    let listener = listen(&rt, alloc, serving, notes)?;
+    if let Err(fault) = announce(alloc, output, serving) {
         return Err(Failure::of(alloc, fault));
     }
-    let Ok((log, end)) = start_log(rt, alloc, errors, place) else {
+    let Ok((log, end)) = start_log(rt, alloc, errors, serving) else {
         return Err(Failure::of(alloc, Fault::NoMemory));
     };
     let mut acceptor = TcpAcceptor::new(listener, rt);
-    let served = serve_logged(rt, alloc, &mut acceptor, config, log);
+    let served = serve_logged(rt, alloc, &mut acceptor, &serving.config, log);
     if let Some(end) = &end {
         await_end(&rt, end);
     }
@@ -198,33 +258,10 @@ where
     }
 }
 
-/// Starts the log that is written to `errors`, if there are any, by where it listens.
-fn start_log<R: Threads + Wait + Copy + Send + 'static, E: Sink + Drop + Send + 'static>(
-    rt: R,
-    alloc: Global,
-    errors: Option<E>,
-    place: Address<'_>,
-) -> Result<(Option<Log>, Option<LogEnd>), AllocError> {
-    let Some(errors) = errors else {
-        return Ok((None, None));
-    };
-    let (log, end) = Log::start(rt, alloc, errors)?;
-    log.tell(&rt, listening(alloc, place.host, place.port));
-    Ok((Some(log), Some(end)))
-}
-
-/// Waits until a log is written, but no longer than a second: its sink may take nothing.
-fn await_end<R: Clock>(clock: &R, end: &LogEnd) {
-    for _ in 0..200 {
-        if end.is_over() {
-            return;
-        }
-        thread::sleep(clock, Duration::from_millis(5));
-    }
-}
-
 /// Says where it listens.
-fn announce<S: Sink>(alloc: Global, output: &mut S, host: &str, port: u16) -> Result<(), Fault> {
+fn announce<S: Sink>(alloc: Global, output: &mut S, serving: &Serving) -> Result<(), Fault> {
+    let host = serving.host.as_str();
+    let port = serving.port;
     let line = format!(in alloc; "listening on {host}:{port}\n")?;
     print(output, line.as_bytes())
 }

@@ -58,7 +58,7 @@ pub fn item_message(alloc: Global, item: &Item) -> Result<Option<Message>, Alloc
 }
 
 /// The URI of a reason.
-pub(crate) fn uri(reason: Reason) -> &'static str
+pub fn uri(reason: Reason) -> &'static str
     ensures { result.now ≡ uri_of reason }
 {
     match reason {

@@ -5,7 +5,7 @@ ghost use Rattle.session.specs.FirstMessage.{first_of, is_hello, abort_uri_of, r
 
 use crate::fault::Fault;
 use crate::messages::to_client::uri;
-use crate::opening::hello::First;
+use crate::opening::hello::{Asked, First};
 use message_tree::Text;
 use wamp_ids::Topic;
 use wamp_messages::{Reason, Said};
@@ -25,13 +25,36 @@ pub fn first(said: Said, realms: &[Topic]) -> Result<First, Fault>
     ensures shape { (result ≡ Err Fault.Shape) ↔ (is_hello said ≡ false) }
     ensures faults { IfErr result (λ fault. (fault ≡ Fault.NoSuchRealm) ⊎ (fault ≡ Fault.Shape)) }
 {
+    first_noting(said, realms, &mut None)
+}
+
+/// The same. Where the realm isn't there, what was asked for stands in `asked`.
+///
+/// # Errors
+/// As for [`first`].
+pub(crate) fn first_noting(
+    said: Said,
+    realms: &[Topic],
+    asked: &mut Option<Asked>,
+) -> Result<First, Fault>
+    ensures ok { IfOk result (λ f. first_of said realms.now
+        ≡ Some (f.realm, option_map string_bytes f.authid)) }
+    ensures in_list { IfOk result (λ f. f.realm < length realms.now) }
+    ensures no_such_realm { (result ≡ Err Fault.NoSuchRealm)
+        ↔ ((is_hello said ≡ true) × (first_of said realms.now ≡ None)) }
+    ensures shape { (result ≡ Err Fault.Shape) ↔ (is_hello said ≡ false) }
+    ensures faults { IfErr result (λ fault. (fault ≡ Fault.NoSuchRealm) ⊎ (fault ≡ Fault.Shape)) }
+{
     match said {
         Said::Hello { realm, authid } => match place_of(&realm, realms) {
-            Some(realm) => Ok(First {
-                realm,
+            Some(place) => Ok(First {
+                realm: place,
                 authid: string_of(authid),
             }),
-            None => Err(Fault::NoSuchRealm),
+            None => {
+                *asked = Some(Asked { realm, authid });
+                Err(Fault::NoSuchRealm)
+            }
         },
         _ => Err(Fault::Shape),
     }

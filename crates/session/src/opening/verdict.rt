@@ -7,8 +7,8 @@ ghost use Rattle.session.specs.FrameWalk.{Adds, AddsFor, verdict_of};
 use crate::fault::Fault;
 use crate::messages::from_client::read_payload;
 use crate::messages::to_client::farewell;
-use crate::opening::first_message::{abort_reason, first};
-use crate::opening::hello::First;
+use crate::opening::first_message::{abort_reason, first_noting};
+use crate::opening::hello::{Asked, First};
 use crate::wire::serializer::{decode, encode};
 use rawsocket::{Frame, Kind, Serializer, write_frame};
 use std::alloc::{AllocError, Global};
@@ -42,6 +42,7 @@ fn ask(
     serializer: Serializer,
     realms: &[Topic],
     payload: &[u8],
+    asked: &mut Option<Asked>,
 ) -> Result<First, Fault>
     ensures ok { IfOk result (λ f. Asks serializer realms.now
         payload.now (f.realm, option_map string_bytes f.authid)) }
@@ -52,7 +53,7 @@ fn ask(
         Ok(said) => said,
         Err(fault) => return Err(fault),
     };
-    first(said, realms)
+    first_noting(said, realms, asked)
 }
 
 /// Writes the frame of an ABORT at the end.
@@ -97,13 +98,14 @@ fn decide(
     payload: &[u8],
     early: Vec<Frame>,
     out: &mut Vec<u8>,
+    asked: &mut Option<Asked>,
 ) -> Result<Verdict, AllocError>
     ensures decided { IfOk result (λ v. AddsFor
         (terms client.serializer client.limit realms.now)
         (record { kind = Kind.Message; payload = payload.now } ∷ contents early.items)
         out.old.items out.new.items (verdict_of v)) }
 {
-    match ask(alloc, client.serializer, realms, payload) {
+    match ask(alloc, client.serializer, realms, payload, asked) {
         Ok(first) => Ok(Verdict::Opens(first, early)),
         Err(Fault::NoMemory) => Err(AllocError),
         Err(fault) => refuse(alloc, client.serializer, fault, out),
@@ -158,6 +160,7 @@ pub(crate) fn judge(
     frames: Vec<Frame>,
     fault: Option<rawsocket::Fault>,
     out: &mut Vec<u8>,
+    asked: &mut Option<Asked>,
 ) -> Result<Verdict, AllocError>
     requires { client.limit ≤ 16777215 }
     ensures decided { IfOk result (λ v. Adds
@@ -174,7 +177,15 @@ pub(crate) fn judge(
                 Err(fault) => return Err(fault),
             },
             Kind::Message => {
-                return decide(alloc, client, realms, &frame.payload, left.into_vec(), out);
+                return decide(
+                    alloc,
+                    client,
+                    realms,
+                    &frame.payload,
+                    left.into_vec(),
+                    out,
+                    asked,
+                );
             }
         }
     }

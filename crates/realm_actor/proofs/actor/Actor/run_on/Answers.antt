@@ -12,8 +12,8 @@ use Rattle.realm_actor.proofs.actor.Actor.run_on.Goals as goal
 pub loop-init : goal.loop-init
 loop-init g c = record { progress = progress_none c.args.self (received c.args.inbox.now) c.requires.in_turn; same = refl; chronicle = refl }
 
-pub take-requires : goal.take-requires
-take-requires g c =
+pub take_shown-requires : goal.take_shown-requires
+take_shown-requires g c =
     let i = c.loop.invariant in
     let h = c.in-Some-next_post in
     let home = home_of c.args.inbox.now in
@@ -39,25 +39,25 @@ loop-preserved g c =
     let i = c.loop.invariant in
     let told = c.note_time.ensures.none in
     record {
-      progress = subst (λ r. Progress c.args.self c.take.new.self (received c.args.inbox.now) r) (sym told)
-          (progress_on c.args.self c.loop.self c.sweep.new.self c.take.new.self (received c.args.inbox.now) (received c.loop.inbox) (received c.next_post.new.inbox) c.take.result c.in-Some-next_post.post
-          (sym c.is_stop-ends.ensures ∙ c.if-ends.false) c.loop.invariant.progress c.sweep.ensures.sweeps c.in-Some-next_post.ensures.given c.in-Some-next_post.ensures.in_turn c.take.ensures.handles);
+      progress = subst (λ r. Progress c.args.self c.take_shown.new.self (received c.args.inbox.now) r) (sym told)
+          (progress_on c.args.self c.loop.self c.sweep.new.self c.take_shown.new.self (received c.args.inbox.now) (received c.loop.inbox) (received c.next_post.new.inbox) c.take_shown.result c.in-Some-next_post.post
+          (sym c.is_stop-ends.ensures ∙ c.if-ends.false) c.loop.invariant.progress c.sweep.ensures.sweeps c.in-Some-next_post.ensures.given c.in-Some-next_post.ensures.in_turn c.take_shown.ensures.handles);
       same = c.note_time.ensures.same ∙ c.in-Some-next_post.ensures.same ∙ i.same;
-      chronicle = c.take.ensures.chronicle ∙ c.sweep.ensures.chronicle ∙ i.chronicle;
+      chronicle = c.take_shown.ensures.chronicle ∙ c.sweep.ensures.chronicle ∙ i.chronicle;
     }
 
 pub returns-then-ends : goal.returns-then-ends
 returns-then-ends g c =
     let told = c.note_time.ensures.none in
-    let s = ends_stopped c.args.self c.loop.self c.sweep.new.self c.take.new.self (received c.args.inbox.now) (received c.loop.inbox) (received c.note_time.new.inbox) c.take.result c.in-Some-next_post.post
-    (sym c.is_stop-ends.ensures ∙ c.if-ends.true) c.loop.invariant.progress c.sweep.ensures.sweeps (told ∙ c.in-Some-next_post.ensures.given) c.in-Some-next_post.ensures.in_turn c.take.ensures.handles in
+    let s = ends_stopped c.args.self c.loop.self c.sweep.new.self c.take_shown.new.self (received c.args.inbox.now) (received c.loop.inbox) (received c.note_time.new.inbox) c.take_shown.result c.in-Some-next_post.post
+    (sym c.is_stop-ends.ensures ∙ c.if-ends.true) c.loop.invariant.progress c.sweep.ensures.sweeps (told ∙ c.in-Some-next_post.ensures.given) c.in-Some-next_post.ensures.in_turn c.take_shown.ensures.handles in
     let e = s.0 in
     record {
       ran = (e.0, e.1, e.2, e.3, λ _. s.1);
       begins = ran_begins e.3;
-      in_turn = run_same c.args.self c.take.new.self (received c.args.inbox.now) (received c.note_time.new.inbox) c.requires.in_turn e;
-      order = run_order c.args.self c.take.new.self e.0 c.shows.ensures.made e.3;
+      in_turn = run_same c.args.self c.take_shown.new.self (received c.args.inbox.now) (received c.note_time.new.inbox) c.requires.in_turn e;
+      order = run_order c.args.self c.take_shown.new.self e.0 c.shows.ensures.made e.3;
       held = ran_holds e.3;
-      chronicle = c.take.ensures.chronicle ∙ c.sweep.ensures.chronicle ∙ c.loop.invariant.chronicle;
+      chronicle = c.take_shown.ensures.chronicle ∙ c.sweep.ensures.chronicle ∙ c.loop.invariant.chronicle;
       same = c.note_time.ensures.same ∙ c.in-Some-next_post.ensures.same ∙ c.loop.invariant.same;
     }

@@ -3,7 +3,7 @@ use Rattle.std.proofs.Common.{◌≡◌, sym, ap}
 use Rattle.connection.specs.Reader.{read_told}
 use Rattle.connection.specs.declared.reader.ReadEnd.TheVariants.{Ended, ActorGone}
 use Rattle.connection.proofs.ReaderProgress.{departs_ends, departs_same, departs_as}
-use Rattle.connection.proofs.reader.read_posts.Goals as goal
+use Rattle.connection.proofs.reader.read_counted.Goals as goal
 
 pub returns-clause-posted : goal.returns-clause-posted
 returns-clause-posted g c =
