@@ -21,6 +21,8 @@ pub struct Herald<'a, R> {
     realm: usize,
     serializer: Serializer,
     limit: u32,
+    // Whether the log tells of the realm, and so of its outboxes.
+    is_counted: bool,
     // How many items the writer took: a WELCOME is the first one.
     taken: u64,
     // How many EVENTs it wrote.
@@ -49,6 +51,7 @@ impl<'a, R> Herald<'a, R> {
             realm,
             serializer,
             limit,
+            is_counted: plan.board(realm).is_some(),
             taken: 0,
             events: 0,
             octets: None,
@@ -97,7 +100,9 @@ impl<R: Wait + Clock> Watch for Herald<'_, R> {
             }
         }
         self.taken = self.taken.wrapping_add(1);
-        self.fate.note_taken(self.taken);
+        if self.is_counted {
+            self.fate.note_taken(self.taken);
+        }
     }
 
     fn writes(&mut self, item: &Item) {

@@ -26,6 +26,9 @@ pub const MOST_POSTS_WAITING: u64 = 256;
 /// Who waits for that goes on once so many wait, or fewer.
 const RESUMED_POSTS: u64 = 128;
 
+/// A seat tells once in so many posts how many it posted: each telling is a locked instruction.
+const TOLD_POSTS: u64 = 16;
+
 /// The octets of one client that wait for another thread. One thread takes them on, and others give them back.
 ///
 /// Nothing is promised of it, as another thread may change it at any time. It is there to bound what one client can make the broker
@@ -33,7 +36,7 @@ const RESUMED_POSTS: u64 = 128;
 #[derive(Drop)]
 pub struct Backlog {
     waiting: AtomicU64,
-    // How many acts were posted at the seat.
+    // How many acts were posted at the seat, as far as it was told.
     posted: AtomicU64,
     // How many posts were given to who receives, as far as it was told.
     given: AtomicU64,
@@ -162,7 +165,9 @@ impl PostCount {
             self.given = backlog.await_given(rt, self.posted);
         }
         self.posted = self.posted.wrapping_add(1);
-        backlog.posted.store(self.posted, Ordering::Relaxed);
+        if self.posted % TOLD_POSTS == 0 {
+            backlog.posted.store(self.posted, Ordering::Relaxed);
+        }
     }
 }
 
