@@ -67,19 +67,20 @@ impl Board {
 
     // So many items wait in the longest outbox now.
     fn see_outbox(&self, items: u64) {
-        if self.longest_outbox.load(Ordering::Relaxed) < items {
-            self.longest_outbox.store(items, Ordering::Relaxed);
-        }
+        self.longest_outbox.fetch_max(items, Ordering::SeqCst);
     }
 
-    /// A session was cut, as its outbox was full.
-    pub fn note_cut(&self) {
+    /// A session was cut, as so many items waited in its outbox.
+    pub fn note_cut(&self, items: u64) {
+        self.see_outbox(items);
         self.cut.fetch_add(1, Ordering::SeqCst);
     }
 
     /// What was told, of publications, EVENTs and sessions that were cut all so far. Of outboxes it is the longest that was told since the
     /// last time: what waits in one is taken without the actor.
     pub fn so_far(&self) -> RealmStats {
+        // Before its outbox is looked at: so the line that tells of a cut tells of that outbox too.
+        let cut = self.cut.load(Ordering::SeqCst);
         RealmStats {
             sessions: self.sessions.load(Ordering::Relaxed),
             subscriptions: self.subscriptions.load(Ordering::Relaxed),
@@ -89,7 +90,7 @@ impl Board {
             posts: self.posts.load(Ordering::Relaxed),
             publications: self.publications.load(Ordering::Relaxed),
             events: self.events.load(Ordering::Relaxed),
-            cut: self.cut.load(Ordering::Relaxed),
+            cut,
         }
     }
 }
