@@ -37,6 +37,7 @@ mod fault;
 mod frame;
 mod handshake;
 pub mod laws;
+mod message_bound;
 
 pub use deframer::{Deframer, Fed};
 pub use devices::device::{Sink, Source};
@@ -47,3 +48,4 @@ pub use devices::turns::{PIECE, Turns, read_piece, read_turn, send, write_all};
 pub use fault::Fault;
 pub use frame::{Frame, Kind, fill_header, header, write_frame};
 pub use handshake::{Handshake, Serializer, answer, no_seat_reply};
+pub use message_bound::MessageBound;

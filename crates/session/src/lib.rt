@@ -34,7 +34,7 @@ pub use messages::tree_elements::{TreeElements, id_among};
 pub use opening::first_message::{abort_reason, abort_uri, first};
 pub use opening::hello::{Asked, First};
 pub use opening::opened_session::Opened;
-pub use opening::{open_session, open_session_noting};
+pub use opening::{open_session, open_session_noting, open_session_within};
 pub use wamp_messages::{
     Args, CarriedArgs, Decoded, Item, Lists, Publication, Publish, PublishOptions, Reason, Request,
     Said, SaidKind, SubscribeOptions, Who,

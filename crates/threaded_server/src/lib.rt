@@ -43,5 +43,5 @@ pub use broker_threads::{Closed, Log, LogEnd, SessionEnds, Telling};
 pub use connection::{ReadEnd, WriteEnd};
 pub use seat_fault::SeatFault;
 pub use seats::Seats;
-pub use serve::{serve_logged, serve_on};
+pub use serve::{serve_logged, serve_on, serve_within};
 pub use tcp::{TcpAcceptor, TcpHandle};
