@@ -19,7 +19,7 @@ NO_FRAME = b"\x03\x00\x00\x00"
 # What no session of a connection said or was sent that had none.
 NOTHING = {"received": 0, "events": 0, "octets_in": 0, "octets_out": 0, "refused": 0}
 NONE = "".join(f" {key}=0" for key in NOTHING)
-LIMITS = "octets=1048576 connections=256 subscriptions=256 retained=1000"
+LIMITS = "connections=256 subscriptions=256 retained=1000"
 # How long lines are waited for, and how far from now the moment of one may be that is read at once, in seconds.
 SOON, AWAY = 10, 2
 AT = re.compile(r"(.*) at=(\d{4}-\d\d-\d\dT\d\d:\d\d:\d\d\.\d{3}Z)")
@@ -116,7 +116,8 @@ def started(program, options):
     version = subprocess.run([program, "--version"], capture_output=True, encoding="ascii", check=True).stdout.strip().removeprefix("wampd ")
     realms = " ".join([*(it for it in options if it.startswith("r.")), "r.one"])
     outbox = options[options.index("--outbox") + 1] if "--outbox" in options else 256
-    return f'started version="{version}" realms="{realms}" outbox={outbox} limits="{LIMITS}"'
+    octets = options[options.index("--longest-message") + 1] if "--longest-message" in options else 1048576
+    return f'started version="{version}" realms="{realms}" outbox={outbox} limits="octets={octets} {LIMITS}"'
 
 
 def moment(text):

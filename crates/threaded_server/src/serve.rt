@@ -88,14 +88,7 @@ pub fn serve_logged<
         (A.answers acceptor.old) (A.answers acceptor.new) (A.lending acceptor.old)
         (A.lending acceptor.new) ∥₁ }
 {
-    serve_within(
-        rt,
-        alloc,
-        acceptor,
-        config,
-        MessageBound::largest(),
-        log,
-    )
+    serve_within(rt, alloc, acceptor, config, MessageBound::largest(), log)
 }
 
 /// The same, where the messages of clients have to be within this bound, which the reply to their handshake says
