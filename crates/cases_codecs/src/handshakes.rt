@@ -11,13 +11,13 @@ use std::io;
 /// What four octets are answered by, and the reply.
 pub fn handshake(alloc: Global, octets: &[u8]) -> io::Result<String> {
     match octets {
-        [first, second, third, fourth] => {
-            let handshake = answer([*first, *second, *third, *fourth]);
-            let reply = handshake.reply();
-            told(alloc, handshake, reply)
-        }
+        [first, second, third, fourth] => told(alloc, answer([*first, *second, *third, *fourth])),
         _ => line_of(alloc, "not four octets"),
     }
+}
+
+fn told(alloc: Global, handshake: Handshake) -> io::Result<String> {
+    told_with(alloc, handshake, handshake.reply())
 }
 
 /// What the four octets of the words `N OCTETS` are answered by, where payloads may have N octets, and the reply.
@@ -33,7 +33,7 @@ pub fn handshake_within(alloc: Global, words: &str) -> io::Result<String> {
         [first, second, third, fourth] => {
             let handshake = answer([*first, *second, *third, *fourth]);
             let reply = handshake.reply_within(bound);
-            told(alloc, handshake, reply)
+            told_with(alloc, handshake, reply)
         }
         _ => line_of(alloc, "not four octets"),
     }
@@ -47,7 +47,7 @@ pub fn bound_of(octets: u64) -> Option<MessageBound> {
     }
 }
 
-fn told(alloc: Global, handshake: Handshake, reply: Option<[u8; 4]>) -> io::Result<String> {
+fn told_with(alloc: Global, handshake: Handshake, reply: Option<[u8; 4]>) -> io::Result<String> {
     let Some(reply) = reply else {
         return line_of(alloc, "dropped");
     };

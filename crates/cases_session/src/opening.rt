@@ -136,12 +136,24 @@ impl Stream {
         source: &mut I,
         sink: &mut O,
     ) -> io::Result<String> {
+        if let Some(bound) = self.bound {
+            return self.open_within(alloc, source, sink, bound);
+        }
+        match open_session(alloc, source, sink, self.realms.as_slice()) {
+            Ok(session) => session_in_words(alloc, session, self.behind.as_slice()),
+            Err(fault) => fault_line(alloc, fault),
+        }
+    }
+
+    fn open_within<I: Source, O: Sink>(
+        &self,
+        alloc: Global,
+        source: &mut I,
+        sink: &mut O,
+        bound: MessageBound,
+    ) -> io::Result<String> {
         let realms = self.realms.as_slice();
-        let opened = match self.bound {
-            None => open_session(alloc, source, sink, realms),
-            Some(bound) => open_session_within(alloc, source, sink, realms, bound, &mut None),
-        };
-        match opened {
+        match open_session_within(alloc, source, sink, realms, bound, &mut None) {
             Ok(session) => session_in_words(alloc, session, self.behind.as_slice()),
             Err(fault) => fault_line(alloc, fault),
         }
