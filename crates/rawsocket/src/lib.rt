@@ -28,6 +28,8 @@
 //! write_all(sink, ALL, &mut Turns::new())
 //! ```
 //!
+//! How long a client's payloads may be, a router picks by a [`MessageBound`], which its reply to the handshake tells.
+//!
 //! Contracts say how each handshake is answered; that the frames of a stream, and the fault behind the last one, are
 //! those that its octets spell, whatever pieces they came in; and of a device which octets it gave or took, in how many
 //! calls, and how often it failed.

@@ -18,7 +18,8 @@
 //! ```
 //!
 //! Contracts say what each message of a client means, which message each item that the broker owes is, which octets are
-//! its frame, and how an opening goes, octet by octet. Which item answers what, `realm` says.
+//! its frame, and how an opening goes, octet by octet, within the bound of messages that was picked. Which item answers
+//! what, `realm` says.
 #![tactic(auto)]
 
 mod fault;
