@@ -6,7 +6,7 @@ import time
 
 import broker_talk as talk
 
-OCTETS = 1 << 20  # the longest frame that a broker takes
+OCTETS = 1 << 20  # the longest frame that the broker takes; try_attacks sets it
 REALM = "r.one"
 WELCOME, PUBLISHED, SUBSCRIBED, EVENT = 2, 17, 33, 36
 FILL = "@"
@@ -31,6 +31,11 @@ def dictionaries(serializer, octets):
     return b"\xdd" + (whole + rest).to_bytes(4, "big") + b"\x81\xa0\xc0" * whole + b"\xc0" * rest
 
 
+def text_within(octets):
+    """How many octets a text has that has so many where the broker takes them, and else what it takes, less what stands around it."""
+    return min(octets, OCTETS - 100)
+
+
 def frame(serializer, message):
     return talk.frame_of(talk.MESSAGE, talk.encoded(serializer, message))
 
@@ -53,7 +58,7 @@ class Attacker:
 
     def shake_hands(self):
         self.send(bytes([0x7F, 0xF0 | list(talk.REPLIES).index(self.serializer) + 1, 0, 0]))
-        if self.read(4) != talk.REPLIES[self.serializer]:
+        if self.read(4) != talk.reply_within(self.serializer, OCTETS):
             self.refused("no handshake")
 
     def left(self):
@@ -254,7 +259,7 @@ def ping(these, count):
 
 
 def publish_unread(these, rounds):
-    octets = frame(these.serializer, [16, 1, {}, "long", ["x" * 1_000_000]])
+    octets = frame(these.serializer, [16, 1, {}, "long", ["x" * text_within(1_000_000)]])
     for _ in range(rounds):
         slow, publisher = these.join(2)
         slow.ask([32, 1, {}, "long"], SUBSCRIBED)
@@ -271,14 +276,14 @@ def publish_to_silent(these, count):
         it.ask([32, 1, {}, "long"], SUBSCRIBED)
     these.serializer = "msgpack"
     (publisher,) = these.join(1)
-    publisher.send(frame(these.serializer, [16, 1, {}, "long", ["\x01" * 1_000_000]]))
+    publisher.send(frame(these.serializer, [16, 1, {}, "long", ["\x01" * text_within(1_000_000)]]))
     publisher.ask([32, 2, {}, "all.was.read"], SUBSCRIBED)
     time.sleep(2)
 
 
 def exclude_many(these, times):
     """The ids are in no order, and none is that of a session here; so each taker is looked up in the whole list."""
-    ids = random.Random(1).sample(range(2**32, 2**53), 100_000)
+    ids = random.Random(1).sample(range(2**32, 2**53), min(100_000, text_within(OCTETS) // 9))
     octets = frame(these.serializer, [16, 1, {"exclude": ids}, "listed", []])
     publisher, *takers = these.join(9)
     for it in takers:
@@ -303,12 +308,14 @@ def publish_to_wildcards(these, patterns, components, times):
 
 def publish_deep(these, components, times):
     """Each pattern fits the topic, of so many components, up to the last one."""
+    components = min(components, text_within(OCTETS) // 2)
     patterns = ["." * (components - 1) + f"{number:03}" for number in range(HELD_PATTERNS)]
     publish_to_wildcards(these, patterns, components, times)
 
 
 def publish_masked(these, components, times):
     """So does each here, but no two have their empty components at the same places for long."""
+    components = min(components, text_within(OCTETS) // 2)
     draws = random.Random(1)
     eights = ["".join(draws.choice([".", "a."]) for _ in range(8)) for _ in range(256)]
     patterns = []
@@ -411,7 +418,7 @@ def scan_retained(these, kept, times):
     """Long topics are retained, and looked through for a wildcard that none of them fits."""
     (it,) = these.join(1)
     for number in range(kept):
-        topic = f"{number}." + "x" * 900_000
+        topic = f"{number}." + "x" * text_within(900_000)
         it.ask([16, number + 1, {"retain": True, "acknowledge": True}, topic], PUBLISHED)
     octets = frame(these.serializer, [32, 1, {"match": "wildcard", "get_retained": True}, ".."])
     it.send_as_it_goes(octets, times)

@@ -19,7 +19,7 @@ NO_FRAME = b"\x03\x00\x00\x00"
 # What no session of a connection said or was sent that had none.
 NOTHING = {"received": 0, "events": 0, "octets_in": 0, "octets_out": 0, "refused": 0}
 NONE = "".join(f" {key}=0" for key in NOTHING)
-LIMITS = "octets=1048576 connections=256 subscriptions=256 retained=1000"
+LIMITS = "connections=256 subscriptions=256 retained=1000"
 # How long lines are waited for, and how far from now the moment of one may be that is read at once, in seconds.
 SOON, AWAY = 10, 2
 AT = re.compile(r"(.*) at=(\d{4}-\d\d-\d\dT\d\d:\d\d:\d\d\.\d{3}Z)")
@@ -34,6 +34,7 @@ class Log:
 
     def __init__(self, program, options=(), env=None, reads=True, under=()):
         self.begun, self.last, self.wrong, self.has_waited = time.time(), {}, [], not reads
+        self.longest = bound_in(options)
         self.lines, self.stats, self.told, self.is_telling = [], [], threading.Condition(), "--stats" in options
         self.broker = talk.Broker(program, ("--log", *options), env and {**os.environ, **env}, under)
         if not self.broker.listens():
@@ -111,12 +112,18 @@ class Log:
         self.broker.process.wait()
 
 
+def bound_in(options):
+    """The octets of `--longest-message` among these options."""
+    return int(options[options.index("--longest-message") + 1]) if "--longest-message" in options else talk.LONGEST
+
+
 def started(program, options):
     """The line of what is served: realms may stand among the options, and r.one behind them."""
     version = subprocess.run([program, "--version"], capture_output=True, encoding="ascii", check=True).stdout.strip().removeprefix("wampd ")
     realms = " ".join([*(it for it in options if it.startswith("r.")), "r.one"])
     outbox = options[options.index("--outbox") + 1] if "--outbox" in options else 256
-    return f'started version="{version}" realms="{realms}" outbox={outbox} limits="{LIMITS}"'
+    octets = bound_in(options)
+    return f'started version="{version}" realms="{realms}" outbox={outbox} limits="octets={octets} {LIMITS}"'
 
 
 def moment(text):
@@ -164,7 +171,7 @@ class Guest:
         self.peer = "%s:%d" % self.client.socket.getsockname()
         self.number = log.number_of(self.peer) if number is None else number
         self.lines = [f'accepted connection={self.number} peer="{self.peer}" connections={connections or self.number}']
-        self.client.greeted()
+        self.client.greeted(log.longest)
         if hello:
             self.client.say(hello)
         self.opening = self.client.sent

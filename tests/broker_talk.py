@@ -15,6 +15,7 @@ import sys
 
 ROOT = os.path.dirname(os.path.dirname(os.path.abspath(__file__)))
 REPLIES = {"json": b"\x7f\xb1\x00\x00", "msgpack": b"\x7f\xb2\x00\x00"}
+LONGEST = 1 << 20  # octets of a client's message, where nobody picked a bound
 MESSAGE, PING, PONG = 0, 1, 2
 # How long to wait for anything, in seconds: E26 comes some 23 s after accepts begin to fail.
 PATIENCE = 60
@@ -107,6 +108,11 @@ def values_in(pattern, tree, values):
     return type(pattern) is type(tree) and pattern == tree
 
 
+def reply_within(serializer, octets):
+    """The reply to a handshake, whose LENGTH says that messages of up to so many octets are taken, a power of two."""
+    return bytes([0x7F, (octets.bit_length() - 10) * 16 + 1 + list(REPLIES).index(serializer), 0, 0])
+
+
 class Client:
     """A client that judges what it is sent. `highest` is the greatest number that it was sent so far."""
 
@@ -145,11 +151,11 @@ class Client:
             octets += more
         return octets
 
-    def greeted(self):
-        """Takes the reply to the handshake."""
-        octets = self.read(4)
-        if octets != REPLIES[self.serializer]:
-            self.lost(octets, [REPLIES[self.serializer]])
+    def greeted(self, longest=LONGEST):
+        """Takes the reply to the handshake, of a broker that takes so many octets."""
+        octets, due = self.read(4), reply_within(self.serializer, longest)
+        if octets != due:
+            self.lost(octets, [due])
 
     def lost(self, octets, due):
         if not any(whole.startswith(octets) for whole in due):

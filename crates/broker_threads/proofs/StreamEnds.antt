@@ -30,7 +30,7 @@ module _ {I O S : Type 0} (see : Sight I O) (offer : Offer) where
       let same : exchange (see.reading source).given (see.writing sink).taken ≡ exchange (see.reading source_now).given (see.writing sink_now).taken =
       ap (λ (r : Reading). exchange r.given (see.writing sink).taken) (sym e) ∙ ap (λ (o : O). exchange (see.reading source_now).given (see.writing o).taken) (sym f) in
       record {
-        opens = subst (λ (x : Exchange). OpensSince offer.names (exchange (see.reading before.source).given (see.writing before.sink).taken) x (Ok session)) same h.opens;
+        opens = subst (λ (x : Exchange). OpensSince offer.bound offer.names (exchange (see.reading before.source).given (see.writing before.sink).taken) x (Ok session)) same h.opens;
         same = record { read = ap (λ (r : Reading). r.name) e ∙ h.same.read; written = ap (λ (o : O). (see.writing o).name) f ∙ h.same.written };
       }
 

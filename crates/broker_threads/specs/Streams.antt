@@ -6,6 +6,7 @@ use Rattle.realm_inbox.specs.declared.ends.Poster.{Poster}
 use Rattle.session.specs.Opened.{AreUsedUp, BeginsOpening, Exchange, HasCause, OpensSince, Session, exchange, is_decided}
 use Rattle.session.specs.declared.fault.Fault.{Fault}
 pub use Rattle.broker_threads.specs.Sights.{KeepsNames, Sight, sight}
+use Rattle.rawsocket.specs.Bounds.{largest_bound}
 use Rattle.rawsocket.specs.Devices.{ReadFails, WriteFails}
 use Rattle.broker_threads.specs.Talks.{TalksOn, passage}
 use Rattle.broker_threads.specs.declared.closed.Closed.{Closed}
@@ -16,16 +17,21 @@ use Rattle.broker_threads.specs.declared.reader_thread.Ended.{Ended}
 use Rattle.broker_threads.specs.declared.reader_thread.Reader.{Reader}
 use Rattle.broker_threads.specs.declared.writer_thread.Written.{Written}
 
--- what a broker offers to each stream: its realms, and how many items may wait in an outbox
+-- what a broker offers to each stream: how long its messages may be, its realms, and how many items may wait in an outbox
 pub record Offer : Type 0 where
+  pub bound : ℕ
   pub names : List (List ℕ)
   pub room : ℕ
 
+abbrev pub offer_within : ℕ → List (List ℕ) → ℕ → Offer
+offer_within bound names room = record { bound = bound; names = names; room = room }
+
+-- the same where nobody picked a bound of messages
 abbrev pub offer : List (List ℕ) → ℕ → Offer
-offer names room = record { names = names; room = room }
+offer names room = offer_within largest_bound names room
 
 abbrev pub offer_of : Plan → Offer
-offer_of plan = offer plan.realms.items plan.outbox
+offer_of plan = offer_within plan.bound plan.realms.items plan.outbox
 
 -- the two halves of a stream, and the posters of its connection, one for each realm
 pub record Stream (I O S : Type 0) : Type 0 where
@@ -50,13 +56,13 @@ exchanged see source sink = exchange (see.reading source).given (see.writing sin
 module _ {I O S : Type 0} (see : Sight I O) (offer : Offer) where
   -- a session was opened: what was read up to its HELLO asks for it, and what was written is the answer; the stream is the same
   pub record IsOpened (before : Stream I O S) (source : I) (sink : O) (session : Session) : Type 0 where
-    pub opens : OpensSince offer.names (exchanged see before.source before.sink) (exchanged see source sink) (Ok session)
+    pub opens : OpensSince offer.bound offer.names (exchanged see before.source before.sink) (exchanged see source sink) (Ok session)
     pub same : KeepsNames see (before.source, before.sink) (source, sink)
 
   -- no session was opened, for this fault: where the octets decide it, what they ask for was written; else a beginning of that, and the fault has its cause
   pub record IsNotOpened (before : Stream I O S) (source : I) (sink : O) (fault : Fault) : Type 0 where
-    pub decided : is_decided fault ≡ true → OpensSince offer.names (exchanged see before.source before.sink) (exchanged see source sink) (Err fault)
-    pub begun : BeginsOpening offer.names (exchanged see before.source before.sink) (exchanged see source sink)
+    pub decided : is_decided fault ≡ true → OpensSince offer.bound offer.names (exchanged see before.source before.sink) (exchanged see source sink) (Err fault)
+    pub begun : BeginsOpening offer.bound offer.names (exchanged see before.source before.sink) (exchanged see source sink)
     pub cause : HasCause (see.reading source).is_ended (ReadFails (see.reading before.source) (see.reading source)) (WriteFails (see.writing before.sink) (see.writing sink))
         (AreUsedUp (see.reading before.source).calls (see.reading source).calls ⊎ AreUsedUp (see.writing before.sink).calls (see.writing sink).calls) fault
     pub same : KeepsNames see (before.source, before.sink) (source, sink)

@@ -1,7 +1,7 @@
 //! The thread that reads what a client sends.
 ghost use Rattle.std.specs.Prelude.{◌≡◌};
 ghost use Rattle.std.specs.Arc.{arc_value};
-ghost use Rattle.broker_threads.specs.Streams.{GoesBy, IsUntouched, Reads, offer, sight, stream};
+ghost use Rattle.broker_threads.specs.Streams.{GoesBy, IsUntouched, Reads, offer_within, sight, stream};
 
 use crate::closed::Closed;
 use crate::course::Course;
@@ -12,9 +12,10 @@ use crate::talk::{Broker, Session, talk};
 use crate::told::tell_closed;
 use crate::work::Task;
 use log_lines::CloseReason;
+use rawsocket::MessageBound;
 use rawsocket::devices::{Sink, Source};
 use realm_inbox::Shut;
-use session::{Asked, Fault, open_session_noting};
+use session::{Asked, Fault, open_session_within};
 use std::alloc::Global;
 use std::sync::atomic::Ordering;
 use std::sync::{Arc, Wait};
@@ -89,7 +90,16 @@ impl<
             plan: &plan,
             fate: &fate,
         };
-        let ended = serve(rt, broker, &plan.realms, source, sink, &transport, posters);
+        let ended = serve(
+            rt,
+            broker,
+            &plan.realms,
+            plan.bound,
+            source,
+            sink,
+            &transport,
+            posters,
+        );
         tell_closed(&rt, &plan, conn, ended.reason, &fate);
         transport.shut();
         drop(transport);
@@ -123,21 +133,23 @@ fn serve<
     rt: R,
     broker: Broker<'_>,
     realms: &[Topic],
+    bound: MessageBound,
     mut source: I,
     mut sink: O,
     transport: &S,
     mut posters: Posters<S>,
 ) -> Ended<I, O, S>
     ensures { GoesBy (sight I.seen O.seen)
-        (offer realms.now (arc_value broker.entry.plan.now).outbox)
+        (offer_within bound realms.now (arc_value broker.entry.plan.now).outbox)
         (stream source sink posters.items) result.source result.posters.items result.course }
 {
     let mut asked = None;
-    let opened = match open_session_noting(
+    let opened = match open_session_within(
         broker.alloc,
         &mut source,
         &mut sink,
         realms,
+        bound,
         &mut asked,
     ) {
         Ok(opened) => opened,

@@ -5,7 +5,7 @@ use crate::devices::{reads, writes};
 use crate::dictionaries::{copies, dictionary, get};
 use crate::frames::{Stream, cut_everywhere};
 use crate::great::great;
-use crate::handshakes::{handshake, no_seat};
+use crate::handshakes::{handshake, handshake_within, no_seat};
 use crate::holding::{deep, octets, shared, text};
 use crate::passing::{passing, token};
 use crate::reading::{json, msgpack, nested};
@@ -39,6 +39,7 @@ impl Table for Case {
             Some(("in-place", text)) => self.stream.in_place(alloc, &octets_of(alloc, text)?),
             Some(("frame", text)) => self.stream.frame(alloc, text),
             Some(("taking", text)) => self.stream.taking(alloc, text),
+            Some(("bounded", text)) => self.stream.bounded(alloc, text),
             Some(("counted", text)) => self.stream.counted(alloc, text),
             Some(("zeros", text)) => self.stream.zeros(alloc, text),
             Some((word, text)) => told(alloc, word, text),
@@ -83,6 +84,7 @@ fn told(alloc: Global, word: &str, rest: &str) -> io::Result<String> {
         "octets" => octets(alloc, rest),
         "shared" => shared(alloc, rest),
         "handshake" => handshake(alloc, &octets_of(alloc, rest)?),
+        "within" => handshake_within(alloc, rest),
         "header" => header(alloc, rest),
         "cut" => cut_everywhere(alloc, &octets_of(alloc, rest)?),
         "reads" => reads(alloc, rest),

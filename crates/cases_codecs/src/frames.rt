@@ -6,6 +6,7 @@
 //! - `feed OCTETS`: the frames that a further piece of the case's stream completes, and its fault.
 //! - `in-place OCTETS`: the same, where each frame that lies whole in the piece is read in place.
 //! - `taking N`: the case's stream begins anew, and a payload may have so many octets at most, and not 2^20.
+//! - `bounded N`: the same by the bound of N octets; or `no bound` where that is none.
 //! - `counted N`: the same for N pieces of one octet each: 0 to 250, and again.
 //! - `held`: the fault that the stream is at.
 //! - `frame KIND OCTETS`, `zeros N`: writes a frame behind what the case has written: these octets,
@@ -13,6 +14,7 @@
 //! - `written`: what the case has written.
 //!
 //! Of more than 300 octets their number, the first 252 and the last 4 are printed.
+use crate::handshakes::bound_of;
 use crate::in_place::read_in_place;
 use case_text::{line_of, number_of, octets_of, spell};
 use rawsocket::{Deframer, Fault, Fed, Frame, Kind, write_frame};
@@ -37,6 +39,15 @@ impl Stream {
     /// Begins anew; a payload may have so many octets at most.
     pub fn taking(&mut self, alloc: Global, count: &str) -> io::Result<String> {
         self.deframer = Deframer::taking(alloc, number_of(count) as usize);
+        Ok(String::new(alloc))
+    }
+
+    /// Begins anew; a payload has to be within the bound of so many octets.
+    pub fn bounded(&mut self, alloc: Global, count: &str) -> io::Result<String> {
+        let Some(bound) = bound_of(number_of(count)) else {
+            return line_of(alloc, "no bound");
+        };
+        self.deframer = Deframer::within(alloc, bound);
         Ok(String::new(alloc))
     }
 

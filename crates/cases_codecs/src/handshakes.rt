@@ -1,9 +1,10 @@
 //! Handshakes:
 //!
 //! - `handshake OCTETS`: what these four are answered by, and the reply.
+//! - `within N OCTETS`: the same of a router that takes payloads of up to N octets; or `no bound` where that is none.
 //! - `no-seat`: the reply where no seat is free.
-use case_text::{line_of, spelled};
-use rawsocket::{Handshake, Serializer, answer, no_seat_reply};
+use case_text::{line_of, number_of, octets_of, spelled};
+use rawsocket::{Handshake, MessageBound, Serializer, answer, no_seat_reply};
 use std::alloc::Global;
 use std::io;
 
@@ -16,7 +17,38 @@ pub fn handshake(alloc: Global, octets: &[u8]) -> io::Result<String> {
 }
 
 fn told(alloc: Global, handshake: Handshake) -> io::Result<String> {
-    let Some(reply) = handshake.reply() else {
+    told_with(alloc, handshake, handshake.reply())
+}
+
+/// What the four octets of the words `N OCTETS` are answered by, where payloads may have N octets, and the reply.
+pub fn handshake_within(alloc: Global, words: &str) -> io::Result<String> {
+    let Some((_, octets)) = words.split_once(' ') else {
+        return line_of(alloc, "no octets");
+    };
+    let Some(bound) = bound_of(number_of(words)) else {
+        return line_of(alloc, "no bound");
+    };
+    let octets = octets_of(alloc, octets)?;
+    match octets.as_slice() {
+        [first, second, third, fourth] => {
+            let handshake = answer([*first, *second, *third, *fourth]);
+            let reply = handshake.reply_within(bound);
+            told_with(alloc, handshake, reply)
+        }
+        _ => line_of(alloc, "not four octets"),
+    }
+}
+
+/// The bound of so many octets.
+pub fn bound_of(octets: u64) -> Option<MessageBound> {
+    match u32::try_from(octets) {
+        Ok(octets) => MessageBound::of_octets(octets),
+        Err(_) => None,
+    }
+}
+
+fn told_with(alloc: Global, handshake: Handshake, reply: Option<[u8; 4]>) -> io::Result<String> {
+    let Some(reply) = reply else {
         return line_of(alloc, "dropped");
     };
     let reply = spelled(alloc, reply.as_slice())?;

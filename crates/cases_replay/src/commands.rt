@@ -5,6 +5,7 @@ use command_line::{
     Command, Fault, Purpose, Serving, explain, read_command, report, report_failure, served_lines,
     shown_line, warn_of_exposure,
 };
+use rawsocket::MessageBound;
 use rawsocket::devices::MemorySink;
 use std::alloc::{AllocError, Global};
 use std::io;
@@ -35,6 +36,7 @@ pub fn command(alloc: Global, text: &str) -> io::Result<String> {
                 config,
                 log,
                 stats,
+                bound,
                 purpose,
             },
         ) => {
@@ -45,6 +47,7 @@ pub fn command(alloc: Global, text: &str) -> io::Result<String> {
                 config,
                 log,
                 stats,
+                bound,
             };
             serve_line(alloc, &serving)
         }
@@ -108,6 +111,10 @@ fn serve_line(alloc: Global, serving: &Serving) -> io::Result<String> {
     let outbox = serving.config.outbox;
     let place = format!(in alloc; "{purpose} {host} {port} outbox {outbox} ids {ids}")?;
     line.push_str(place.as_str())?;
+    let octets = serving.bound.most_octets();
+    if octets != MessageBound::largest().most_octets() {
+        line.push_str(format!(in alloc; " longest {octets}")?.as_str())?;
+    }
     config_line(line, &serving.config)
 }
 
@@ -133,6 +140,7 @@ pub fn served(alloc: Global, text: &str) -> io::Result<String> {
                 config,
                 log,
                 stats,
+                bound,
                 purpose,
             },
         ) => Serving {
@@ -142,6 +150,7 @@ pub fn served(alloc: Global, text: &str) -> io::Result<String> {
             config,
             log,
             stats,
+            bound,
         },
         Err(Fault::NoMemory) => return Err(AllocError)?,
         _ => return Ok(String::from_str(alloc, "no broker\n")?),

@@ -45,6 +45,7 @@ impl Table for Case {
             Some(("frames", serializer)) => frames(alloc, serializer),
             Some(("frame", words)) => frame(alloc, words),
             Some(("realms", names)) => self.stream.take_realms(alloc, names),
+            Some(("within", octets)) => self.stream.take_bound(alloc, number_of(octets)),
             Some((word, text)) => self.set(alloc, word, text),
             None => self.run(alloc, line),
         }

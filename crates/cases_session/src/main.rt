@@ -18,6 +18,8 @@
 //! - `frames`, `frame`: items as they are written, described in `writing.rt`.
 //! - `open`: opens a session, as the lines before it say:
 //!   - `realms NAMES`, by spaces;
+//!   - `within N`: payloads of the client may have so many octets at most, and not 2^20; or `no bound` where there is
+//!     none of so many;
 //!   - `octets TEXT`: more octets of the stream; `\7f` is an octet;
 //!   - `repeat N LETTER`: so many of this one octet;
 //!   - `first N`: only so many of the octets;

@@ -2,8 +2,8 @@
 use case_devices::{FailsAt, OneByOne};
 use case_text::{is_refused, spelled};
 use rawsocket::devices::{MemorySource, Sink, Source, WriteSink};
-use rawsocket::{Deframer, Frame, Kind, Serializer};
-use session::{Fault, Opened, open_session};
+use rawsocket::{Deframer, Frame, Kind, MessageBound, Serializer};
+use session::{Fault, Opened, open_session, open_session_within};
 use std::alloc::Global;
 use std::io;
 use wamp_ids::Topic;
@@ -28,6 +28,7 @@ struct Outcome {
 #[derive(Drop)]
 pub struct Stream {
     pub realms: Vec<Topic>,
+    pub bound: Option<MessageBound>,
     pub octets: Vec<u8>,
     pub behind: Vec<u8>,
     pub is_slow: bool,
@@ -39,6 +40,7 @@ impl Stream {
     pub fn new(alloc: Global) -> Stream {
         Stream {
             realms: Vec::new(alloc),
+            bound: None,
             octets: Vec::new(alloc),
             behind: Vec::new(alloc),
             is_slow: false,
@@ -57,6 +59,20 @@ impl Stream {
             }
         }
         Ok(String::new(alloc))
+    }
+
+    /// Payloads of the client have to be within the bound of so many octets.
+    pub fn take_bound(&mut self, alloc: Global, octets: u64) -> io::Result<String> {
+        self.bound = match u32::try_from(octets) {
+            Ok(octets) => MessageBound::of_octets(octets),
+            Err(_) => None,
+        };
+        let told = if self.bound.is_none() {
+            "no bound\n"
+        } else {
+            ""
+        };
+        Ok(String::from_str(alloc, told)?)
     }
 
     /// Opens a session, and says what is written, and what comes of it.
@@ -120,7 +136,24 @@ impl Stream {
         source: &mut I,
         sink: &mut O,
     ) -> io::Result<String> {
+        if let Some(bound) = self.bound {
+            return self.open_within(alloc, source, sink, bound);
+        }
         match open_session(alloc, source, sink, self.realms.as_slice()) {
+            Ok(session) => session_in_words(alloc, session, self.behind.as_slice()),
+            Err(fault) => fault_line(alloc, fault),
+        }
+    }
+
+    fn open_within<I: Source, O: Sink>(
+        &self,
+        alloc: Global,
+        source: &mut I,
+        sink: &mut O,
+        bound: MessageBound,
+    ) -> io::Result<String> {
+        let realms = self.realms.as_slice();
+        match open_session_within(alloc, source, sink, realms, bound, &mut None) {
             Ok(session) => session_in_words(alloc, session, self.behind.as_slice()),
             Err(fault) => fault_line(alloc, fault),
         }

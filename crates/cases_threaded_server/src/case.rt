@@ -7,6 +7,7 @@ use crate::steps::{Cue, Deed, Flood, Stand, Step};
 use crate::told::{tell, tell_last, tell_tally};
 use case_items::grant_of;
 use case_text::{line_of, number_of, octets_of};
+use rawsocket::MessageBound;
 use rawsocket::devices::WriteSink;
 use std::alloc::Global;
 use std::collections::VecDeque;
@@ -18,7 +19,7 @@ use std::random::RandomSource;
 use std::sync::Wait;
 use std::thread::Threads;
 use std::time::{Clock, CpuClock};
-use threaded_server::{Acceptor, Config, Ids, Log, Seats, copy_grants, serve_logged};
+use threaded_server::{Acceptor, Config, Ids, Log, Seats, copy_grants, serve_logged, serve_within};
 use wamp_ids::Topic;
 
 /// How many items may wait for a session's writer, where a case doesn't say.
@@ -31,6 +32,8 @@ pub struct Case {
     // How many clients have come in these steps.
     came: usize,
     outbox: usize,
+    // How long the messages of clients may be, where a case says.
+    bound: Option<MessageBound>,
     // Whether it is told how sessions ended.
     tallies: bool,
     // How many of the last octets of each client are told, where not all are.
@@ -47,6 +50,7 @@ impl Case {
             steps: VecDeque::new(alloc),
             came: 0,
             outbox: OUTBOX,
+            bound: None,
             tallies: false,
             last: None,
             grants: Vec::new(alloc),
@@ -81,6 +85,7 @@ impl Case {
                 return line_of(alloc, line);
             }
             "outbox" => self.outbox = number as usize,
+            "within" => self.bound = bound_of(number),
             "grant" => self.grants.push(grant_of(alloc, rest)?)?,
             "last" => self.last = Some(number),
             "tally" => self.tallies = true,
@@ -148,7 +153,7 @@ impl Case {
     >(&mut self, rt: R, alloc: Global) -> io::Result<String> {
         let config = self.config(alloc)?;
         let mut script = Script::new(rt, alloc, self.take_steps(alloc));
-        let mut told = run(rt, alloc, &mut script, &config, None)?;
+        let mut told = self.run(rt, alloc, &mut script, &config, None)?;
         if self.tallies {
             tell_tally(&mut told, script.tally)?;
         }
@@ -164,7 +169,7 @@ impl Case {
         let mut script = Script::new(rt, alloc, self.take_steps(alloc));
         let (near, mut far) = UnixStream::pair(&rt)?;
         let (log, _) = Log::start(rt, alloc, WriteSink::new(near))?;
-        let mut told = run(rt, alloc, &mut script, &config, Some(log))?;
+        let mut told = self.run(rt, alloc, &mut script, &config, Some(log))?;
         let mut lines = String::new(alloc);
         let _ = far.read_to_string(&mut lines)?;
         told.push_str(sorted(alloc, lines.as_str())?.as_str())?;
@@ -205,9 +210,34 @@ impl Case {
     >(&mut self, rt: R, alloc: Global) -> io::Result<String> {
         let config = self.config(alloc)?;
         let mut loopback = Loopback::new(rt, alloc, self.take_steps(alloc))?;
-        let mut told = run(rt, alloc, &mut loopback, &config, None)?;
+        let mut told = self.run(rt, alloc, &mut loopback, &config, None)?;
         self.tell(alloc, &mut told, &mut loopback.sockets.play.clients)?;
         Ok(told)
+    }
+
+    // How serving ended.
+    fn run<
+        R: Threads + Wait + Clock + CpuClock + RandomSource + Copy + Send + 'static,
+        A: Acceptor,
+    >(
+        &self,
+        rt: R,
+        alloc: Global,
+        acceptor: &mut A,
+        config: &Config,
+        log: Option<Log>,
+    ) -> io::Result<String> {
+        if config.realms.len() == 0 || config.outbox == 0 || config.outbox > 65_536 {
+            return line_of(alloc, "nothing can be served");
+        }
+        let served = match self.bound {
+            None => serve_logged(rt, alloc, acceptor, config, log),
+            Some(bound) => serve_within(rt, alloc, acceptor, config, bound, log),
+        };
+        match served {
+            Ok(()) => line_of(alloc, "ended"),
+            Err(fault) => Ok(format!(in alloc; "{fault}\n")?),
+        }
     }
 
     fn take_steps(&mut self, alloc: Global) -> VecDeque<Step> {
@@ -278,19 +308,10 @@ fn sorted(alloc: Global, text: &str) -> io::Result<String> {
     Ok(all)
 }
 
-// How serving ended.
-fn run<R: Threads + Wait + Clock + CpuClock + RandomSource + Copy + Send + 'static, A: Acceptor>(
-    rt: R,
-    alloc: Global,
-    acceptor: &mut A,
-    config: &Config,
-    log: Option<Log>,
-) -> io::Result<String> {
-    if config.realms.len() == 0 || config.outbox == 0 || config.outbox > 65_536 {
-        return line_of(alloc, "nothing can be served");
-    }
-    match serve_logged(rt, alloc, acceptor, config, log) {
-        Ok(()) => line_of(alloc, "ended"),
-        Err(fault) => Ok(format!(in alloc; "{fault}\n")?),
+// The bound of so many octets.
+fn bound_of(octets: u64) -> Option<MessageBound> {
+    match u32::try_from(octets) {
+        Ok(octets) => MessageBound::of_octets(octets),
+        Err(_) => None,
     }
 }

@@ -1,8 +1,8 @@
 //! Cases of `threaded_server`, as lines of standard input; what each gives is printed.
 //!
 //! - `# TEXT` begins a case, and is printed as it stands. Its broker has the realms `r.one` and `r.two`, and counts
-//!   ids. `outbox N`: so many items may wait for a session's writer, in place of 256. `grant AUTHID AUTHROLE`: one more
-//!   grant.
+//!   ids. `outbox N`: so many items may wait for a session's writer, in place of 256. `within N`: messages of clients
+//!   may have so many octets, in place of 2^20. `grant AUTHID AUTHROLE`: one more grant.
 //! - What is accepted, in order: `client TEXT`, a stream whose client sends these octets, where `\7f` is an octet;
 //!   `standing TEXT`, one whose sink stands still when it is first written an EVENT, until it is freed or the broker
 //!   shuts the stream; `late TEXT`, one whose source stands still with what it has read behind the handshake, until it

@@ -51,7 +51,7 @@ abbrev pub IsRunnable : Command → Type 0
 IsRunnable (Help text) = ⊤
 IsRunnable (Version text) = ⊤
 IsRunnable (Replay config) = 0 < length config.realms.items
-IsRunnable (Serve host port config log stats purpose) = (1 ≤ port) × IsServable config
+IsRunnable (Serve host port config log stats bound purpose) = (1 ≤ port) × IsServable config
 IsRunnable (Subscribe command) = IsReachable command.contact × (1 ≤ length command.topics.items) × MatchOption command.count ⊤ (λ count. 1 ≤ count)
 IsRunnable (Publish command) = IsReachable command.contact
 IsRunnable (PublishFile path command) = IsReachable command.contact
@@ -70,7 +70,7 @@ abbrev pub IsVersion : Command → Type 0
 IsVersion (Version text) = ⊤
 IsVersion (Help text) = ⊥
 IsVersion (Replay config) = ⊥
-IsVersion (Serve host port config log stats purpose) = ⊥
+IsVersion (Serve host port config log stats bound purpose) = ⊥
 IsVersion (Subscribe command) = ⊥
 IsVersion (Publish command) = ⊥
 IsVersion (PublishFile path command) = ⊥
@@ -80,7 +80,7 @@ abbrev pub SaysVersion : Command → Type 0
 SaysVersion (Version text) = string_bytes text ≡ version_line
 SaysVersion (Help text) = ⊤
 SaysVersion (Replay config) = ⊤
-SaysVersion (Serve host port config log stats purpose) = ⊤
+SaysVersion (Serve host port config log stats bound purpose) = ⊤
 SaysVersion (Subscribe command) = ⊤
 SaysVersion (Publish command) = ⊤
 SaysVersion (PublishFile path command) = ⊤
@@ -96,7 +96,7 @@ purpose_of words = if has_option (codes "--check") words then (if has_option (co
 
 -- where the words of `serve` are read, this is what they ask for
 abbrev pub SuitsPurpose : Purpose → Command → Type 0
-SuitsPurpose wanted (Serve host port config log stats purpose) = purpose ≡ wanted
+SuitsPurpose wanted (Serve host port config log stats bound purpose) = purpose ≡ wanted
 SuitsPurpose wanted (Version text) = ⊤
 SuitsPurpose wanted (Help text) = ⊤
 SuitsPurpose wanted (Replay config) = ⊤
@@ -111,7 +111,7 @@ IsInterval log (Some seconds) = (1 ≤ seconds) × (seconds ≤ 86400) × (log �
 
 -- where a log is to tell of each realm, there is one, and it tells every 1 to 86,400 seconds
 abbrev pub SuitsLog : Command → Type 0
-SuitsLog (Serve host port config log stats purpose) = IsInterval log stats
+SuitsLog (Serve host port config log stats bound purpose) = IsInterval log stats
 SuitsLog (Version text) = ⊤
 SuitsLog (Help text) = ⊤
 SuitsLog (Replay config) = ⊤

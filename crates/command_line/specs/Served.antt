@@ -3,6 +3,7 @@ use Rattle.std.specs.Prelude.{ℕ, Bool, true, false, None, Some, List, [], ◌�
 use Rattle.std.specs.declared.option.Option.{Option}
 use Rattle.broker_config.specs.declared.config.Ids.{Ids}
 use Rattle.broker_config.specs.declared.config.Ids.TheVariants.{Random, Count}
+use Rattle.rawsocket.specs.Bounds.{most_octets}
 use Rattle.command_line.specs.declared.serving.Serving.{Serving}
 use Rattle.command_line.specs.Grants.{Pair, bytes_of}
 use Rattle.command_line.specs.Reasons.{shown}
@@ -36,9 +37,9 @@ abbrev pub stats_word : Option ℕ → List ℕ
 stats_word None = codes "no"
 stats_word (Some seconds) = decimal seconds
 
--- where it listens, each realm, each grant, how much may wait for a client, what ids are made of, whether there is a log, and how often that tells of each realm
+-- where it listens, each realm, each grant, how much may wait for a client, what ids are made of, whether there is a log, how often that tells of each realm, and how long a client's message may be
 abbrev pub served_lines : Serving → List ℕ
 served_lines s =
     line (codes "host") (shown (string_bytes s.host)) ++ line (codes "port") (decimal s.port) ++ realm_lines s.config.realms.items ++ grant_lines (bytes_of s.config.grants.items)
     ++ line (codes "outbox") (decimal s.config.outbox) ++ line (codes "ids") (shown (ids_word s.config.ids)) ++ line (codes "log") (shown (log_word s.log))
-    ++ line (codes "stats") (stats_word s.stats)
+    ++ line (codes "stats") (stats_word s.stats) ++ line (codes "longest-message") (decimal (most_octets s.bound))

@@ -14,6 +14,7 @@ use broker_config::{Config, Ids};
 use clap::ArgMatches;
 use clap::error::ErrorKind;
 use client_commands::{PublishCommand, SubscribeCommand};
+use rawsocket::MessageBound;
 use std::alloc::{AllocError, Global};
 use wamp_ids::Topic;
 
@@ -56,6 +57,8 @@ pub enum Command {
         log: bool,
         /// How often that tells of each realm, in seconds from 1 to 86,400, if it does; only where `log` is true.
         stats: Option<u32>,
+        /// How long the messages of clients may be.
+        bound: MessageBound,
         /// Whether it is served, or only checked.
         purpose: Purpose,
     },
@@ -253,6 +256,7 @@ fn read_serve(
         config,
         log,
         stats: read_stats(alloc, serve, log)?,
+        bound: read_bound(alloc, serve)?,
         purpose,
     })
 }
@@ -424,6 +428,30 @@ fn read_stats(
             "--stats <SECONDS>",
             "a number from 1 to 86400 is wanted",
         ),
+    }
+}
+
+/// How long the messages of clients may be, in octets.
+fn read_bound(alloc: Global, serve: &ArgMatches<'_>) -> Result<MessageBound, CommandRefusal> {
+    let Some(text) = serve.get_str("longest-message") else {
+        return Ok(MessageBound::largest());
+    };
+    match bound_of(text) {
+        Some(bound) => Ok(bound),
+        None => refused_value(
+            alloc,
+            text,
+            "--longest-message <OCTETS>",
+            "a power of two from 512 to 1048576 is wanted",
+        ),
+    }
+}
+
+/// The bound of so many octets, in decimal.
+fn bound_of(text: &str) -> Option<MessageBound> {
+    match text.parse::<u32>() {
+        Ok(octets) => MessageBound::of_octets(octets),
+        Err(_) => None,
     }
 }
 

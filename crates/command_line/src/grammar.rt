@@ -66,6 +66,11 @@ fn serve<'a>(alloc: Global) -> Result<Command<'a>, AllocError> {
                 .requires_arg("log")?
                 .help("How often, in seconds, the log tells of each realm (needs --log)"),
         )?
+        .arg(
+            option(alloc, "longest-message").value_name("OCTETS").help(
+                "How many octets a client's message may have, a power of two from 512 to 1048576, 1048576 if none is named",
+            ),
+        )?
         .arg(flag(alloc, "check").help(
             "Serve nothing: print what would be served, and end with status 0, or by the fault that serving would end by",
         ))?

@@ -7,6 +7,7 @@ ghost use Rattle.command_line.specs.Served.{grant_line, grant_lines, ids_word, l
 use crate::printable::push_all;
 use broker_config::{Config, Ids};
 use itoa::Buffer;
+use rawsocket::MessageBound;
 use std::alloc::{AllocError, Global};
 use wamp_ids::Topic;
 
@@ -36,6 +37,8 @@ pub struct Serving {
     pub log: bool,
     /// How often that tells of each realm, in seconds from 1 to 86,400, if it does; only where `log` is true.
     pub stats: Option<u32>,
+    /// How long the messages of clients may be.
+    pub bound: MessageBound,
 }
 
 /// What is served, a line for each thing: its name as the words have it, a space, and its value, in which whatever isn't printable ASCII
@@ -56,6 +59,8 @@ pub fn served_lines(alloc: Global, serving: &Serving) -> Result<Vec<u8>, AllocEr
     put_text(&mut lines, "ids", ids_word(config.ids))?;
     put_text(&mut lines, "log", log_word(serving.log))?;
     put_stats(&mut lines, serving.stats)?;
+    let longest = serving.bound.most_octets();
+    put_number(&mut lines, "longest-message", longest as u64)?;
     Ok(lines)
 }
 

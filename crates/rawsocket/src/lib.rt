@@ -28,6 +28,8 @@
 //! write_all(sink, ALL, &mut Turns::new())
 //! ```
 //!
+//! How long a client's payloads may be, a router picks by a [`MessageBound`], which its reply to the handshake tells.
+//!
 //! Contracts say how each handshake is answered; that the frames of a stream, and the fault behind the last one, are
 //! those that its octets spell, whatever pieces they came in; and of a device which octets it gave or took, in how many
 //! calls, and how often it failed.
@@ -37,6 +39,7 @@ mod fault;
 mod frame;
 mod handshake;
 pub mod laws;
+mod message_bound;
 
 pub use deframer::{Deframer, Fed};
 pub use devices::device::{Sink, Source};
@@ -47,3 +50,4 @@ pub use devices::turns::{PIECE, Turns, read_piece, read_turn, send, write_all};
 pub use fault::Fault;
 pub use frame::{Frame, Kind, fill_header, header, write_frame};
 pub use handshake::{Handshake, Serializer, answer, no_seat_reply};
+pub use message_bound::MessageBound;

@@ -1,6 +1,6 @@
 -- A conversation with a client, in its midst.
 use Rattle.std.proofs.Common.{◌≡◌, ◌⊎◌, ℕ, List, [], ◌∷◌, ◌++◌, Option, Some, None, Result, Err, inl, inr, refl, sym, ap, ◌∙◌, subst, append_assoc, append-nil}
-use Rattle.rawsocket.specs.Frames.{Content, spelled, fault_of, Reads, router_takes}
+use Rattle.rawsocket.specs.Frames.{Content, spelled, fault_of, Reads}
 use Rattle.rawsocket.specs.declared.fault.Fault as stream
 use Rattle.rawsocket.specs.declared.frame.Kind.{Kind}
 use Rattle.rawsocket.specs.declared.frame.Kind.TheVariants.{Message, Ping, Pong}
@@ -12,7 +12,7 @@ use Rattle.session.specs.declared.fault.Fault.{Fault}
 use Rattle.session.specs.declared.fault.Fault.TheVariants.{Ended, ReadFault}
 use Rattle.session.proofs.FrameWalkLemmas.{LeadsBy}
 
-module _ (s : Serializer) (limit : ℕ) (realms : List (List ℕ)) where
+module _ (most : ℕ) (s : Serializer) (limit : ℕ) (realms : List (List ℕ)) where
   join_by : (fault : Option stream.Fault) (k : Kind) (payload : List ℕ) (a b : List Content) (before more : Option stream.Fault) (x y : List ℕ) (v : Verdict)
       → ((z : List ℕ) → Leads (terms s limit realms) before a z Undecided → Leads (terms s limit realms) more (a ++ b) (z ++ y) v)
       → LeadsBy s limit realms payload a (Leads (terms s limit realms) before a) k x Undecided → LeadsBy s limit realms payload (a ++ b) (Leads (terms s limit realms) more (a ++ b)) k (x ++ y) v
@@ -41,10 +41,10 @@ module _ (s : Serializer) (limit : ℕ) (realms : List (List ℕ)) where
     pub frames : List Content
     pub read : given ≡ given_before ++ octets
     pub wrote : taken ≡ taken_before ++ written
-    pub reads : Reads router_takes octets frames held
-    pub leads : Leads (terms s limit realms) (fault_of router_takes held) frames written v
+    pub reads : Reads most octets frames held
+    pub leads : Leads (terms s limit realms) (fault_of most held) frames written v
 
-  pub Conversing-start : (given taken held : List ℕ) → held ≡ [] → Reads router_takes [] [] held → Conversing given given taken taken held Undecided
+  pub Conversing-start : (given taken held : List ℕ) → held ≡ [] → Reads most [] [] held → Conversing given given taken taken held Undecided
   Conversing-start given taken held empty reads = record {
     octets = [];
     written = [];
@@ -52,23 +52,23 @@ module _ (s : Serializer) (limit : ℕ) (realms : List (List ℕ)) where
     read = sym (append-nil given);
     wrote = sym (append-nil taken);
     reads = reads;
-    leads = subst (λ h. Leads (terms s limit realms) (fault_of router_takes h) [] [] Undecided) (sym empty) (refl, refl);
+    leads = subst (λ h. Leads (terms s limit realms) (fault_of most h) [] [] Undecided) (sym empty) (refl, refl);
   }
 
   pub Conversing-more : (given_before given after taken_before taken taken_after held new piece : List ℕ) (v : Verdict) → after ≡ given ++ piece
-      → GoesOn (terms s limit realms) piece (stand held taken) (stand new taken_after) v → Conversing given_before given taken_before taken held Undecided → Conversing given_before after taken_before taken_after new v
+      → GoesOn most (terms s limit realms) piece (stand held taken) (stand new taken_after) v → Conversing given_before given taken_before taken held Undecided → Conversing given_before after taken_before taken_after new v
   Conversing-more given_before given after taken_before taken taken_after held new piece v more goes so_far = record {
     octets = so_far.octets ++ piece;
     written = so_far.written ++ goes.out;
     frames = so_far.frames ++ goes.frames;
     read = more ∙ (ap (λ g. g ++ piece) so_far.read ∙ append_assoc given_before so_far.octets piece);
     wrote = goes.wrote ∙ (ap (λ t. t ++ goes.out) so_far.wrote ∙ append_assoc taken_before so_far.written goes.out);
-    reads = pieces_join router_takes so_far.octets piece held new so_far.frames goes.frames so_far.reads goes.reads;
-    leads = Leads-join (fault_of router_takes held) (fault_of router_takes new) so_far.frames goes.frames so_far.written goes.out v so_far.leads goes.leads;
+    reads = pieces_join most so_far.octets piece held new so_far.frames goes.frames so_far.reads goes.reads;
+    leads = Leads-join (fault_of most held) (fault_of most new) so_far.frames goes.frames so_far.written goes.out v so_far.leads goes.leads;
   }
 
   pub Conversing-answered : (given_before given taken_before taken held : List ℕ) (v : Verdict) (answer : Result Session Fault) → Conversing given_before given taken_before taken held v
-      → IsAnswer s limit held v answer → ConversesSince (terms s limit realms) (exchange given_before taken_before) (exchange given taken) answer
+      → IsAnswer most s limit held v answer → ConversesSince most (terms s limit realms) (exchange given_before taken_before) (exchange given taken) answer
   Conversing-answered given_before given taken_before taken held v answer so_far answers = record {
     octets = so_far.octets;
     written = so_far.written;

@@ -1,6 +1,6 @@
 -- The causes of a device's faults, and that frames decide none of them.
 use Rattle.std.proofs.Common.{◌≡◌, ◌⊎◌, ℕ, Bool, true, false, cond, List, [], ◌∷◌, length, get_or, nat_lt, Option, Some, None, inl, inr, refl, sym, subst}
-use Rattle.rawsocket.specs.Frames.{Content, fault_of, length_at, router_takes}
+use Rattle.rawsocket.specs.Frames.{Content, fault_of, length_at}
 use Rattle.rawsocket.specs.declared.fault.Fault as stream
 use Rattle.rawsocket.specs.declared.fault.Fault.TheVariants as of_stream
 use Rattle.rawsocket.specs.declared.frame.Kind.{Kind}
@@ -102,14 +102,14 @@ fault_by false true c f e = inl (cc)
 fault_by false false true f e = inr (cc)
 fault_by false false false f e = absurd (cc)
 
-header_faults : (octets : List ℕ) (f : stream.Fault) → fault_of router_takes octets ≡ Some f → (f ≡ of_stream.FrameType) ⊎ (f ≡ of_stream.FrameTooLong)
-header_faults octets f e = fault_by (nat_lt (length octets) 4) (nat_lt 2 (get_or octets 0 0)) (nat_lt router_takes (length_at octets)) f e
+header_faults : (most : ℕ) (octets : List ℕ) (f : stream.Fault) → fault_of most octets ≡ Some f → (f ≡ of_stream.FrameType) ⊎ (f ≡ of_stream.FrameTooLong)
+header_faults most octets f e = fault_by (nat_lt (length octets) 4) (nat_lt 2 (get_or octets 0 0)) (nat_lt most (length_at octets)) f e
 
 rest_refused : (f : stream.Fault) → (f ≡ of_stream.FrameType) ⊎ (f ≡ of_stream.FrameTooLong) → NeedsNoCause (Refuses (stream_fault f))
 rest_refused f (inl e) = subst (λ x. NeedsNoCause (Refuses (stream_fault x))) (sym e) (λ ended r w u. tt)
 rest_refused f (inr e) = subst (λ x. NeedsNoCause (Refuses (stream_fault x))) (sym e) (λ ended r w u. tt)
 
-module _ (s : Serializer) (limit : ℕ) (realms : List (List ℕ)) where
+module _ (most : ℕ) (s : Serializer) (limit : ℕ) (realms : List (List ℕ)) where
   by_kind : (k : Kind) (payload : List ℕ) (frames : List Content) (Next : List ℕ → Verdict → Type 0) (out : List ℕ) (v : Verdict) → ((o : List ℕ) → Next o v → NeedsNoCause v)
       → LeadsBy s limit realms payload frames Next k out v → NeedsNoCause v
   by_kind Message payload frames Next out v next (inl greets) = subst NeedsNoCause (sym greets.verdict) (λ e r w u. tt)
@@ -123,6 +123,6 @@ module _ (s : Serializer) (limit : ℕ) (realms : List (List ℕ)) where
   at_end None out v two w = subst NeedsNoCause (sym w.1) (λ e r t u. tt)
   at_end (Some f) out v two w = subst NeedsNoCause (sym w.1) (rest_refused f (two f refl))
 
-  pub Leads-needs_no_cause : (held : List ℕ) (frames : List Content) (out : List ℕ) (v : Verdict) → Leads (terms s limit realms) (fault_of router_takes held) frames out v → NeedsNoCause v
-  Leads-needs_no_cause held [] out v w = at_end (fault_of router_takes held) out v (header_faults held) w
-  Leads-needs_no_cause held (c ∷ frames) out v w = by_kind c.kind c.payload frames (Leads (terms s limit realms) (fault_of router_takes held) frames) out v (λ o next. Leads-needs_no_cause held frames o v next) w
+  pub Leads-needs_no_cause : (held : List ℕ) (frames : List Content) (out : List ℕ) (v : Verdict) → Leads (terms s limit realms) (fault_of most held) frames out v → NeedsNoCause v
+  Leads-needs_no_cause held [] out v w = at_end (fault_of most held) out v (header_faults most held) w
+  Leads-needs_no_cause held (c ∷ frames) out v w = by_kind c.kind c.payload frames (Leads (terms s limit realms) (fault_of most held) frames) out v (λ o next. Leads-needs_no_cause held frames o v next) w

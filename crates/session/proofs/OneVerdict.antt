@@ -3,8 +3,9 @@ use Rattle.std.proofs.Common.{◌≡◌, ◌⊎◌, ℕ, List, [], ◌∷◌, �
 use Rattle.message_tree.specs.Data.{Data}
 use Rattle.json_codec.proofs.Lemmas.{deep-no-other, one-tree, readable}
 use Rattle.msgpack_codec.proofs.Lemmas.{one_spelling, spelled-not-deep}
-use Rattle.rawsocket.specs.Frames.{Content, fault_of, Reads, kept, spelled, router_takes}
-use Rattle.rawsocket.specs.Handshakes.{accepting, answered}
+use Rattle.rawsocket.specs.Bounds.{most_octets}
+use Rattle.rawsocket.specs.Frames.{Content, fault_of, Reads, kept, spelled}
+use Rattle.rawsocket.specs.Handshakes.{accepting_within, answered}
 use Rattle.rawsocket.specs.declared.fault.Fault as stream
 use Rattle.rawsocket.specs.declared.frame.Kind.{Kind}
 use Rattle.rawsocket.specs.declared.frame.Kind.TheVariants as kind
@@ -174,40 +175,40 @@ leads-once s limit realms fault (c ∷ frames) out told v w x y =
     by-kind s limit realms c.payload frames (Leads (terms s limit realms) fault frames) (leads-once s limit realms fault frames) c.kind out told v w x y
 
 -- octets are split in one way, and one rest is held
-reads-once : (octets : List ℕ) (frames others : List Content) (held left : List ℕ) → Reads router_takes octets frames held → Reads router_takes octets others left → (others ≡ frames) × (left ≡ held)
-reads-once octets frames others held left x y =
-    let same = one_split router_takes others frames octets y.rest x.rest y.splits x.splits in
-    (same.0, y.held_is ∙ (ap (kept router_takes) same.1 ∙ sym x.held_is))
+reads-once : (most : ℕ) (octets : List ℕ) (frames others : List Content) (held left : List ℕ) → Reads most octets frames held → Reads most octets others left → (others ≡ frames) × (left ≡ held)
+reads-once most octets frames others held left x y =
+    let same = one_split most others frames octets y.rest x.rest y.splits x.splits in
+    (same.0, y.held_is ∙ (ap (kept most) same.1 ∙ sym x.held_is))
 
 pub one-verdict : OneVerdict
-one-verdict s limit realms octets frames others held left written told v w x y leads other =
-    let same = reads-once octets frames others held left x y in
-    leads-once s limit realms (fault_of router_takes held) frames written told v w leads
-    (subst (λ fs. Leads (terms s limit realms) (fault_of router_takes held) fs told w) same.0 (subst (λ h. Leads (terms s limit realms) (fault_of router_takes h) others told w) same.1 other))
+one-verdict most s limit realms octets frames others held left written told v w x y leads other =
+    let same = reads-once most octets frames others held left x y in
+    leads-once s limit realms (fault_of most held) frames written told v w leads
+    (subst (λ fs. Leads (terms s limit realms) (fault_of most held) fs told w) same.0 (subst (λ h. Leads (terms s limit realms) (fault_of most h) others told w) same.1 other))
 
-one-answer : (s : Serializer) (limit : ℕ) (held : List ℕ) (v : Verdict) (a b : Result Session Fault) → IsAnswer s limit held v a → IsAnswer s limit held v b → AreAlike a b
-one-answer s limit held Undecided a b x y = inr (x, y)
-one-answer s limit held (Opens realm authid early) a b x y = inl (x ∙ sym y)
-one-answer s limit held (Refuses fault) a b x y = inl (x ∙ sym y)
+one-answer : (most : ℕ) (s : Serializer) (limit : ℕ) (held : List ℕ) (v : Verdict) (a b : Result Session Fault) → IsAnswer most s limit held v a → IsAnswer most s limit held v b → AreAlike a b
+one-answer most s limit held Undecided a b x y = inr (x, y)
+one-answer most s limit held (Opens realm authid early) a b x y = inl (x ∙ sym y)
+one-answer most s limit held (Refuses fault) a b x y = inl (x ∙ sym y)
 
-converses-once : (s : Serializer) (limit : ℕ) (realms : List (List ℕ)) (octets written told : List ℕ) (a b : Result Session Fault)
-    → Converses (terms s limit realms) octets written a → Converses (terms s limit realms) octets told b → (written ≡ told) × AreAlike a b
-converses-once s limit realms octets written told a b x y =
-    let held = (reads-once octets x.frames y.frames x.held y.held x.reads y.reads).1 in
-    let same = one-verdict s limit realms octets x.frames y.frames x.held y.held written told x.verdict y.verdict x.reads y.reads x.leads y.leads in
-    let other = subst (λ h. IsAnswer s limit h x.verdict b) held (subst (λ v. IsAnswer s limit y.held v b) (sym same.1) y.answers) in
-    (same.0, one-answer s limit x.held x.verdict a b x.answers other)
+converses-once : (most : ℕ) (s : Serializer) (limit : ℕ) (realms : List (List ℕ)) (octets written told : List ℕ) (a b : Result Session Fault)
+    → Converses most (terms s limit realms) octets written a → Converses most (terms s limit realms) octets told b → (written ≡ told) × AreAlike a b
+converses-once most s limit realms octets written told a b x y =
+    let held = (reads-once most octets x.frames y.frames x.held y.held x.reads y.reads).1 in
+    let same = one-verdict most s limit realms octets x.frames y.frames x.held y.held written told x.verdict y.verdict x.reads y.reads x.leads y.leads in
+    let other = subst (λ h. IsAnswer most s limit h x.verdict b) held (subst (λ v. IsAnswer most s limit y.held v b) (sym same.1) y.answers) in
+    (same.0, one-answer most s limit x.held x.verdict a b x.answers other)
 
-follows-once : (h : Handshake) (realms : List (List ℕ)) (octets written told : List ℕ) (a b : Result Session Fault)
-    → Follows h realms octets written a → Follows h realms octets told b → (written ≡ told) × AreAlike a b
-follows-once (Accept s limit) realms octets written told a b x y =
-    let same = converses-once s limit realms octets x.more y.more a b x.converses y.converses in
-    (x.written_is ∙ (ap (λ more. accepting s ++ more) same.0 ∙ sym y.written_is), same.1)
-follows-once (Refuse fault) realms octets written told a b x y = (x.0 ∙ sym y.0, inl (x.1 ∙ sym y.1))
-follows-once Dropped realms octets written told a b x y = (x.0 ∙ sym y.0, inl (x.1 ∙ sym y.1))
+follows-once : (bound : ℕ) (h : Handshake) (realms : List (List ℕ)) (octets written told : List ℕ) (a b : Result Session Fault)
+    → Follows bound h realms octets written a → Follows bound h realms octets told b → (written ≡ told) × AreAlike a b
+follows-once bound (Accept s limit) realms octets written told a b x y =
+    let same = converses-once (most_octets bound) s limit realms octets x.more y.more a b x.converses y.converses in
+    (x.written_is ∙ (ap (λ more. accepting_within bound s ++ more) same.0 ∙ sym y.written_is), same.1)
+follows-once bound (Refuse fault) realms octets written told a b x y = (x.0 ∙ sym y.0, inl (x.1 ∙ sym y.1))
+follows-once bound Dropped realms octets written told a b x y = (x.0 ∙ sym y.0, inl (x.1 ∙ sym y.1))
 
 pub one-opening : OneOpening
-one-opening realms octets written told a b (inl x) (inl y) = (x.1 ∙ sym y.1, inr (x.2, y.2))
-one-opening realms octets written told a b (inl x) (inr y) = absurd (omega (arith, x.0, y.0))
-one-opening realms octets written told a b (inr x) (inl y) = absurd (omega (arith, x.0, y.0))
-one-opening realms octets written told a b (inr x) (inr y) = follows-once (answered octets) realms (drop 4 octets) written told a b x.1 y.1
+one-opening bound realms octets written told a b (inl x) (inl y) = (x.1 ∙ sym y.1, inr (x.2, y.2))
+one-opening bound realms octets written told a b (inl x) (inr y) = absurd (omega (arith, x.0, y.0))
+one-opening bound realms octets written told a b (inr x) (inl y) = absurd (omega (arith, x.0, y.0))
+one-opening bound realms octets written told a b (inr x) (inr y) = follows-once bound (answered octets) realms (drop 4 octets) written told a b x.1 y.1

@@ -2,7 +2,8 @@
 use Rattle.std.proofs.Common.{◌≡◌, ◌≤◌, ◌⊎◌, ◌++◌, ◌^◌, ◌+◌, ◌%◌, ◌/◌, ℕ, Bool, true, false, cond, min, get_or, List, [], ◌∷◌, length, drop, Result, inl, inr, refl, sym, ap, ◌∙◌, subst, arith, append_assoc, length-append}
 use Rattle.std.specs.Prelude.{◌==◌, ◌&&◌}
 use Rattle.std.proofs.lemmas.List.{drop_at}
-use Rattle.rawsocket.specs.Handshakes.{accepting, answered, limit, reply_of}
+use Rattle.rawsocket.specs.Bounds.{most_octets}
+use Rattle.rawsocket.specs.Handshakes.{accepting_within, answered, limit, reply_within}
 use Rattle.rawsocket.specs.declared.fault.Fault as stream
 use Rattle.rawsocket.specs.declared.fault.Fault.TheVariants as faults
 use Rattle.rawsocket.specs.declared.handshake.Serializer.{Serializer}
@@ -56,23 +57,23 @@ pub refused_told : (h : List ℕ) (f : stream.Fault) → answered h ≡ Refuse f
 refused_told h f e = two_rules f (refused_by (get_or h 0 0 == 127) (get_or h 2 0 == 0 && get_or h 3 0 == 0) (get_or h 1 0 % 16 == 1) (get_or h 1 0 % 16 == 2) (limit (get_or h 1 0 / 16)) f e)
 
 -- an accepted handshake and the octets after it
-pub accepted_opening : (realms : List (List ℕ)) (h octets written : List ℕ) (s : Serializer) (most : ℕ) (answer : Result Session Fault) → length h ≡ 4 → answered h ≡ Accept s most
-    → Converses (terms s most realms) octets written answer → IsOpening realms (h ++ octets) (accepting s ++ written) answer
-accepted_opening realms h octets written s most answer four is converses =
-    let proceeds : Proceeds (terms s most realms) octets (accepting s ++ written) answer = record { more = written; written_is = refl; converses = converses } in
+pub accepted_opening : (bound : ℕ) (realms : List (List ℕ)) (h octets written : List ℕ) (s : Serializer) (most : ℕ) (answer : Result Session Fault) → length h ≡ 4 → answered h ≡ Accept s most
+    → Converses (most_octets bound) (terms s most realms) octets written answer → IsOpening bound realms (h ++ octets) (accepting_within bound s ++ written) answer
+accepted_opening bound realms h octets written s most answer four is converses =
+    let proceeds : Proceeds bound (terms s most realms) octets (accepting_within bound s ++ written) answer = record { more = written; written_is = refl; converses = converses } in
     inr (
       omega (arith, four, length-append h octets),
-      subst (λ a. Follows a realms (drop 4 (h ++ octets)) (accepting s ++ written) answer) (sym (first_four h octets four ∙ is))
-          (subst (λ x. Proceeds (terms s most realms) x (accepting s ++ written) answer) (sym (drop_at h octets 4 four)) proceeds),
+      subst (λ a. Follows bound a realms (drop 4 (h ++ octets)) (accepting_within bound s ++ written) answer) (sym (first_four h octets four ∙ is))
+          (subst (λ x. Proceeds bound (terms s most realms) x (accepting_within bound s ++ written) answer) (sym (drop_at h octets 4 four)) proceeds),
     )
 
-module _ (realms : List (List ℕ)) (given_before given taken_before taken h : List ℕ) (read : given ≡ given_before ++ h) (four : length h ≡ 4) where
-  pub opens_accepted : (s : Serializer) (most : ℕ) (after taken_after : List ℕ) (answer : Result Session Fault) → answered h ≡ Accept s most → taken ≡ taken_before ++ or_nothing (reply_of (Accept s most))
-      → ConversesSince (terms s most realms) (exchange given taken) (exchange after taken_after) answer → OpensSince realms (exchange given_before taken_before) (exchange after taken_after) answer
-  opens_accepted s most after taken_after answer is wrote more = record {
+module _ (bound : ℕ) (realms : List (List ℕ)) (given_before given taken_before taken h : List ℕ) (read : given ≡ given_before ++ h) (four : length h ≡ 4) where
+  pub opens_accepted : (s : Serializer) (most : ℕ) (after taken_after : List ℕ) (answer : Result Session Fault) → answered h ≡ Accept s most → taken ≡ taken_before ++ or_nothing (reply_within bound (Accept s most)) → (m : ℕ) → m ≡ most_octets bound
+      → ConversesSince m (terms s most realms) (exchange given taken) (exchange after taken_after) answer → OpensSince bound realms (exchange given_before taken_before) (exchange after taken_after) answer
+  opens_accepted s most after taken_after answer is wrote m same more = record {
     octets = h ++ more.octets;
-    written = accepting s ++ more.written;
+    written = accepting_within bound s ++ more.written;
     read = more.read ∙ (ap (λ g. g ++ more.octets) read ∙ append_assoc given_before h more.octets);
-    wrote = more.wrote ∙ (ap (λ t. t ++ more.written) wrote ∙ append_assoc taken_before (accepting s) more.written);
-    opening = accepted_opening realms h more.octets more.written s most answer four is more.converses;
+    wrote = more.wrote ∙ (ap (λ t. t ++ more.written) wrote ∙ append_assoc taken_before (accepting_within bound s) more.written);
+    opening = accepted_opening bound realms h more.octets more.written s most answer four is (subst (λ x. Converses x (terms s most realms) more.octets more.written answer) same more.converses);
   }

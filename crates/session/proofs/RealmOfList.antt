@@ -5,7 +5,7 @@ use Rattle.std.specs.Option.{option_map}
 use Rattle.std.specs.List.{position}
 use Rattle.std.specs.Str.{bytes_eq}
 use Rattle.std.proofs.lemmas.List.Quantifiers.{position-Some}
-use Rattle.rawsocket.specs.Frames.{Content, fault_of, router_takes}
+use Rattle.rawsocket.specs.Frames.{Content, fault_of}
 use Rattle.rawsocket.specs.declared.fault.Fault as stream
 use Rattle.rawsocket.specs.declared.frame.Kind.{Kind}
 use Rattle.rawsocket.specs.declared.frame.Kind.TheVariants.{Message, Ping, Pong}
@@ -36,7 +36,7 @@ IsWithin realms Undecided = ⊤
 IsWithin realms (Opens realm authid early) = realm < length realms
 IsWithin realms (Refuses f) = ⊤
 
-module _ (s : Serializer) (limit : ℕ) (realms : List (List ℕ)) where
+module _ (most : ℕ) (s : Serializer) (limit : ℕ) (realms : List (List ℕ)) where
   within_by : (k : Kind) (payload : List ℕ) (frames : List Content) (Next : List ℕ → Verdict → Type 0) (out : List ℕ) (v : Verdict) → ((o : List ℕ) → Next o v → IsWithin realms v)
       → LeadsBy s limit realms payload frames Next k out v → IsWithin realms v
   within_by Message payload frames Next out v next (inl greets) = subst (IsWithin realms) (sym greets.verdict) (first_within realms greets.asks.said greets.asked greets.asks.first)
@@ -53,11 +53,11 @@ module _ (s : Serializer) (limit : ℕ) (realms : List (List ℕ)) where
   Leads-within fault [] out v w = at_end fault out v w
   Leads-within fault (c ∷ frames) out v w = within_by c.kind c.payload frames (Leads (terms s limit realms) fault frames) out v (λ o next. Leads-within fault frames o v next) w
 
-  answer_within : (held : List ℕ) (v : Verdict) (session : Session) → IsWithin realms v → IsAnswer s limit held v (Ok session) → session.realm < length realms
+  answer_within : (held : List ℕ) (v : Verdict) (session : Session) → IsWithin realms v → IsAnswer most s limit held v (Ok session) → session.realm < length realms
   answer_within held Undecided session within (inl e) = absurd (cc)
   answer_within held Undecided session within (inr e) = absurd (cc)
   answer_within held (Opens realm authid early) session within e = let same : realm ≡ session.realm = cc in subst (λ n. n < length realms) same within
   answer_within held (Refuses f) session within e = absurd (cc)
 
-  pub opened_within : (octets written : List ℕ) (session : Session) → Converses (terms s limit realms) octets written (Ok session) → session.realm < length realms
-  opened_within octets written session c = answer_within c.held c.verdict session (Leads-within (fault_of router_takes c.held) c.frames written c.verdict c.leads) c.answers
+  pub opened_within : (octets written : List ℕ) (session : Session) → Converses most (terms s limit realms) octets written (Ok session) → session.realm < length realms
+  opened_within octets written session c = answer_within c.held c.verdict session (Leads-within (fault_of most c.held) c.frames written c.verdict c.leads) c.answers

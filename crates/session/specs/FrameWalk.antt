@@ -2,7 +2,7 @@
 use Rattle.std.specs.Prelude.{◌≡◌, ◌<◌, ◌⊎◌, ℕ, List, ◌++◌, length, Result, option_map, string_bytes}
 use Rattle.std.specs.declared.option.Option.{Option}
 use Rattle.rawsocket.specs.Devices.{GrowsByBeginning}
-use Rattle.rawsocket.specs.Frames.{Content, contents, fault_of, Reads, router_takes}
+use Rattle.rawsocket.specs.Frames.{Content, contents, fault_of, Reads}
 use Rattle.rawsocket.specs.declared.fault.Fault as stream
 use Rattle.session.specs.Opened.{Converses, Exchange, Leads, Session, Terms, Verdict, Undecided, Opens, Refuses}
 use Rattle.session.specs.declared.fault.Fault.{Fault}
@@ -45,38 +45,38 @@ pub record Stand : Type 0 where
 abbrev pub stand : List ℕ → List ℕ → Stand
 stand held taken = record { held = held; taken = taken }
 
--- the next octets complete frames that decide so, and what is written for them is written
-pub record GoesOn (t : Terms) (piece : List ℕ) (before now : Stand) (v : Verdict) : Type 0 where
+-- the next octets complete frames that decide so, where a payload may have so many at most, and what is written for them is written
+pub record GoesOn (most : ℕ) (t : Terms) (piece : List ℕ) (before now : Stand) (v : Verdict) : Type 0 where
   pub frames : List Content
-  pub reads : Reads router_takes (before.held ++ piece) frames now.held
+  pub reads : Reads most (before.held ++ piece) frames now.held
   pub out : List ℕ
   pub wrote : now.taken ≡ before.taken ++ out
-  pub leads : Leads t (fault_of router_takes now.held) frames out v
+  pub leads : Leads t (fault_of most now.held) frames out v
 
 -- of what is written for the frames that the next octets complete a beginning is written
-pub record GoesOnPartly (t : Terms) (piece : List ℕ) (before : Stand) (taken : List ℕ) : Type 0 where
+pub record GoesOnPartly (most : ℕ) (t : Terms) (piece : List ℕ) (before : Stand) (taken : List ℕ) : Type 0 where
   pub new : List ℕ
   pub frames : List Content
-  pub reads : Reads router_takes (before.held ++ piece) frames new
+  pub reads : Reads most (before.held ++ piece) frames new
   pub verdict : Verdict
   pub out : List ℕ
   pub wrote : GrowsByBeginning before.taken taken out
-  pub leads : Leads t (fault_of router_takes new) frames out verdict
+  pub leads : Leads t (fault_of most new) frames out verdict
 
 -- the octets after a handshake, of what was read and written since
-pub record ConversesSince (t : Terms) (before now : Exchange) (answer : Result Session Fault) : Type 0 where
+pub record ConversesSince (most : ℕ) (t : Terms) (before now : Exchange) (answer : Result Session Fault) : Type 0 where
   pub octets : List ℕ
   pub written : List ℕ
   pub read : now.given ≡ before.given ++ octets
   pub wrote : now.taken ≡ before.taken ++ written
-  pub converses : Converses t octets written answer
+  pub converses : Converses most t octets written answer
 
 -- of what is written for the octets after a handshake, or for the first of them, a beginning is written
-pub record BeginsConversing (t : Terms) (before now : Exchange) : Type 0 where
+pub record BeginsConversing (most : ℕ) (t : Terms) (before now : Exchange) : Type 0 where
   pub octets : List ℕ
   pub more : List ℕ
   pub written : List ℕ
   pub answer : Result Session Fault
   pub read : now.given ≡ before.given ++ (octets ++ more)
   pub wrote : GrowsByBeginning before.taken now.taken written
-  pub converses : Converses t octets written answer
+  pub converses : Converses most t octets written answer

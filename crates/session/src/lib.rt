@@ -18,7 +18,8 @@
 //! ```
 //!
 //! Contracts say what each message of a client means, which message each item that the broker owes is, which octets are
-//! its frame, and how an opening goes, octet by octet. Which item answers what, `realm` says.
+//! its frame, and how an opening goes, octet by octet, within the bound of messages that was picked. Which item answers
+//! what, `realm` says.
 #![tactic(auto)]
 
 mod fault;
@@ -34,7 +35,7 @@ pub use messages::tree_elements::{TreeElements, id_among};
 pub use opening::first_message::{abort_reason, abort_uri, first};
 pub use opening::hello::{Asked, First};
 pub use opening::opened_session::Opened;
-pub use opening::{open_session, open_session_noting};
+pub use opening::{open_session, open_session_noting, open_session_within};
 pub use wamp_messages::{
     Args, CarriedArgs, Decoded, Item, Lists, Publication, Publish, PublishOptions, Reason, Request,
     Said, SaidKind, SubscribeOptions, Who,

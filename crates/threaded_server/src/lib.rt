@@ -2,7 +2,8 @@
 //!
 //! [`serve_on`] starts an actor thread for each realm, and for each stream that its [`Acceptor`] gives a reader thread,
 //! which opens the session, starts the session's writer thread and waits for it. What each of these threads does is
-//! `broker_threads`'; the seats that connections sit at are here. [`TcpAcceptor`] accepts over TCP.
+//! `broker_threads`'; the seats that connections sit at are here. [`TcpAcceptor`] accepts over TCP. [`serve_within`]
+//! does so within a bound of the messages of clients.
 //!
 //! Contracts say here by which of its acceptor's answers `serve_on` ends, and what became of each stream that the
 //! acceptor gave: it came back, and what was read of it, posted for it and written to it is what its reader's and its
@@ -43,5 +44,5 @@ pub use broker_threads::{Closed, Log, LogEnd, SessionEnds, Telling};
 pub use connection::{ReadEnd, WriteEnd};
 pub use seat_fault::SeatFault;
 pub use seats::Seats;
-pub use serve::{serve_logged, serve_on};
+pub use serve::{serve_logged, serve_on, serve_within};
 pub use tcp::{TcpAcceptor, TcpHandle};

@@ -7,7 +7,7 @@ ghost use Rattle.threaded_server.specs.Lending.{returned, with_returned};
 ghost use Rattle.threaded_server.specs.Overs.{GoesOver, Moves};
 ghost use Rattle.threaded_server.specs.Realms.{realms_of};
 ghost use Rattle.threaded_server.specs.Served.{LentUntil, Served};
-ghost use Rattle.broker_threads.specs.Streams.{offer, sight};
+ghost use Rattle.broker_threads.specs.Streams.{offer, offer_within, sight};
 ghost use Rattle.threaded_server.specs.Table.{IsUnused, books};
 ghost use Rattle.broker_threads.specs.declared.fate.Marked.{Marked};
 
@@ -21,6 +21,7 @@ use broker_threads::{ActorThread, IdWords, Log, Marked, Plan};
 use connection::InUse;
 use crossbeam_channel::bounded;
 use log_lines::ConnectionRefusal;
+use rawsocket::MessageBound;
 use rawsocket::devices::{Sink, Source};
 use realm::RealmConfig;
 use realm_inbox::opening::inbox_of_chronicle;
@@ -87,7 +88,37 @@ pub fn serve_logged<
         (A.answers acceptor.old) (A.answers acceptor.new) (A.lending acceptor.old)
         (A.lending acceptor.new) ∥₁ }
 {
-    let plan = plan_of(alloc, config, log)?;
+    serve_within(rt, alloc, acceptor, config, MessageBound::largest(), log)
+}
+
+/// The same, where the messages of clients have to be within this bound, which the reply to their handshake says
+/// (WAMP, "RawSocket Transport").
+///
+/// # Errors
+/// As for [`serve_on`].
+pub fn serve_within<
+    R: Threads + Wait + Clock + CpuClock + RandomSource + Copy + Send + 'static,
+    A: Acceptor,
+>(
+    rt: R,
+    alloc: Global,
+    acceptor: &mut A,
+    config: &Config,
+    bound: MessageBound,
+    log: Option<Log>,
+) -> Result<(), Fault>
+    requires realms { 0 < length config.now.realms.items }
+    requires least { 0 < config.now.outbox }
+    requires most { config.now.outbox ≤ 65536 }
+    ensures answers { Serves (A.answers acceptor.old) (A.answers acceptor.new) result }
+    ensures streams { ∥ Served (Marked A.Shut)
+        (sight A.Source.seen A.Sink.seen)
+        (offer_within bound config.now.realms.items config.now.outbox)
+        (pairs_of config.now.grants.items)
+        (A.answers acceptor.old) (A.answers acceptor.new) (A.lending acceptor.old)
+        (A.lending acceptor.new) ∥₁ }
+{
+    let plan = plan_of(alloc, config, bound, log)?;
     let mut connection_table = ConnectionTable::new(alloc, plan)?;
     let served = open_and_accept(rt, acceptor, &mut connection_table, config);
     tell_stopping(&rt, &connection_table.plan.log, &served);
@@ -143,11 +174,17 @@ fn counts_of(alloc: Global, realms: usize) -> Result<Vec<InUse>, AllocError> {
     Ok(counts)
 }
 
-fn plan_of(alloc: Global, config: &Config, log: Option<Log>) -> Result<Plan, AllocError>
+fn plan_of(
+    alloc: Global,
+    config: &Config,
+    bound: MessageBound,
+    log: Option<Log>,
+) -> Result<Plan, AllocError>
     requires least { 0 < config.now.outbox }
     requires most { config.now.outbox ≤ 65536 }
     ensures realms { IfOk result (λ plan. plan.realms.items ≡ config.now.realms.items) }
     ensures config { IfOk result (λ plan. plan.config.value ≡ config.now) }
+    ensures bound { IfOk result (λ plan. plan.bound ≡ bound) }
 {
     let realms = copies_of(alloc, &config.realms)?;
     let in_use = counts_of(alloc, realms.len())?;
@@ -156,6 +193,7 @@ fn plan_of(alloc: Global, config: &Config, log: Option<Log>) -> Result<Plan, All
         realms,
         in_use,
         outbox: config.outbox,
+        bound,
         log,
         is_stopping: AtomicBool::new(false),
         connections: AtomicU64::new(0),

@@ -6,8 +6,8 @@ use std::sync::Wait;
 use std::thread::{self, Threads};
 use std::time::{Clock, Duration};
 
-/// The limits that no option changes: octets of a message, connections, subscriptions of a session, retained topics of a realm.
-const LIMITS: &str = "octets=1048576 connections=256 subscriptions=256 retained=1000";
+/// The limits that no option changes: connections, subscriptions of a session, retained topics of a realm.
+const LIMITS: &str = "connections=256 subscriptions=256 retained=1000";
 
 /// Starts the log that is written to `errors`, if there are any, by where it listens and what is served.
 pub fn start_log<
@@ -50,11 +50,13 @@ fn started_line(alloc: Global, serving: &Serving) -> Result<Vec<u8>, AllocError>
         }
         realms.push_str(realm.text())?;
     }
+    let octets = serving.bound.most_octets();
+    let limits = format!(in alloc; "octets={octets} {LIMITS}")?;
     let broker = BrokerSummary {
         version: VERSION,
         realms: realms.as_str(),
         outbox: serving.config.outbox as u64,
-        limits: LIMITS,
+        limits: limits.as_str(),
     };
     started(alloc, &broker)
 }

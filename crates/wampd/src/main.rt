@@ -25,7 +25,7 @@ mod places;
 
 use broker_server::{
     Command, Config, Fault, Purpose, Serving, TcpAcceptor, read_command, replay, report_failure,
-    serve_logged, warn_of_exposure,
+    serve_within, warn_of_exposure,
 };
 use checking::{check, warn_of_host};
 use clients::{run_publish, run_publish_file, run_subscribe};
@@ -92,6 +92,7 @@ where
             config,
             log,
             stats,
+            bound,
             purpose,
         } => {
             let _places = fill_closed(host);
@@ -102,6 +103,7 @@ where
                 config,
                 log,
                 stats,
+                bound,
             };
             return run_serve(host, rt, alloc, &mut output, &serving);
         }
@@ -248,7 +250,14 @@ where
         return Err(Failure::of(alloc, Fault::NoMemory));
     };
     let mut acceptor = TcpAcceptor::new(listener, rt);
-    let served = serve_logged(rt, alloc, &mut acceptor, &serving.config, log);
+    let served = serve_within(
+        rt,
+        alloc,
+        &mut acceptor,
+        &serving.config,
+        serving.bound,
+        log,
+    );
     if let Some(end) = &end {
         await_end(&rt, end);
     }

@@ -16,13 +16,15 @@ use std::collections::VecDeque;
 use wamp_ids::Topic;
 use wamp_messages::Reason;
 
-/// A client, by its handshake.
+/// A client, by its handshake and the reply to it.
 #[derive(Clone, Copy, Drop)]
 pub(crate) struct Client {
     /// How messages are serialized.
     pub serializer: Serializer,
     /// How many octets it takes in one payload.
     pub limit: u32,
+    /// How many octets a payload may have at most that it sends.
+    pub most: usize,
 }
 
 /// What frames decide.

@@ -1,6 +1,6 @@
 use Rattle.std.proofs.Common.{◌≡◌, ◌++◌, inr, ap, ◌∙◌, subst}
 use Rattle.rawsocket.specs.Devices.{GrowsByBeginning}
-use Rattle.rawsocket.specs.Frames.{contents, fault_of, router_takes, Reads}
+use Rattle.rawsocket.specs.Frames.{contents, fault_of, Reads}
 use Rattle.session.specs.FrameWalk.{verdict_of}
 use Rattle.session.specs.Opened.{Leads, terms}
 use Rattle.rawsocket.proofs.Lemmas.{no_steps}
@@ -22,7 +22,7 @@ returns-clause-begun g c =
     let frames = contents c.in-Ok.fed.frames.items in
     let new = c.feed.new.self.held in
     let t = terms c.args.client.serializer c.args.client.limit c.args.realms.now in
-    let most : c.feed.new.self.most ≡ router_takes = read.most ∙ c.requires.most in
+    let most : c.feed.new.self.most ≡ c.args.client.most = read.most ∙ c.requires.most in
     let octets : c.deref.result.now ≡ adds.out = c.deref.ensures.value ∙ (adds.is ∙ ap (λ before. before ++ adds.out) c.new-out.ensures.items) in
     inr (record {
       new = new;

@@ -1,9 +1,9 @@
 use Rattle.std.proofs.Common.{ap, ◌∙◌}
 use Rattle.ghost_state.specs.GhostList.{items_of}
-use Rattle.broker_threads.specs.Streams.{offer, offer_of}
+use Rattle.broker_threads.specs.Streams.{offer_of, offer_within}
 use Rattle.realm.specs.Grants.{pairs_of}
 use Rattle.threaded_server.proofs.ServeSteps.{nothing_served, served}
-use Rattle.threaded_server.proofs.serve.serve_logged.Goals as goal
+use Rattle.threaded_server.proofs.serve.serve_within.Goals as goal
 
 pub returns-clause-streams : goal.returns-clause-streams
 returns-clause-streams g c =
@@ -11,7 +11,7 @@ returns-clause-streams g c =
     let still = c.close.ensures.plan ∙ c.open_and_accept-served.ensures.plan in
     let plan = c.in_ok-plan.plan in
     let room = plan.room ∙ ap (λ k. k.outbox) c.in_ok-plan.ensures.config in
-    let same = ap (λ p. offer_of p.value) still ∙ ap offer_of made.plan ∙ (λ i. offer (c.in_ok-plan.ensures.realms i) (room i)) in
+    let same = ap (λ p. offer_of p.value) still ∙ ap offer_of made.plan ∙ (λ i. offer_within (c.in_ok-plan.ensures.bound i) (c.in_ok-plan.ensures.realms i) (room i)) in
     let grants = ap (λ p. pairs_of p.value.config.value.grants.items) still ∙ ap (λ p. pairs_of p.config.value.grants.items) made.plan ∙ ap (λ k. pairs_of k.grants.items) c.in_ok-plan.ensures.config in
     let ends = c.finish.ensures in
     served _ _ _ _ _ (items_of c.finish.result) _ _ _ _ _ _ _ _ _ _ made.lent made.unused.nothing c.open_and_accept-served.ensures.lent c.close.ensures.answers c.close.ensures.moves same grants ends.went ends.runs ends.apart ends.only_posted ends.tied
