@@ -200,6 +200,14 @@ impl Weight {
         }
     }
 
+    /// Whether it was read from so many octets that these are counted.
+    pub(crate) fn is_counted(&self) -> bool {
+        match &self.held {
+            GivenBack::Nothing => false,
+            GivenBack::Octets(_, _) => true,
+        }
+    }
+
     /// Hands a publication back that the realm is done with, which was read from the octets of this weight. A long one is dropped by
     /// the thread that read it, before it takes on what is next, or by the receiving end, when its client's last post is given.
     pub fn hand_back(&self, spent: Shared<Publication>) {

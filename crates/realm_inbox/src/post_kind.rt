@@ -23,6 +23,14 @@ pub(crate) fn kind_of<S: Shut>(post: &Post<S>) -> PostKind {
     }
 }
 
+/// Whether it was read from so many octets that it may take long by itself.
+pub(crate) fn is_long<S: Shut>(post: &Post<S>) -> bool {
+    match post {
+        Post::Act(letter) => letter.weight.is_counted(),
+        Post::Stop(_) => false,
+    }
+}
+
 fn kind_of_act<S: Shut>(act: &Act<S>) -> PostKind {
     match act {
         Act::Said(said) => kind_of_said(said),

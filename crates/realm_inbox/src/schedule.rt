@@ -137,11 +137,12 @@ impl Schedule {
         self.left = MOST_OF_TURN;
     }
 
-    /// A post of a place is given. Tells whether it is time to tell the seat of [`TOLD_AT_ONCE`] posts.
-    pub(crate) fn note_given(&mut self, place: u64, kind: PostKind) -> bool {
+    /// A post of a place is given. Tells whether it is time to tell the seat of [`TOLD_AT_ONCE`] posts. Behind a long one the clock is
+    /// looked at: so no second one follows it unseen.
+    pub(crate) fn note_given(&mut self, place: u64, kind: PostKind, is_long: bool) -> bool {
         self.place = place;
         self.left = self.left.saturating_sub(1);
-        self.unseen = self.unseen.saturating_add(1);
+        self.unseen = self.unseen.saturating_add(if is_long { RARELY } else { 1 });
         let Some(share) = self.shares.get_mut(place as usize) else {
             return false;
         };

@@ -1,7 +1,7 @@
 //! The components of a topic, found once for all wildcards that it is compared with. They are compared
 //! by blocks: what octets stood for a block in one wildcard is known for the next, and many wildcards
 //! have the same octets there. Those are compared at once, and not component by component.
-ghost use Rattle.std.specs.Prelude.{◌≡◌, ◌≤◌, ◌||◌, ℕ, List, map, take, length, IfOk, MatchOption};
+ghost use Rattle.std.specs.Prelude.{◌≡◌, ◌≤◌, ◌<◌, ◌||◌, ◌+◌, ◌^◌, ◌++◌, ◌∷◌, [], ℕ, List, map, take, drop, length, IfOk, MatchOption};
 ghost use Rattle.std.specs.Str.{bytes_eq};
 ghost use Rattle.wamp_ids.specs.Uri.{components, is_empty};
 ghost use Rattle.wamp_ids.specs.Pattern.{fits};
@@ -34,7 +34,26 @@ fn part_fits(part: &[u8], name: &[u8]) -> bool
 {
     match part {
         [] => true,
+        [octet] => match name {
+            [only] => octet == only,
+            _ => false,
+        },
         _ => part == name,
+    }
+}
+
+/// Where the first component of a text ends, as [`dot_in`] says: that of few octets is found without a call.
+fn end_in(text: &[u8]) -> Option<usize>
+    ensures countable { length text.now < 2 ^ 64 }
+    ensures cut { MatchOption result (components text.now ≡ text.now ∷ [])
+        (λ i. (i < length text.now)
+        × (components text.now ≡ take i text.now ∷ components (drop (i + 1) text.now))) }
+{
+    match text {
+        [b'.', ..] => Some(0),
+        [_, b'.', ..] => Some(1),
+        [_, _, b'.', ..] => Some(2),
+        _ => dot_in(text),
     }
 }
 
@@ -47,7 +66,7 @@ fn octets_for(wildcard: &[u8], parts: &[&[u8]]) -> Option<usize>
     wamp_ids::laws::components_joined();
     let mut rest = wildcard;
     for place in 0..parts.len() {
-        match dot_in(rest) {
+        match end_in(rest) {
             None => return None,
             Some(i) => {
                 if !part_fits(&rest[..i], parts[place]) {
@@ -118,7 +137,7 @@ pub(crate) fn fits_parts(wildcard: &[u8], parts: &[&[u8]]) -> bool
 {
     let mut rest = wildcard;
     for place in 0..parts.len() {
-        match dot_in(rest) {
+        match end_in(rest) {
             None => return place + 1 == parts.len() && part_fits(rest, parts[place]),
             Some(i) => {
                 if !part_fits(&rest[..i], parts[place]) {
