@@ -200,11 +200,11 @@ impl Weight {
         }
     }
 
-    /// Whether it was read from so many octets that these are counted.
-    pub(crate) fn is_counted(&self) -> bool {
+    /// How many octets are counted: 256 or more, or 0.
+    pub(crate) fn octets(&self) -> u64 {
         match &self.held {
-            GivenBack::Nothing => false,
-            GivenBack::Octets(_, _) => true,
+            GivenBack::Nothing => 0,
+            GivenBack::Octets(octets, _) => u64::from(*octets),
         }
     }
 

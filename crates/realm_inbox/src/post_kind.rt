@@ -23,11 +23,11 @@ pub(crate) fn kind_of<S: Shut>(post: &Post<S>) -> PostKind {
     }
 }
 
-/// Whether it was read from so many octets that it may take long by itself.
-pub(crate) fn is_long<S: Shut>(post: &Post<S>) -> bool {
+/// From how many octets it was read, where they are counted: so it may take long by itself. Else 0.
+pub(crate) fn octets_of<S: Shut>(post: &Post<S>) -> u64 {
     match post {
-        Post::Act(letter) => letter.weight.is_counted(),
-        Post::Stop(_) => false,
+        Post::Act(letter) => letter.weight.octets(),
+        Post::Stop(_) => 0,
     }
 }
 
