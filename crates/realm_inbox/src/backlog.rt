@@ -200,6 +200,14 @@ impl Weight {
         }
     }
 
+    /// How many octets are counted: 256 or more, or 0.
+    pub(crate) fn octets(&self) -> u64 {
+        match &self.held {
+            GivenBack::Nothing => 0,
+            GivenBack::Octets(octets, _) => u64::from(*octets),
+        }
+    }
+
     /// Hands a publication back that the realm is done with, which was read from the octets of this weight. A long one is dropped by
     /// the thread that read it, before it takes on what is next, or by the receiving end, when its client's last post is given.
     pub fn hand_back(&self, spent: Shared<Publication>) {

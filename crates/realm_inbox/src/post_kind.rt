@@ -23,6 +23,14 @@ pub(crate) fn kind_of<S: Shut>(post: &Post<S>) -> PostKind {
     }
 }
 
+/// From how many octets it was read, where they are counted: so it may take long by itself. Else 0.
+pub(crate) fn octets_of<S: Shut>(post: &Post<S>) -> u64 {
+    match post {
+        Post::Act(letter) => letter.weight.octets(),
+        Post::Stop(_) => 0,
+    }
+}
+
 fn kind_of_act<S: Shut>(act: &Act<S>) -> PostKind {
     match act {
         Act::Said(said) => kind_of_said(said),

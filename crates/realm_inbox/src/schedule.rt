@@ -19,6 +19,9 @@ const MOST_OF_TURN: u32 = 64;
 /// seats' posts then, and of the time in which the system didn't let the thread run.
 const MOST_BILLED: u64 = 4;
 
+/// Or no more than so many nanoseconds for each octet of its post, where they are counted: a search takes as long for a topic.
+const MOST_OF_OCTET: u64 = 64;
+
 /// How many posts of a seat are given before that is told. It is less than what is left where who waits goes on
 /// (`RESUMED_POSTS`): so there is always a post that is still to be given, and then it is told.
 pub(crate) const TOLD_AT_ONCE: u32 = 64;
@@ -49,8 +52,9 @@ pub(crate) struct Schedule {
     // The least time that a seat is counted: what the one had taken that was billed last. It goes along while nobody waits, too, so
     // that who was at work all day isn't behind who comes anew.
     floor: u64,
-    // Whose post was given last.
+    // Whose post was given last, and how many octets of it are counted.
     place: u64,
+    octets: u64,
     // How many posts are left of its turn.
     left: u32,
     // How many were given since the last look at the clock.
@@ -75,6 +79,7 @@ impl Schedule {
             shares,
             floor: 0,
             place: 0,
+            octets: 0,
             left: 0,
             unseen: 0,
             dearest: 0,
@@ -137,11 +142,15 @@ impl Schedule {
         self.left = MOST_OF_TURN;
     }
 
-    /// A post of a place is given. Tells whether it is time to tell the seat of [`TOLD_AT_ONCE`] posts.
-    pub(crate) fn note_given(&mut self, place: u64, kind: PostKind) -> bool {
+    /// A post of a place is given, which was read from so many octets, or from fewer than are counted. Tells whether it is time to tell
+    /// the seat of [`TOLD_AT_ONCE`] posts. Behind one whose octets are counted the clock is looked at: so no second one follows unseen.
+    pub(crate) fn note_given(&mut self, place: u64, kind: PostKind, octets: u64) -> bool {
         self.place = place;
+        self.octets = octets;
         self.left = self.left.saturating_sub(1);
-        self.unseen = self.unseen.saturating_add(1);
+        self.unseen = self
+            .unseen
+            .saturating_add(if octets == 0 { 1 } else { RARELY });
         let Some(share) = self.shares.get_mut(place as usize) else {
             return false;
         };
@@ -187,7 +196,13 @@ impl Schedule {
         self.unseen = 0;
         if let Some(share) = self.shares.get_mut(self.place as usize) {
             let billed = if self.is_calm {
-                nanos.min(share.most.max(CHEAP).saturating_mul(MOST_BILLED))
+                nanos.min(
+                    share
+                        .most
+                        .max(CHEAP)
+                        .saturating_mul(MOST_BILLED)
+                        .max(self.octets.saturating_mul(MOST_OF_OCTET)),
+                )
             } else {
                 nanos
             };

@@ -46,8 +46,8 @@ impl SeatTurns {
 
     /// A post of a place is given: the seat is told in portions, and so is who waits for room. Behind a client's last post nobody
     /// takes on what is next, so that what was handed back is dropped here.
-    pub(crate) fn note_given(&mut self, place: u64, kind: PostKind) {
-        if self.schedule.note_given(place, kind) {
+    pub(crate) fn note_given(&mut self, place: u64, kind: PostKind, octets: u64) {
+        if self.schedule.note_given(place, kind, octets) {
             self.tell(place);
         }
         if kind == PostKind::Last {

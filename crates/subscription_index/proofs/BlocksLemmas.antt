@@ -1,11 +1,10 @@
 -- Octets of a wildcard that stand for components of a topic.
-use Rattle.std.proofs.Common.{◌≡◌, ◌≢◌, length-set, ℕ, zero, suc, ◌+◌, ◌-◌, ◌*◌, ◌<◌, ◌≤◌, Bool, true, false, eqb, zero-add, suc-add, ◌&&◌, ◌||◌, List, [], ◌∷◌, ◌++◌, map, take, drop, length, get_or, set, refl, sym, ap, subst, ◌∙◌, add-one, arith, append_assoc, length-append, length-take, length-drop}
+use Rattle.std.proofs.Common.{◌≡◌, ◌≢◌, length-set, ℕ, zero, suc, ◌+◌, ◌-◌, ◌*◌, ◌<◌, Bool, true, false, eqb, zero-add, suc-add, ◌&&◌, ◌||◌, List, [], ◌∷◌, ◌++◌, map, take, drop, length, get_or, set, refl, sym, ap, subst, ◌∙◌, add-one, arith, append_assoc, length-append, length-take, length-drop}
 use Rattle.std.proofs.lemmas.List.{take-append-drop, take-map, drop-map, map-append, length-map, take_all, get_or-set_same, get_or-set_other}
 use Rattle.std.proofs.lemmas.Bool.Decides.{nat_tests}
 use Rattle.std.proofs.Math.Seq.{take-append-add, take-append_seam, drop-nil}
 use Rattle.std.specs.List.{join_with_byte}
 use Rattle.std.specs.Str.{bytes_eq}
-use Rattle.std.proofs.Math.Bool.{and-false}
 use Rattle.std.proofs.lemmas.Bool.{and_parts}
 use Rattle.wamp_ids.specs.Uri.{components, is_empty}
 use Rattle.wamp_ids.specs.Pattern.{fits}
@@ -87,26 +86,13 @@ first_left f [] i d small = absurd (omega arith)
 first_left f (p ∷ ps) zero d small = refl
 first_left f (p ∷ ps) (suc i) d small = first_left f ps i d (omega arith)
 
-ends_early : (text : List ℕ) (qs more : List (List ℕ)) → 1 ≤ length qs → 1 ≤ length more → fits (text ∷ []) (qs ++ more) ≡ false
-ends_early text [] more some another = absurd (omega arith)
-ends_early text (q ∷ []) [] some another = absurd (omega arith)
-ends_early text (q ∷ []) (m ∷ ms) some another = and-false (is_empty text || bytes_eq text q)
-ends_early text (q ∷ r ∷ qs) more some another = and-false (is_empty text || bytes_eq text q)
-
--- no dot is left before the components are passed
-pub passed_to_end : {X : Type 0} (f : X → List ℕ) (ps : List X) (place : ℕ) (text rest : List ℕ) → Passed text rest (take place (map f ps)) → place < length ps → components rest ≡ rest ∷ [] → FitsNone text (map f ps)
-passed_to_end f ps place text rest p small last more some =
-    let left : 1 ≤ length (drop place (map f ps)) = omega (arith, length-drop place (map f ps), length-map ps f) in
-    left_over text rest (map f ps) more place p ∙ (ap (λ cs. fits cs (drop place (map f ps) ++ more)) last ∙ ends_early rest (drop place (map f ps)) more left some)
-
--- a component doesn't fit
-pub passed_to_other : {X : Type 0} (f : X → List ℕ) (ps : List X) (place : ℕ) (d : X) (text rest : List ℕ) (i : ℕ) → Passed text rest (take place (map f ps)) → place < length ps
-    → components rest ≡ take i rest ∷ components (drop (i + 1) rest) → (is_empty (take i rest) || bytes_eq (take i rest) (f (get_or ps place d))) ≡ false → FitsNone text (map f ps)
-passed_to_other f ps place d text rest i p small cut other more some =
+-- the rest doesn't fit the next component
+pub passed_to_none : {X : Type 0} (f : X → List ℕ) (ps : List X) (place : ℕ) (d : X) (text rest : List ℕ) → Passed text rest (take place (map f ps)) → place < length ps → FitsNone rest (f (get_or ps place d) ∷ [])
+    → FitsNone text (map f ps)
+passed_to_none f ps place d text rest p small none more some =
     left_over text rest (map f ps) more place p
-    ∙ (ap (λ cs. fits cs (drop place (map f ps) ++ more)) cut
-    ∙ (ap (λ qs. fits (take i rest ∷ components (drop (i + 1) rest)) (qs ++ more)) (first_left f ps place d small)
-    ∙ ap (λ b. b && fits (components (drop (i + 1) rest)) (drop (suc place) (map f ps) ++ more)) other))
+    ∙ (ap (λ qs. fits (components rest) (qs ++ more)) (first_left f ps place d small)
+    ∙ none (drop (suc place) (map f ps) ++ more) (omega (arith, some, length-append (drop (suc place) (map f ps)) more)))
 
 -- each of the texts is empty
 abbrev pub AreEmpty : List (List ℕ) → Type 0

@@ -1,7 +1,7 @@
 //! The components of a topic, found once for all wildcards that it is compared with. They are compared
 //! by blocks: what octets stood for a block in one wildcard is known for the next, and many wildcards
 //! have the same octets there. Those are compared at once, and not component by component.
-ghost use Rattle.std.specs.Prelude.{◌≡◌, ◌≤◌, ◌||◌, ℕ, List, map, take, length, IfOk, MatchOption};
+ghost use Rattle.std.specs.Prelude.{◌≡◌, ◌≤◌, ◌<◌, ◌||◌, ◌+◌, ◌^◌, ◌++◌, ◌∷◌, [], ℕ, List, true, false, map, take, drop, length, IfOk, IfSome, IfNone, MatchOption};
 ghost use Rattle.std.specs.Str.{bytes_eq};
 ghost use Rattle.wamp_ids.specs.Uri.{components, is_empty};
 ghost use Rattle.wamp_ids.specs.Pattern.{fits};
@@ -34,7 +34,44 @@ fn part_fits(part: &[u8], name: &[u8]) -> bool
 {
     match part {
         [] => true,
+        [octet] => match name {
+            [only] => octet == only,
+            _ => false,
+        },
         _ => part == name,
+    }
+}
+
+/// Where the first component ends, the one before this place, if it fits this name.
+fn fitting(rest: &[u8], name: &[u8], end: usize) -> Option<usize>
+    requires within { end ≤ length rest.now }
+    ensures some { IfSome result (λ i. (i ≡ end)
+        × ((is_empty (take i rest.now) || bytes_eq (take i rest.now) name.now) ≡ true)) }
+    ensures none { IfNone result
+        ((is_empty (take end rest.now) || bytes_eq (take end rest.now) name.now) ≡ false) }
+{
+    if part_fits(&rest[..end], name) {
+        Some(end)
+    } else {
+        None
+    }
+}
+
+/// Where the first component of a wildcard ends, if there are more behind it and it fits this name. One of few octets is found
+/// without a call.
+fn end_of_fitting(rest: &[u8], name: &[u8]) -> Option<usize>
+    ensures some { IfSome result (λ i. (length rest.now < 2 ^ 64) × (i < length rest.now)
+        × (components rest.now ≡ take i rest.now ∷ components (drop (i + 1) rest.now))
+        × ((is_empty (take i rest.now) || bytes_eq (take i rest.now) name.now) ≡ true)) }
+    ensures none { IfNone result (FitsNone rest.now (name.now ∷ [])) }
+{
+    match rest {
+        [b'.', ..] => Some(0),
+        [_, b'.', ..] => fitting(rest, name, 1),
+        _ => match dot_in(rest) {
+            None => None,
+            Some(i) => fitting(rest, name, i),
+        },
     }
 }
 
@@ -47,14 +84,9 @@ fn octets_for(wildcard: &[u8], parts: &[&[u8]]) -> Option<usize>
     wamp_ids::laws::components_joined();
     let mut rest = wildcard;
     for place in 0..parts.len() {
-        match dot_in(rest) {
+        match end_of_fitting(rest, parts[place]) {
             None => return None,
-            Some(i) => {
-                if !part_fits(&rest[..i], parts[place]) {
-                    return None;
-                }
-                rest = &rest[i + 1..];
-            }
+            Some(i) => rest = &rest[i + 1..],
         }
     }
     Some(wildcard.len() - rest.len())
