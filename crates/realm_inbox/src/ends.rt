@@ -13,7 +13,6 @@ use crate::act::Act;
 use crate::backlog::{Backlog, PostCount, Weight};
 use crate::bells::{Bells, send};
 use crate::letter::{Letter, Post};
-use crate::post_kind::{kind_of, octets_of};
 use crate::rule::{Beside, InTurn, InboxView, Posts, Receives};
 use crate::seat_lines::{SeatLines, place_of};
 use crate::seat_turns::SeatTurns;
@@ -173,8 +172,7 @@ impl<S: Shut> Inbox<S> {
             self.lines.add(post);
             return self.deal(TryRecvError::Empty);
         }
-        self.turns
-            .note_given(place, kind_of(&post), octets_of(&post));
+        self.turns.note_given(place, &post);
         self.given.add(Snapshot::of(&post));
         Ok(post)
     }
@@ -227,8 +225,7 @@ impl<S: Shut> Inbox<S> {
             self.turns.schedule.calm_down();
             return Err(why);
         };
-        self.turns
-            .note_given(place, kind_of(&first), octets_of(&first));
+        self.turns.note_given(place, &first);
         self.given.add(Snapshot::of(&first));
         Ok(first)
     }

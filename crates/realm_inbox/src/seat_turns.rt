@@ -1,6 +1,7 @@
 //! What the receiving end tells the posters, and whose turn it is.
 use crate::backlog::Backlog;
-use crate::post_kind::PostKind;
+use crate::letter::Post;
+use crate::post_kind::{PostKind, kind_of, octets_of};
 use crate::room_bell::RoomBell;
 use crate::schedule::{Schedule, TOLD_AT_ONCE};
 use crate::seat_lines::SeatLines;
@@ -46,8 +47,9 @@ impl SeatTurns {
 
     /// A post of a place is given: the seat is told in portions, and so is who waits for room. Behind a client's last post nobody
     /// takes on what is next, so that what was handed back is dropped here.
-    pub(crate) fn note_given(&mut self, place: u64, kind: PostKind, octets: u64) {
-        if self.schedule.note_given(place, kind, octets) {
+    pub(crate) fn note_given<S: Shut>(&mut self, place: u64, post: &Post<S>) {
+        let kind = kind_of(post);
+        if self.schedule.note_given(place, kind, octets_of(post)) {
             self.tell(place);
         }
         if kind == PostKind::Last {
