@@ -174,6 +174,7 @@ fn drained(alloc: Global, drained: Drained<u64>) -> io::Result<String> {
     match drained {
         Drained::Item(number) => Ok(format!(in alloc; "took {number}\n")?),
         Drained::Stopped => line_of(alloc, "stopped"),
+        Drained::Full => line_of(alloc, "was full"),
         Drained::Dropped => line_of(alloc, "dropped"),
     }
 }

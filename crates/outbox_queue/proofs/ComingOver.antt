@@ -1,12 +1,12 @@
 -- The end that adds comes over to the end that takes.
-use Rattle.std.proofs.Common.{◌≡◌, ◌≤◌, ◌<◌, ℕ, ◌+◌, List, [], ◌∷◌, ◌++◌, length, sym, refl, ap, ◌∙◌, subst, append-nil, true, false, arith}
+use Rattle.std.proofs.Common.{◌≡◌, ◌≤◌, ◌<◌, ℕ, ◌+◌, List, [], ◌∷◌, ◌++◌, length, sym, refl, ap, ◌∙◌, subst, append-nil, Bool, true, false, arith}
 use Rattle.std.specs.Prelude.{Option, Some, None, IfSome, is_some}
 use mathlib.Core.List.{IsPrefix}
 use Rattle.atomic_table.specs.Seated.{TableId}
 use Rattle.outbox_queue.specs.declared.ends.Came.{Came}
 use Rattle.outbox_queue.specs.declared.owed.Note.{Note}
 use Rattle.outbox_queue.specs.declared.rule.OutboxView.{OutboxView}
-use Rattle.outbox_queue.specs.Ends.{Last, Taking, TookAll, TookUnvouched, TookWhole, IsVouched, Owes, IsOf, came_with, or_else}
+use Rattle.outbox_queue.specs.Ends.{Last, Taking, TookAll, TookFull, TookUnvouched, TookWhole, IsVouched, Owes, IsOf, came_with, or_else}
 use Rattle.outbox_queue.specs.Outbox.{EndsIn, MatchDrained}
 use Rattle.outbox_queue.specs.declared.drain.Drained.{Drained}
 use Rattle.outbox_queue.specs.declared.drain.Drained.TheVariants as drained
@@ -44,7 +44,7 @@ module _ {T H : Type 0} (owed : H → ℕ → List T) (is_over : H → ℕ → T
   goes_on begins capacity v w x (Some came) may is =
       let eq = is.0.0 in
       let begun : IsPrefix (with_taken v x).taken v.added = subst (λ (u : OutboxView T H). IsPrefix u.taken v.added) eq is.2 in
-      let then : CameOver owed is_over belongs capacity (with_taken v x) came = record { adds = may.adds; begins = begun; vouches = may.vouches; room = may.room } in
+      let then : CameOver owed is_over belongs capacity (with_taken v x) came = record { adds = may.adds; begins = begun; vouches = may.vouches; room = may.room; full = may.full; never = may.never } in
       subst (λ (u : OutboxView T H). CameOver owed is_over belongs capacity u came) (sym eq) then
 
   by_history : (capacity : ℕ) (v : OutboxView T H) (came : Came H) (history : Option H) → came.history ≡ history → CameOver owed is_over belongs capacity v came → Owes owed v.seen v.conn v.taken → Owes owed (or_else history v.seen) v.conn v.taken
@@ -78,11 +78,11 @@ module _ {T H : Type 0} (owed : H → ℕ → List T) (is_over : H → ℕ → T
 
   pub comes : (begins : H → H → Type 0) (capacity : ℕ) (t : OutboxView T H) (conn : ℕ) (chronicle : Option TableId) (history : Option H) (added : List T) (came : Came H) (waiting : List (Note T H))
       → conn ≡ t.conn → chronicle ≡ t.chronicle → IsVouched owed is_over came.history conn added came.finds.count → IsOf belongs came.history chronicle → Waiting begins (joined t history added) waiting
-      → (0 < came.finds.count → capacity ≤ length added) → CameOver owed is_over belongs capacity (joined t history added) came
-  comes begins capacity t conn chronicle history added came waiting own home vouched is_of waits room =
+      → (0 < came.finds.count → capacity ≤ length added) → (came.was_full ≡ true → 0 < came.finds.count) → (came.was_full ≡ false → came.finds.count ≡ 0) → CameOver owed is_over belongs capacity (joined t history added) came
+  comes begins capacity t conn chronicle history added came waiting own home vouched is_of waits room full never =
       let here : IsVouched owed is_over came.history t.conn added came.finds.count = subst (λ n. IsVouched owed is_over came.history n added came.finds.count) own vouched in
       let of : IsOf belongs came.history t.chronicle = subst (λ k. IsOf belongs came.history k) home is_of in
-      record { adds = refl; begins = (items_of waiting, sym waits.0); vouches = record { vouched = here; is_of = of }; room = room }
+      record { adds = refl; begins = (items_of waiting, sym waits.0); vouches = record { vouched = here; is_of = of }; room = room; full = full; never = never }
 
   was_all : (d : Taking T H) (last : Option (Last T H)) → is_some last ≡ true → IfSome last (λ _. TookAll owed is_over d) → TookAll owed is_over d
   was_all d None came all = absurd (cc came)
@@ -95,26 +95,42 @@ module _ {T H : Type 0} (owed : H → ℕ → List T) (is_over : H → ℕ → T
       let same : TookAll owed is_over (record d { empty_finds = d.empty_finds + 1 }) = record { last = was.last; came = was.came; all = was.all; vouched = was.vouched; room = was.room } in
       subst (λ (t : Taking T H). TookAll owed is_over t) (sym is) same
 
-  with_history : (d : Taking T H) (all : TookAll owed is_over d) (history : Option H) → all.last.history ≡ history → is_some history ≡ true → TookWhole owed is_over d
-  with_history d all None is some = absurd (cc some)
-  with_history d all (Some h) is some = record { all = all; history = h; brought = is }
+  some_of : (history : Option H) → is_some history ≡ true → (h : H) × (history ≡ Some h)
+  some_of None some = absurd (cc some)
+  some_of (Some h) some = (h, refl)
+
+  -- the history that came
+  brought_by : (d : Taking T H) (all : TookAll owed is_over d) → is_some (came_with d.last) ≡ true → (h : H) × (all.last.history ≡ Some h)
+  brought_by d all some = some_of all.last.history (sym (ap (λ l. is_some (came_with l)) all.came) ∙ some)
+
+  of_last : (d : Taking T H) (all : TookAll owed is_over d) (P : Last T H → Type 0) → IfSome d.last P → P all.last
+  of_last d all P is = subst (λ (l : Option (Last T H)). IfSome l P) all.came is
 
   no_history : (o : Option H) → is_some o ≡ false → o ≡ None
   no_history None is = refl
   no_history (Some h) is = absurd (cc is)
 
-  -- a history came with the other end, or none did
-  pub vouched_for : (d : Taking T H) → TookAll owed is_over d → is_some (came_with d.last) ≡ true → TookWhole owed is_over d
-  vouched_for d all some = with_history d all all.last.history refl (sym (ap (λ l. is_some (came_with l)) all.came) ∙ some)
+  -- a history came with the other end, which had found the queue full or not, or none did
+  pub whole_for : (d : Taking T H) → TookAll owed is_over d → is_some (came_with d.last) ≡ true → IfSome d.last (λ l. l.full_finds ≡ 0) → TookWhole owed is_over d
+  whole_for d all some never = let b = brought_by d all some in record { all = all; history = b.0; brought = b.1; never = of_last d all (λ l. l.full_finds ≡ 0) never }
+
+  pub full_for : (d : Taking T H) → TookAll owed is_over d → is_some (came_with d.last) ≡ true → IfSome d.last (λ l. 0 < l.full_finds) → TookFull owed is_over d
+  full_for d all some full = let b = brought_by d all some in record { all = all; history = b.0; brought = b.1; full = of_last d all (λ l. 0 < l.full_finds) full }
+
+  -- where it is so whatever the end says, and it says so
+  pub told_of : (o : Option (Last T H)) (b c : Bool) (P : Last T H → Type 0) → IfSome o (λ l. b ≡ c → P l) → b ≡ c → IfSome o P
+  told_of None b c P is said = tt
+  told_of (Some l) b c P is said = is said
 
   pub unvouched_for : (d : Taking T H) → TookAll owed is_over d → is_some (came_with d.last) ≡ false → TookUnvouched owed is_over d
   unvouched_for d all none = (all, no_history (came_with d.last) none)
 
   -- how it ended, and that it was found empty
-  pub ends_as : (a d : Taking T H) (r : Drained T) (Took : T → Type 0) → EndsIn a d → MatchDrained r (λ _. ⊥) (TookWhole owed is_over d) (TookUnvouched owed is_over d)
-      → MatchDrained r Took (EndsIn a d × TookWhole owed is_over d) (EndsIn a d × TookUnvouched owed is_over d)
+  pub ends_as : (a d : Taking T H) (r : Drained T) (Took : T → Type 0) → EndsIn a d → MatchDrained r (λ _. ⊥) (TookWhole owed is_over d) (TookFull owed is_over d) (TookUnvouched owed is_over d)
+      → MatchDrained r Took (EndsIn a d × TookWhole owed is_over d) (EndsIn a d × TookFull owed is_over d) (EndsIn a d × TookUnvouched owed is_over d)
   ends_as a d (drained.Item x) Took ends m = absurd m
   ends_as a d drained.Stopped Took ends m = (ends, m)
+  ends_as a d drained.Full Took ends m = (ends, m)
   ends_as a d drained.Dropped Took ends m = (ends, m)
 
 module _ {T H : Type 0} where

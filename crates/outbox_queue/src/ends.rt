@@ -3,7 +3,7 @@
 //! While the ends are apart, [`Producer::push`] and [`Consumer::pop`] alone step the queue, and by the calls of `counted` alone:
 //! so each find that an end shows was a step of the queue, in that call. [`settle_ends`] has both ends in one hand: `join_places`
 //! looks how many items wait, and `take_all` takes them. Neither counts anything.
-ghost use Rattle.std.specs.Prelude.{◌≡◌, ◌+◌, ◌≤◌, ◌<◌, [], ◌∷◌, ◌++◌, length, Some, None, true, slice_get, IfOk, IfSome, is_some, MatchResult, MatchOption, Option, vec_capacity};
+ghost use Rattle.std.specs.Prelude.{◌≡◌, ◌+◌, ◌≤◌, ◌<◌, [], ◌∷◌, ◌++◌, length, Some, None, true, false, slice_get, IfOk, IfSome, is_some, MatchResult, MatchOption, Option, vec_capacity};
 ghost use Rattle.crossbeam_queue.specs.Passes.{view as shown, IsPassOf, IsSamePass, ruled_capacity};
 ghost use Rattle.outbox_queue.specs.Rule.{start, adding, taking, both};
 ghost use Rattle.outbox_queue.specs.Rule.{Grows, Belongs};
@@ -41,6 +41,8 @@ pub struct Producer<T, H: Owed<T>> {
     queue: Arc<Queue<T, H>>,
     place: CountedQueuePass<T, H>,
     conn: u64,
+    // Whether a step found the queue full.
+    was_full: bool,
     added: GhostCount,
     added_at_find: Snapshot<GhostCount>,
 }
@@ -80,6 +82,14 @@ impl<T: Drop, H: Owed<T>> Producer<T, H> {
         ensures { result ≡ self.now.conn }
     {
         self.conn
+    }
+
+    /// Whether a step found the queue full.
+    pub fn was_full(&self) -> bool
+        ensures full { result ≡ true → 0 < self.now.full_finds }
+        ensures never { result ≡ false → self.now.full_finds ≡ 0 }
+    {
+        self.was_full
     }
 
     /// Shows what always holds of this end.
@@ -145,6 +155,7 @@ impl<T: Drop, H: Owed<T>> Producer<T, H> {
                 Ok(())
             }
             Err(back) => {
+                self.was_full = true;
                 self.added_at_find = Snapshot::of(&self.added);
                 Err(back)
             }
@@ -152,12 +163,13 @@ impl<T: Drop, H: Owed<T>> Producer<T, H> {
     }
 }
 
-/// What came with the end that added: a history that vouches for what was added, if one does, and how often that end had found the
-/// queue full.
+/// What came with the end that added: a history that vouches for what was added, if one does, how often that end had found the queue
+/// full, and whether it had at all.
 #[derive(Drop)]
 pub struct Came<H> {
     history: Option<H>,
     finds: Finds,
+    was_full: bool,
 }
 
 /// The end that takes. Contracts see what was taken, the history seen, how often the queue was found empty, and what came with the end
@@ -270,6 +282,17 @@ impl<T: Drop, H: Owed<T>> Consumer<T, H> {
         }
     }
 
+    /// Whether that end had found the queue full.
+    pub fn was_full(&self) -> bool
+        ensures full { IfSome self.now.last (λ l. result ≡ true → 0 < l.full_finds) }
+        ensures never { IfSome self.now.last (λ l. result ≡ false → l.full_finds ≡ 0) }
+    {
+        match &self.came {
+            None => false,
+            Some(came) => came.was_full,
+        }
+    }
+
     /// The end that added comes over, with a history that vouches for what was added, if one does.
     pub fn take_over(&mut self, farewell: Farewell<T, H>)
         requires whose { whose_of farewell.end ≡ whose_drain self.old }
@@ -284,10 +307,15 @@ impl<T: Drop, H: Owed<T>> Consumer<T, H> {
     {
         let (end, history) = farewell.into_parts();
         end.shows();
+        let was_full = end.was_full();
         let (theirs, finds) = end.into_place();
         self.place
             .absorb::<InStep, ComesOver, Settles>(&self.queue, theirs);
-        self.came = Some(Came { history, finds });
+        self.came = Some(Came {
+            history,
+            finds,
+            was_full,
+        });
     }
 
     /// The history that came with the end that added.
@@ -357,6 +385,7 @@ pub fn new_ends<T: Drop, H: Owed<T>>(
         queue,
         place: CountedPass::new(place),
         conn,
+        was_full: false,
         added: GhostCount::new(),
         added_at_find: Snapshot::of(&GhostCount::new()),
     };
@@ -429,6 +458,7 @@ pub fn settle_ends<T: Drop, H: Owed<T>, R: Wait>(
         queue,
         place,
         conn: _,
+        was_full: _,
         added: _,
         added_at_find: _,
     } = adding;

@@ -1,5 +1,5 @@
 -- What always holds of the two ends.
-use Rattle.std.specs.Prelude.{◌≡◌, ◌<◌, ◌≤◌, ℕ, true, Option, None, Some, List, [], length}
+use Rattle.std.specs.Prelude.{◌≡◌, ◌<◌, ◌≤◌, ℕ, true, false, Option, None, Some, List, [], length}
 use mathlib.Core.List.{IsPrefix}
 use Rattle.std.specs.Arc.{arc_value}
 use Rattle.atomic_table.specs.Seated.{TableId}
@@ -14,14 +14,16 @@ use Rattle.outbox_queue.specs.body.Vouching.{VouchesFor}
 
 module _ {T H : Type 0} (owed : H → ℕ → List T) (belongs : H → TableId → Type 0) where
   -- the adding end has a pass of its queue that adds alone; what was added begins what its history, which is of the chronicle,
-  -- owes the connection, and where nothing was added there is no history, and no step found the queue full; where one did, as many items were added as it holds, or more;
-  -- the connection and the count are those of the pass
+  -- owes the connection, and where nothing was added there is no history, and no step found the queue full; where one did, as many items were added as it holds, or more,
+  -- and it says so; the connection and the count are those of the pass
   pub record IsAdding (e : Producer T H) : Type 0 where
     pub is_pass : IsPassOf (arc_value e.queue) e.place.pass
     pub adds : view e.place.pass ≡ adding (view e.place.pass).conn (view e.place.pass).chronicle (view e.place.pass).history (view e.place.pass).added
     pub capacity : 0 < ruled_capacity (arc_value e.queue)
     pub nothing_yet : (view e.place.pass).added ≡ [] → (e.place.finds ≡ 0) × ((view e.place.pass).history ≡ None)
     pub room : 0 < e.place.finds → ruled_capacity (arc_value e.queue) ≤ length (view e.place.pass).added
+    pub full : e.was_full ≡ true → 0 < e.place.finds
+    pub never : e.was_full ≡ false → e.place.finds ≡ 0
     pub owes : Owes owed (view e.place.pass).history (view e.place.pass).conn (view e.place.pass).added
     pub is_of : IsOf belongs (view e.place.pass).history (view e.place.pass).chronicle
     pub conn : e.conn ≡ (view e.place.pass).conn
@@ -34,12 +36,14 @@ last_of (Some came) added = Some (record { history = came.history; added = added
 
 module _ {T H : Type 0} (owed : H → ℕ → List T) (is_over : H → ℕ → Type 0) (belongs : H → TableId → Type 0) where
   -- the other end came over: its pass is one with this one's; what was taken begins what was added, and the history that came, if one did, vouches for that;
-  -- where a step found the queue full, as many items were added as it holds, or more
+  -- where a step found the queue full, as many items were added as it holds, or more, and it says so
   pub record CameOver (capacity : ℕ) (v : OutboxView T H) (came : Came H) : Type 0 where
     pub adds : v.adds ≡ true
     pub begins : IsPrefix v.taken v.added
     pub vouches : VouchesFor owed is_over belongs came.history v.conn v.chronicle v.added came.finds.count
     pub room : 0 < came.finds.count → capacity ≤ length v.added
+    pub full : came.was_full ≡ true → 0 < came.finds.count
+    pub never : came.was_full ≡ false → came.finds.count ≡ 0
 
   abbrev pub MayHaveCome : ℕ → OutboxView T H → Option (Came H) → Type 0
   MayHaveCome capacity v None = Unit {0}

@@ -33,7 +33,7 @@ invariant_of-self g c =
     let own : from.conn ≡ t.conn = ap (λ w. w.conn) c.requires.whose ∙ sym (ap (λ a. a.conn) vi) in
     let home : from.chronicle ≡ t.chronicle = ap (λ w. w.chronicle) c.requires.whose ∙ sym (ap (λ a. a.chronicle) vi) in
     let knows = now_knows g c in let all = joined o.owed o.is_over o.is_of t end.history end.added in
-    let came : Came g.row.H.Denot = record { history = c.into_parts-end.result.1; finds = c.into_place-theirs.result.1 } in
+    let came : Came g.row.H.Denot = record { history = c.into_parts-end.result.1; finds = c.into_place-theirs.result.1; was_full = c.was_full-was_full.result } in
     let finds : came.finds.count ≡ from.full_finds = c.into_place-theirs.ensures.finds ∙ ap (λ e. e.full_finds) same.end in
     let V : Option g.row.H.Denot × List g.row.T.Denot × ℕ → Type 0 = λ y. IsVouched o.owed o.is_over y.0 from.conn y.1 y.2 in
     let vouched : IsVouched o.owed o.is_over came.history from.conn end.added came.finds.count = subst V (λ i. (sym same.history i, ap (λ e. e.added) (sym same.end) i, sym finds i)) same.vouched in
@@ -43,7 +43,7 @@ invariant_of-self g c =
     let here = ruled_capacity (arc_value c.self.inside.queue) in
     let holds : end.capacity ≡ here = ap (λ e. e.capacity) same.end ∙ ap (λ w. w.capacity) c.requires.whose ∙ sym (ap (λ a. a.capacity) vi) in
     let room : 0 < came.finds.count → here ≤ length end.added = λ rose. subst (λ n. n ≤ length end.added) holds (c.shows.ensures.room (subst (λ n. 0 < n) c.into_place-theirs.ensures.finds rose)) in
-    let over = comes o.owed o.is_over o.is_of o.begins here t from.conn from.chronicle end.history end.added came waits.0 own home vouched belongs waits.1 room in
+    let over = comes o.owed o.is_over o.is_of o.begins here t from.conn from.chronicle end.history end.added came waits.0 own home vouched belongs waits.1 room (λ is. subst (λ n. 0 < n) (sym c.into_place-theirs.ensures.finds) (c.was_full-was_full.ensures.full is)) (λ is. c.into_place-theirs.ensures.finds ∙ c.was_full-was_full.ensures.never is) in
     let moved = c.absorb.ensures.queue in
     record {
       is_pass = (moved.0 ∙ old.is_pass.0, moved.2 ∙ old.is_pass.1);
