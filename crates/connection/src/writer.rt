@@ -191,8 +191,14 @@ fn pass_on<S: Sink>(sink: &mut S, gathered: &mut Gathered) -> Result<(), WriteEn
     }
 }
 
-/// Waits for the next item, or until there is to be none.
-fn wait<R: Wait, H: Owed<Item>>(rt: &R, drain: &mut Drain<Item, H>, until: Until) -> Drained<Item>
+/// Waits for the next item, or until there is to be none. Nothing is gathered meanwhile.
+fn wait<R: Wait, H: Owed<Item>>(
+    rt: &R,
+    drain: &mut Drain<Item, H>,
+    _gathered: &Gathered,
+    until: Until,
+) -> Drained<Item>
+    requires gathered { _gathered.now.frames.items ≡ [] }
     ensures took { MatchDrained result (λ item. drain.new.taken ≡ drain.old.taken ++ item ∷ [])
         (drain.new.taken ≡ drain.old.taken) (drain.new.taken ≡ drain.old.taken) }
     ensures drain { IsLater H.begins drain.old drain.new }
@@ -243,7 +249,7 @@ fn next_item<R: Wait, H: Owed<Item>, S: Sink>(
     if let Err(end) = pass_on(sink, gathered) {
         return Err(end);
     }
-    match wait(rt, drain, until) {
+    match wait(rt, drain, gathered, until) {
         Drained::Item(item) => Ok(item),
         Drained::Stopped => Err(WriteEnd::Stopped),
         Drained::Dropped => Err(WriteEnd::Dropped),
