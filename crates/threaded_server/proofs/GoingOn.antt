@@ -9,7 +9,7 @@ use Rattle.threaded_server.proofs.Places.{map_get}
 use Rattle.std.specs.Arc.{arc_value}
 use Rattle.rawsocket.specs.Handshakes.{refusing}
 use Rattle.threaded_server.specs.OwnStreams.{GoesOn, HaveOwnNames, NamesAreOwn, StreamsAreOwn, StreamsGoOn}
-use Rattle.broker_threads.specs.Courses.{ends_of, sink_of}
+use Rattle.broker_threads.specs.Courses.{fate_of, sink_of}
 use Rattle.threaded_server.specs.Lending.{returned}
 use Rattle.threaded_server.specs.Overs.{TellsRefusal, Went, after_of, before_of}
 use Rattle.threaded_server.specs.Served.{Served}
@@ -59,7 +59,7 @@ contains_at : {A : Type 0} (xs : List A) (i : ℕ) (x : A) → slice_get xs i �
 contains_at xs i x at = (i, slice_get_within xs i x at, get_or_from_slice_get xs i x x at)
 
 module _ {I O S : Type 0} (see : Sight I O) (offer : Offer) where
-  reader_goes_on : (before : Stream I O S) (source : Closed I) (back : List (Option (Poster S))) (c : Course O) → GoesBy see offer before source back c → GoesOn see (before.source, before.sink) (returned source.last.value (sink_of c).last.value (ends_of c))
+  reader_goes_on : (before : Stream I O S) (source : Closed I) (back : List (Option (Poster S))) (c : Course O) → GoesBy see offer before source back c → GoesOn see (before.source, before.sink) (returned source.last.value (sink_of c).last.value (fate_of c))
   reader_goes_on before source back (course.Untouched sink) h = record {
     same = record { read = ap (λ (x : I). (see.reading x).name) h.0; written = ap (λ (x : O). (see.writing x).name) h.1 };
     given = begins_same (see.reading before.source).given (see.reading source.last.value).given (ap (λ (x : I). (see.reading x).given) h.0);

@@ -9,7 +9,7 @@ ghost use Rattle.realm.specs.body.HistoryCode.{history_code};
 ghost use Rattle.std.specs.Arc.{arc_value};
 ghost use Rattle.realm_inbox.specs.EndViews.{AreNewSeats, inbox_of, posted};
 ghost use Rattle.threaded_server.specs.Conns.{AreApart, Numbered, conns_of};
-ghost use Rattle.broker_threads.specs.Courses.{ends_of, seen_of, sink_of};
+ghost use Rattle.broker_threads.specs.Courses.{fate_of, seen_of, sink_of};
 ghost use Rattle.threaded_server.specs.Overs.{AllWent, GoesOver, TellsRefusal};
 ghost use Rattle.threaded_server.specs.Posters.{Stand, lists_at, lists_of};
 ghost use Rattle.threaded_server.specs.Posts.{AllSay, OnlyPosted, posts_at};
@@ -30,7 +30,7 @@ use crate::roster::Roster;
 use crate::seats::Seats;
 use crate::starting::{Newcomer, Started, start};
 use broker_threads::told::{tell_accepted, tell_refused, tell_unserved};
-use broker_threads::{Closed, Ended, Fate, Plan, SeatTable};
+use broker_threads::{Closed, Ended, Fate, Plan, SeatTable, StreamFate};
 use ghost_state::GhostList;
 use log_lines::{CloseReason, ConnectionRefusal};
 use rawsocket::devices::{Sink, Source, Turns, send};
@@ -310,7 +310,7 @@ impl<
         Gone {
             source: Closed::of(source),
             sink: Closed::of(sink),
-            ends: None,
+            fate: StreamFate::NoSeat,
         }
     }
 }
@@ -335,7 +335,7 @@ fn take_in<
         ≡ set (lists_of posters.old) place (Some ended.posters.items) }
     ensures source { result.0.source ≡ ended.source }
     ensures sink { result.0.sink ≡ sink_of ended.course }
-    ensures ends { result.0.ends ≡ ends_of ended.course }
+    ensures fate { result.0.fate ≡ fate_of ended.course }
 {
     let Ended {
         source,
@@ -343,11 +343,11 @@ fn take_in<
         course,
         reason,
     } = ended;
-    let ends = course.ends();
+    let fate = course.fate();
     let (sink, seen) = course.into_parts();
     realms.take_in(rt, seen);
     posters.put(place, back);
-    (Gone { source, sink, ends }, reason)
+    (Gone { source, sink, fate }, reason)
 }
 
 // A connection's seat is free again, whose posters are back.

@@ -45,7 +45,7 @@ const MOST_FAILURES: u32 = 100;
 /// 100 times in a row, every live session gets its GOODBYE (WAMP, "Session Closing"), every other stream is ended, and all threads are
 /// waited for: as long as a peer takes nothing of what its session is still owed, this doesn't return.
 ///
-/// Each stream that the acceptor gave comes back to it ([`Acceptor::take_back`]), whatever became of it.
+/// Each stream that the acceptor gave comes back to it ([`Acceptor::take_back`]), with what became of it.
 ///
 /// A connection takes the lowest free seat of 256. One for which none is free gets the octets 7F 40 00 00, and is closed. Where memory or a
 /// thread is refused for a connection, that connection is closed, and the broker goes on.
@@ -314,10 +314,10 @@ fn take_back<A: Acceptor>(acceptor: &mut A, gone: Option<Gone<A::Source, A::Sink
     ensures answers { A.answers acceptor.new ≡ A.answers acceptor.old }
     ensures lending { MatchOption gone (A.lending acceptor.new ≡ A.lending acceptor.old)
         (λ gone. A.lending acceptor.new ≡ with_returned (A.lending acceptor.old)
-        (returned gone.source.last.value gone.sink.last.value gone.ends)) }
+        (returned gone.source.last.value gone.sink.last.value gone.fate)) }
 {
-    if let Some(Gone { source, sink, ends }) = gone {
-        acceptor.take_back(source, sink, ends);
+    if let Some(Gone { source, sink, fate }) = gone {
+        acceptor.take_back(source, sink, fate);
     }
 }
 

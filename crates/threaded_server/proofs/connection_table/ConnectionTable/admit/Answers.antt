@@ -142,7 +142,7 @@ returns-in-Ended-clause-lent g c =
 pub returns-in-Ended-clause-over : goal.returns-in-Ended-clause-over
 returns-in-Ended-clause-over g c =
     seated_adds (items_of c.args.self.now.roster.over.streams) (items_of c.pass.new.self.over.streams) c.in-Ended.began c.of.result c.in-Ended.ended c.of-in-Ended.result.value c.take_in-gone.result.0.source c.take_in-gone.result.0.sink
-    c.take_in-gone.result.0.ends c.pass.ensures.over c.of-in-Ended.ensures c.of.ensures c.take_in-gone.ensures.source c.take_in-gone.ensures.sink c.take_in-gone.ensures.ends
+    c.take_in-gone.result.0.fate c.pass.ensures.over c.of-in-Ended.ensures c.of.ensures c.take_in-gone.ensures.source c.take_in-gone.ensures.sink c.take_in-gone.ensures.fate
 
 pub returns-clause-lent : goal.returns-clause-lent
 returns-clause-lent g c =
@@ -150,4 +150,4 @@ returns-clause-lent g c =
 
 pub returns-clause-over : goal.returns-clause-over
 returns-clause-over g c =
-    untouched_adds (items_of c.args.self.now.roster.over.streams) (items_of c.let_go-gone.new.self.over.streams) c.in-Refused.halves c.let_go-gone.result.source.last.value c.let_go-gone.result.sink.last.value c.let_go-gone.result.ends c.let_go-gone.ensures.over c.let_go-gone.ensures.source c.let_go-gone.ensures.sink c.let_go-gone.ensures.ends
+    untouched_adds (items_of c.args.self.now.roster.over.streams) (items_of c.let_go-gone.new.self.over.streams) c.in-Refused.halves c.let_go-gone.result.source.last.value c.let_go-gone.result.sink.last.value c.let_go-gone.result.fate c.let_go-gone.ensures.over c.let_go-gone.ensures.source c.let_go-gone.ensures.sink c.let_go-gone.ensures.fate

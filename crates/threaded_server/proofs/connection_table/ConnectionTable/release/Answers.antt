@@ -35,4 +35,4 @@ invariant_of-self-2 g c =
 pub returns-clause-over : goal.returns-clause-over
 returns-clause-over g c =
     let left = c.in_ok-conn.ensures.over in
-    seated_adds _ _ left.entry.began left.left c.in_ok-conn.ended _ c.take_in-gone.result.0.source c.take_in-gone.result.0.sink c.take_in-gone.result.0.ends left.over refl left.left_is c.take_in-gone.ensures.source c.take_in-gone.ensures.sink c.take_in-gone.ensures.ends
+    seated_adds _ _ left.entry.began left.left c.in_ok-conn.ended _ c.take_in-gone.result.0.source c.take_in-gone.result.0.sink c.take_in-gone.result.0.fate left.over refl left.left_is c.take_in-gone.ensures.source c.take_in-gone.ensures.sink c.take_in-gone.ensures.fate
