@@ -3,6 +3,7 @@ use Rattle.std.specs.Prelude.{◌≡◌, ◌⊎◌, ℕ, Bool, true, min, List, 
 use Rattle.connection.specs.Reader.{Start, start, ReadsSince, ReadsUntil, IsReadBy}
 use Rattle.connection.specs.declared.reader.ReadEnd.{ReadEnd}
 use Rattle.connection.specs.declared.reader.ReadEnd.TheVariants.{ActorGone, Ended, NoMemory}
+use Rattle.outbox_queue.specs.Outbox.{new_outbox}
 use Rattle.rawsocket.specs.Devices.{Reading}
 use Rattle.rawsocket.specs.Steps.{read_meter}
 use Rattle.realm_inbox.specs.EndViews.{home_of_poster, posted_by, poster_conn}
@@ -48,11 +49,10 @@ module _ {I S : Type 0} (seen : I → Reading) where
   Converses begun joining before now end = ReadsOn begun joining before now end ⊎ (StandsStill before now × (end ≡ ActorGone))
 
 module _ {O S : Type 0} where
-  -- a writer is made over the other end of the outbox that the Join brings, in the session's realm, serialization and limit; the outbox has this room, is of the poster's connection, and
-  -- of the chronicle of its inbox, if one is picked
+  -- a writer is made over the other end of the outbox that the Join brings, in the session's realm, serialization and limit; the outbox is a new one of this room, of the poster's connection,
+  -- and of the chronicle of its inbox, if one is picked
   pub record Begins (room : ℕ) (session : Session) (sink : O) (poster : Poster S) (joining : Joining S) (writer : Writer O S) : Type 0 where
-    pub own : joining.outbox.conn ≡ poster_conn poster
-    pub of : joining.outbox.chronicle ≡ home_of_poster poster
+    pub outbox : joining.outbox ≡ new_outbox writer.drain.queue room (poster_conn poster) (home_of_poster poster)
     pub asks : joining.authid ≡ session.authid
     pub new : IsNewDrain joining.outbox.queue room (poster_conn poster) (home_of_poster poster) writer.drain
     pub in_realm : writer.realm ≡ session.realm
