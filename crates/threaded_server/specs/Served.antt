@@ -2,7 +2,7 @@
 use Rattle.std.specs.Prelude.{◌≡◌, ◌+◌, ℕ, List, [], ◌∷◌, ◌++◌, Result, All, length, map}
 use Rattle.realm.specs.Grants.{Grants}
 use Rattle.threaded_server.specs.Answers.{Serves}
-use Rattle.threaded_server.specs.Conns.{AreApart, conns_of}
+use Rattle.threaded_server.specs.Conns.{AscendAtSeats, conns_of}
 use Rattle.threaded_server.specs.Lending.{Lending}
 use Rattle.threaded_server.specs.Overs.{AllWent, Books, Moves, after_of, before_of}
 use Rattle.threaded_server.specs.Posts.{OnlyPosted}
@@ -45,8 +45,8 @@ pub record Served {I O : Type 0} (S : Type 0) (see : Sight I O) (offer : Offer) 
   pub went : AllWent see offer lent streams
   -- each came back under the name that it was lent under
   pub own : All (λ over. ∥ KeepsNames see (before_of over) ((after_of over).source, (after_of over).sink) ∥₁) streams
-  -- no two connections had one number
-  pub apart : AreApart (conns_of streams)
+  -- the numbers of connections ascend at each seat, so no two had one number
+  pub ascend : AscendAtSeats (conns_of streams)
   -- each realm that served a session ran, from an empty history with these grants on
   pub runs : List (RealmRun S)
   pub each_ran : All (λ run. IsRun grants run) runs

@@ -8,7 +8,7 @@ ghost use Rattle.realm.specs.Grants.{pairs_of};
 ghost use Rattle.realm.specs.body.HistoryCode.{history_code};
 ghost use Rattle.std.specs.Arc.{arc_value};
 ghost use Rattle.realm_inbox.specs.EndViews.{AreNewSeats, inbox_of, posted};
-ghost use Rattle.threaded_server.specs.Conns.{AreApart, Numbered, conns_of};
+ghost use Rattle.threaded_server.specs.Conns.{AscendAtSeats, Numbered, conns_of};
 ghost use Rattle.broker_threads.specs.Courses.{fate_of, seen_of, sink_of};
 ghost use Rattle.threaded_server.specs.Overs.{AllWent, GoesOver, TellsRefusal};
 ghost use Rattle.threaded_server.specs.Posters.{Stand, lists_at, lists_of};
@@ -201,7 +201,7 @@ impl<
             (items_of result) }
         ensures only_posted { ∥ OnlyPosted (items_of result)
             (items_of self.roster.over.streams) ∥₁ }
-        ensures apart { AreApart (conns_of (items_of self.roster.over.streams)) }
+        ensures ascend { AscendAtSeats (conns_of (items_of self.roster.over.streams)) }
         ensures tied { ∥ All (λ over. OverTied (items_of result) over)
             (items_of self.roster.over.streams) ∥₁ }
         ensures went { ∥ AllWent

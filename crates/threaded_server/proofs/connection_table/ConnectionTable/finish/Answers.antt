@@ -19,8 +19,8 @@ returns-clause-only_posted g c =
     ∥∥₁_map table.say (only_posted (length table.roster.over.plan.value.realms.items) (realms_of table.realms) (items_of c.join.result) (lists_of table.posters) (lists_at table.roster.entries.items) (items_of table.roster.over.streams) c.join.ensures.runs c.join.ensures.received
     (nobody_there table.roster.entries.items c.requires))
 
-pub returns-clause-apart : goal.returns-clause-apart
-returns-clause-apart g c = c.args.self.numbered.apart
+pub returns-clause-ascend : goal.returns-clause-ascend
+returns-clause-ascend g c = c.args.self.numbered.ascend
 
 pub returns-clause-tied : goal.returns-clause-tied
 returns-clause-tied g c = ∥∥₁_map c.args.self.kept (all_tied (realms_of c.args.self.realms) (items_of c.join.result) (items_of c.args.self.roster.over.streams) c.join.ensures.runs)
