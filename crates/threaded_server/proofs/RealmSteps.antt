@@ -1,5 +1,5 @@
 -- What is kept of the realms, while streams come and go.
-use Rattle.std.proofs.Common.{◌≡◌, ◌≢◌, ℕ, Bool, List, [], ◌∷◌, ◌++◌, Option, None, Some, All, Contains, IfSome, option_map, set, slice_get, refl, sym, ap, ◌∙◌, subst}
+use Rattle.std.proofs.Common.{◌≡◌, ◌≢◌, ℕ, Bool, List, [], ◌∷◌, ◌++◌, Option, None, Some, All, Contains, IfSome, length, length-set, option_map, set, slice_get, refl, sym, ap, ◌∙◌, subst}
 use mathlib.Core.Logic.{◌⊎◌, inl, inr}
 use Rattle.std.proofs.lemmas.List.Elements.{All-push, All-weaker, Contains-append_left, Contains-push}
 use Rattle.std.proofs.lemmas.Option.{same_Some}
@@ -47,6 +47,11 @@ module _ {S : Type 0} where
   -- each realm is at its place, and keeps what it kept
   abbrev pub Longer : List (Shown S) → List (Shown S) → Type 0
   Longer old new = (i : ℕ) (r : Shown S) → slice_get old i ≡ Some r → (s : Shown S) × (slice_get new i ≡ Some s) × Grows r s
+
+  -- as many as before
+  pub takes_long : (old : List (Shown S)) (o : Option SeenHistory) (new : List (Shown S)) → TakesIn old o new → length new ≡ length old
+  takes_long old None new e = ap length e
+  takes_long old (Some seen) new k = ap length k.kept ∙ length-set old seen.realm (with_seen k.realm seen.history)
 
   pub same_longer : (old new : List (Shown S)) → new ≡ old → Longer old new
   same_longer old new e i r at = (r, ap (λ l. slice_get l i) e ∙ at, still r)

@@ -69,7 +69,7 @@ module _ {S : Type 0} where
   pub so_far_all : (all rest : List (Shown S)) (runs : List (RealmRun S)) → RunSoFar all rest runs → rest ≡ [] → EachRuns all runs
   so_far_all all rest runs h e = subst (λ (l : List (Shown S)). EachRuns l runs) (sym (h.all_are ∙ ap (λ l. h.done ++ l) e ∙ append-nil h.done)) h.each
 
-  ran_long : (realms : List (Shown S)) (runs : List (RealmRun S)) → EachRuns realms runs → length realms ≡ length runs
+  pub ran_long : (realms : List (Shown S)) (runs : List (RealmRun S)) → EachRuns realms runs → length realms ≡ length runs
   ran_long [] [] each = refl
   ran_long [] (run ∷ runs) each = absurd each
   ran_long (realm ∷ realms) [] each = absurd each

@@ -1,5 +1,5 @@
 -- What a broker served.
-use Rattle.std.specs.Prelude.{◌≡◌, ◌+◌, ℕ, List, [], ◌∷◌, ◌++◌, Result, All, length, map}
+use Rattle.std.specs.Prelude.{◌≡◌, ◌≢◌, ◌+◌, ℕ, List, [], ◌∷◌, ◌++◌, Result, All, length, map}
 use Rattle.realm.specs.Grants.{Grants}
 use Rattle.threaded_server.specs.Answers.{Serves}
 use Rattle.threaded_server.specs.Conns.{AscendAtSeats, conns_of}
@@ -47,8 +47,9 @@ pub record Served {I O : Type 0} (S : Type 0) (see : Sight I O) (offer : Offer) 
   pub own : All (λ over. ∥ KeepsNames see (before_of over) ((after_of over).source, (after_of over).sink) ∥₁) streams
   -- the numbers of connections ascend at each seat, so no two had one number
   pub ascend : AscendAtSeats (conns_of streams)
-  -- each realm that served a session ran, from an empty history with these grants on
+  -- each realm that serves a session ran, from an empty history with these grants on; where accepting was asked, as many ran as have names
   pub runs : List (RealmRun S)
+  pub all_ran : given ≢ [] → length runs ≡ length offer.names
   pub each_ran : All (λ run. IsRun grants run) runs
   -- what a realm received of a seat begins what the streams posted there
   pub only_posted : ∥ OnlyPosted runs streams ∥₁

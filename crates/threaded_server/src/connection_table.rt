@@ -120,6 +120,7 @@ impl<
     /// Joins the reader at this place, from 0, if it is over, and frees its seat. What is left of its stream, where it was.
     pub fn reap<R: Threads + Wait>(&mut self, rt: &R, place: usize) -> Option<Gone<I, O>>
         ensures plan { self.new.roster.over.plan ≡ self.old.roster.over.plan }
+        ensures realms { length (realms_of self.new.realms) ≡ length (realms_of self.old.realms) }
         ensures lent { items_of self.new.roster.lent ≡ items_of self.old.roster.lent }
         ensures over { GoesOver (items_of self.old.roster.over.streams)
             (items_of self.new.roster.over.streams) result }
@@ -134,6 +135,7 @@ impl<
     /// Waits for the reader at this place, if there is one, and frees its seat. What is left of its stream, where there was one.
     pub fn release<R: Threads + Wait>(&mut self, rt: &R, place: usize) -> Option<Gone<I, O>>
         ensures plan { self.new.roster.over.plan ≡ self.old.roster.over.plan }
+        ensures realms { length (realms_of self.new.realms) ≡ length (realms_of self.old.realms) }
         ensures lent { items_of self.new.roster.lent ≡ items_of self.old.roster.lent }
         ensures over { GoesOver (items_of self.old.roster.over.streams)
             (items_of self.new.roster.over.streams) result }
@@ -187,7 +189,8 @@ impl<
 
     /// Stops the realms' actors, and waits until each has marked whose sessions it holds.
     pub fn stop_actors<R: Wait>(&mut self, rt: &R)
-        ensures { self.new.roster ≡ self.old.roster }
+        ensures roster { self.new.roster ≡ self.old.roster }
+        ensures realms { length (realms_of self.new.realms) ≡ length (realms_of self.old.realms) }
     {
         self.realms.stop(rt);
     }
@@ -199,6 +202,7 @@ impl<
         ensures runs { All
             (λ run. IsRun (pairs_of self.roster.over.plan.value.config.value.grants.items) run)
             (items_of result) }
+        ensures realms { length (items_of result) ≡ length (realms_of self.realms) }
         ensures only_posted { ∥ OnlyPosted (items_of result)
             (items_of self.roster.over.streams) ∥₁ }
         ensures ascend { AscendAtSeats (conns_of (items_of self.roster.over.streams)) }
@@ -236,6 +240,7 @@ impl<
         arrival: Arrival<I, O, S>,
     ) -> Option<Gone<I, O>>
         ensures plan { self.new.roster.over.plan ≡ self.old.roster.over.plan }
+        ensures realms { length (realms_of self.new.realms) ≡ length (realms_of self.old.realms) }
         ensures lent { items_of self.new.roster.lent ≡ items_of self.old.roster.lent
             ++ (arrival.parts.source, arrival.parts.sink) ∷ [] }
         ensures over { GoesOver (items_of self.old.roster.over.streams)
@@ -282,6 +287,7 @@ impl<
     /// A stream is let go of, from which nothing was read, and to which nothing was written: memory was refused for it.
     pub fn let_go(&mut self, halves: (I, O)) -> Gone<I, O>
         ensures plan { self.new.roster.over.plan ≡ self.old.roster.over.plan }
+        ensures realms { length (realms_of self.new.realms) ≡ length (realms_of self.old.realms) }
         ensures lent { items_of self.new.roster.lent
             ≡ items_of self.old.roster.lent ++ halves ∷ [] }
         ensures over { GoesOver (items_of self.old.roster.over.streams)
@@ -294,6 +300,7 @@ impl<
     fn turn_away(&mut self, parts: Parts<I, O, S>) -> Gone<I, O>
         requires full { (place : ℕ) → place < 256 → free_at self.old.seats place ≡ None }
         ensures plan { self.new.roster.over.plan ≡ self.old.roster.over.plan }
+        ensures realms { length (realms_of self.new.realms) ≡ length (realms_of self.old.realms) }
         ensures lent { items_of self.new.roster.lent ≡ items_of self.old.roster.lent
             ++ (parts.source, parts.sink) ∷ [] }
         ensures over { GoesOver (items_of self.old.roster.over.streams)

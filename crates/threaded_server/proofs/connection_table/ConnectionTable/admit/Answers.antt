@@ -2,10 +2,12 @@ use Rattle.std.proofs.Common.{◌≡◌, ◌-◌, [], ◌∷◌, ◌++◌, None,
 use Rattle.threaded_server.specs.Seats.{free_at}
 use Rattle.ghost_state.specs.GhostList.{items_of}
 use Rattle.threaded_server.proofs.Numbering.{back_numbered, over_numbered, seat_numbered, taken_numbered, took_numbered, unseated_numbered}
+use Rattle.threaded_server.proofs.RealmSteps.{takes_long}
 use Rattle.threaded_server.proofs.RosterSteps.{seated_before}
 use Rattle.threaded_server.proofs.SeatSteps.{free_place, seat_given, seat_kept, still_seated}
 use Rattle.threaded_server.proofs.TableStanding.{back_standing, ended_standing, posters_there, reader_left, seat_asks, seat_standing, taken_at, untouched_standing}
 use Rattle.threaded_server.proofs.TableSteps.{lent_on, seated_adds, untouched_adds}
+use Rattle.broker_threads.specs.Courses.{seen_of}
 use Rattle.threaded_server.specs.Overs.{Found, Went}
 use Rattle.threaded_server.specs.Posters.{AreAt, AreOf, lists_of}
 use Rattle.threaded_server.specs.Realms.{places_of, realms_of}
@@ -138,6 +140,9 @@ returns-in-Runs-clause-lent g c =
 pub returns-in-Ended-clause-lent : goal.returns-in-Ended-clause-lent
 returns-in-Ended-clause-lent g c =
     lent_on (items_of c.args.self.now.roster.lent) (items_of c.args.self.now.roster.lent) (items_of c.pass.new.self.lent) c.in-Ended.halves.value (c.args.arrival.parts.source, c.args.arrival.parts.sink) c.pass.ensures.lent c.in-Ended.ensures.0 refl
+
+pub returns-in-Ended-clause-realms : goal.returns-in-Ended-clause-realms
+returns-in-Ended-clause-realms g c = takes_long (realms_of c.args.self.now.realms) (seen_of c.in-Ended.ended.course) (realms_of c.take_in-gone.new.realms) c.take_in-gone.ensures.realms
 
 pub returns-in-Ended-clause-over : goal.returns-in-Ended-clause-over
 returns-in-Ended-clause-over g c =
