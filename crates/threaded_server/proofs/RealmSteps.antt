@@ -223,6 +223,7 @@ module _ {I O S : Type 0} (see : Sight I O) (offer : Offer) where
         owes = subst (λ o. Owes owed_kept o written.drain.value.conn written.drain.value.taken) (sym writes.seen) writes.owes;
         newest_is = writes.seen;
         whole = writes.whole;
+        full = λ is. (writes.full is).1;
         kept = s.3;
       }
 

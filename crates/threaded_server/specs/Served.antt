@@ -53,6 +53,6 @@ pub record Served {I O : Type 0} (S : Type 0) (see : Sight I O) (offer : Offer) 
   pub each_ran : All (λ run. IsRun grants run) runs
   -- what a realm received of a seat begins what the streams posted there
   pub only_posted : ∥ OnlyPosted runs streams ∥₁
-  -- what a session's writer took begins what the one history of the realm that its HELLO names owes its connection, and is all of that where it stopped,
-  -- unless it took as many items as an outbox holds
+  -- what a session's writer took begins what the one history of the realm that its HELLO names owes its connection, and is all of that where it stopped; where its outbox was found
+  -- full, it took as many items as that holds, or more
   pub tied : ∥ All (λ over. OverTied runs over) streams ∥₁
