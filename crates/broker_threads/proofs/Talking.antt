@@ -1,8 +1,8 @@
 -- What is read and posted once a session is opened.
-use Rattle.std.proofs.Common.{◌≡◌, ℕ, Bool, true, List, [], ◌∷◌, ◌++◌, Ok, Err, refl, sym, ap, subst, inl, inr}
+use Rattle.std.proofs.Common.{◌≡◌, ◌⊎◌, ℕ, Bool, true, List, [], ◌∷◌, ◌++◌, Ok, Err, refl, sym, ap, subst, inl, inr}
 use Rattle.connection.specs.Reader.{Start, ReadsSince, ReadsUntil, IsReadBy}
 use Rattle.connection.specs.declared.reader.ReadEnd.{ReadEnd}
-use Rattle.connection.specs.declared.reader.ReadEnd.TheVariants.{Ended}
+use Rattle.connection.specs.declared.reader.ReadEnd.TheVariants.{ActorGone, Ended, NoMemory}
 use Rattle.rawsocket.specs.Devices.{Reading}
 use Rattle.rawsocket.specs.Steps.{read_meter}
 use Rattle.realm_inbox.proofs.PosterLemmas.{posts_on}
@@ -15,7 +15,7 @@ use Rattle.realm_inbox.specs.declared.joining.Joining.{Joining}
 use Rattle.session.specs.Opened.{session as session_of}
 use Rattle.broker_threads.specs.Begun.{IsMade, IsRefused, course_of, room_of}
 use Rattle.broker_threads.specs.Sights.{Sight}
-use Rattle.broker_threads.specs.Talks.{Passage, passage, Converses, Talks}
+use Rattle.broker_threads.specs.Talks.{Passage, passage, Converses, ReadsOn, StandsStill, Talks}
 use Rattle.broker_threads.specs.declared.course.Course.{Course}
 use Rattle.broker_threads.specs.declared.talk.Made.{Made}
 use Rattle.broker_threads.specs.declared.talk.Refused.{Refused}
@@ -37,10 +37,17 @@ module _ {I S : Type 0} (seen : I → Reading) where
   })
 
   -- the Join came back
-  pub came_back : (begun : Start) (joining : Joining S) (source : I) (before now : Poster S) (back : Act S) (end : ReadEnd) → (back ≡ Join joining) × (posted now ≡ posted before)
+  pub came_back : (begun : Start) (joining : Joining S) (source : I) (before now : Poster S) (back : Act S) → (back ≡ Join joining) × (posted now ≡ posted before)
       → (poster_conn now ≡ poster_conn before) × (inbox_of_poster now ≡ inbox_of_poster before)
-      → Converses seen begun joining (passage source before) (passage source now) end
-  came_back begun joining source before now back end e same = let r = posts_on (Err back) (Join joining) before now e same in inr (refl, r.1)
+      → Converses seen begun joining (passage source before) (passage source now) ActorGone
+  came_back begun joining source before now back e same = let r = posts_on (Err back) (Join joining) before now e same in inr (record { unread = refl; unposted = r.1 }, refl)
+
+  -- more was read and posted, or nothing
+  pub went_on : (begun : Start) (joining : Joining S) (before now : Passage I S) (end : ReadEnd) → Converses seen begun joining before now end ⊎ (StandsStill before now × (end ≡ NoMemory))
+      → ReadsOn seen begun joining before now end ⊎ StandsStill before now
+  went_on begun joining before now end (inl (inl read)) = inl read
+  went_on begun joining before now end (inl (inr back)) = inr back.0
+  went_on begun joining before now end (inr none) = inr none.0
 
   pub from_start : (begun other : Start) (joining : Joining S) (before now : Passage I S) (end : ReadEnd) → begun ≡ other → Converses seen begun joining before now end
       → Converses seen other joining before now end
@@ -61,4 +68,4 @@ module _ {I O S : Type 0} (see : Sight I O) where
     where
       by_cause : (r : Refused O) → IsRefused see.writing session poster r → Talks see (room_of session) (session_of session.opened) session.sink (passage source poster) (passage source now) (course_of r)
       by_cause (refused.Memory closed) w = (ap (passage source) e, w)
-      by_cause (refused.Thread written) w = record { joining = w.joining; writer = w.writer; begins = w.begins; converses = inr (refl, ap posted_by e); writes = w.writes }
+      by_cause (refused.Thread written) w = record { joining = w.joining; writer = w.writer; begins = w.begins; converses = inr (record { unread = refl; unposted = ap posted_by e }, refl); writes = w.writes }

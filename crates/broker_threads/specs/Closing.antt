@@ -47,6 +47,7 @@ abbrev pub by_writer : Closing → WriteEnd → CloseReason
 by_writer c write.TooLong = reason_by_octets c
 by_writer c write.NoMemory = NoMemory
 by_writer c write.TooManyTurns = TooManyTurns
+by_writer c write.Full = OutboxFull c.outbox
 by_writer c write.Stopped = reason_by_reader c
 by_writer c write.Dropped = reason_by_reader c
 by_writer c write.Device = reason_by_reader c

@@ -1,9 +1,10 @@
 -- What is left where a connection is over.
-use Rattle.std.specs.Prelude.{Option, None, Some, option_map}
+use Rattle.std.specs.Prelude.{Option, None, option_map}
 use Rattle.broker_threads.specs.declared.closed.Closed.{Closed}
 use Rattle.broker_threads.specs.declared.course.Course.{Course}
 use Rattle.broker_threads.specs.declared.course.Course.TheVariants as course
-use Rattle.broker_threads.specs.declared.course.SessionEnds.{SessionEnds}
+use Rattle.broker_threads.specs.declared.stream_fate.StreamFate.{StreamFate}
+use Rattle.broker_threads.specs.declared.stream_fate.StreamFate.TheVariants.{NoMemory, NotOpened, OpenedAlone, Served}
 use Rattle.broker_threads.specs.declared.writer_thread.SeenHistory.{SeenHistory}
 use Rattle.broker_threads.specs.declared.writer_thread.Written.{Written}
 
@@ -24,9 +25,9 @@ seen_of (course.NotOpened sink fault) = None
 seen_of (course.OpenedAlone sink) = None
 seen_of (course.Served end written) = seen_by written
 
--- how the two threads of its session ended, if one was served
-abbrev pub ends_of : {O : Type 0} → Course O → Option SessionEnds
-ends_of (course.Untouched sink) = None
-ends_of (course.NotOpened sink fault) = None
-ends_of (course.OpenedAlone sink) = None
-ends_of (course.Served end written) = Some (record { read = end; write = written.end })
+-- what its acceptor is told of it
+abbrev pub fate_of : {O : Type 0} → Course O → StreamFate
+fate_of (course.Untouched sink) = NoMemory
+fate_of (course.NotOpened sink fault) = NotOpened fault
+fate_of (course.OpenedAlone sink) = OpenedAlone
+fate_of (course.Served end written) = Served (record { read = end; write = written.end })

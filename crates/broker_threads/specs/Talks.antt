@@ -2,7 +2,8 @@
 use Rattle.std.specs.Prelude.{◌≡◌, ◌⊎◌, ℕ, Bool, true, min, List, [], ◌∷◌}
 use Rattle.connection.specs.Reader.{Start, start, ReadsSince, ReadsUntil, IsReadBy}
 use Rattle.connection.specs.declared.reader.ReadEnd.{ReadEnd}
-use Rattle.connection.specs.declared.reader.ReadEnd.TheVariants.{Ended}
+use Rattle.connection.specs.declared.reader.ReadEnd.TheVariants.{ActorGone, Ended, NoMemory}
+use Rattle.outbox_queue.specs.Outbox.{new_outbox}
 use Rattle.rawsocket.specs.Devices.{Reading}
 use Rattle.rawsocket.specs.Steps.{read_meter}
 use Rattle.realm_inbox.specs.EndViews.{home_of_poster, posted_by, poster_conn}
@@ -30,6 +31,11 @@ pub record Passage (I S : Type 0) : Type 0 where
 abbrev pub passage : {I S : Type 0} → I → Poster S → Passage I S
 passage source poster = record { source = source; poster = poster }
 
+-- nothing was read or posted
+pub record StandsStill {I S : Type 0} (before now : Passage I S) : Type 0 where
+  pub unread : now.source ≡ before.source
+  pub unposted : posted_by now.poster ≡ posted_by before.poster
+
 module _ {I S : Type 0} (seen : I → Reading) where
   -- The Join was posted, and behind it what was read, up to this end: Ended only where the stream told its end. No failure was passed over, unless nobody receives any more, and
   -- behind one nothing was read
@@ -38,16 +44,15 @@ module _ {I S : Type 0} (seen : I → Reading) where
     pub ended : end ≡ Ended → (seen now.source).is_ended ≡ true
     pub reads : ReadsUntil (read_meter (seen before.source)) (read_meter (seen now.source)) end
 
-  -- or it came back, and nothing was read
+  -- or the Join came back, as nobody receives any more, and nothing was read
   abbrev pub Converses : Start → Joining S → Passage I S → Passage I S → ReadEnd → Type 0
-  Converses begun joining before now end = ReadsOn begun joining before now end ⊎ ((now.source ≡ before.source) × (posted_by now.poster ≡ posted_by before.poster))
+  Converses begun joining before now end = ReadsOn begun joining before now end ⊎ (StandsStill before now × (end ≡ ActorGone))
 
 module _ {O S : Type 0} where
-  -- a writer is made over the other end of the outbox that the Join brings, in the session's realm, serialization and limit; the outbox has this room, is of the poster's connection, and
-  -- of the chronicle of its inbox, if one is picked
+  -- a writer is made over the other end of the outbox that the Join brings, in the session's realm, serialization and limit; the outbox is a new one of this room, of the poster's connection,
+  -- and of the chronicle of its inbox, if one is picked
   pub record Begins (room : ℕ) (session : Session) (sink : O) (poster : Poster S) (joining : Joining S) (writer : Writer O S) : Type 0 where
-    pub own : joining.outbox.conn ≡ poster_conn poster
-    pub of : joining.outbox.chronicle ≡ home_of_poster poster
+    pub outbox : joining.outbox ≡ new_outbox writer.drain.queue room (poster_conn poster) (home_of_poster poster)
     pub asks : joining.authid ≡ session.authid
     pub new : IsNewDrain joining.outbox.queue room (poster_conn poster) (home_of_poster poster) writer.drain
     pub in_realm : writer.realm ≡ session.realm
@@ -56,12 +61,12 @@ module _ {O S : Type 0} where
     pub writes_to : writer.sink ≡ sink
 
 module _ {I O S : Type 0} (see : Sight I O) (room : ℕ) where
-  -- what was read is posted, and the writer that is made for it wrote
+  -- what was read is posted, or there was no thread for the writer that is made for it, and nothing is read or posted; that writer wrote
   pub record TalksOn (session : Session) (sink : O) (before now : Passage I S) (end : ReadEnd) (written : Written O) : Type 0 where
     pub joining : Joining S
     pub writer : Writer O S
     pub begins : Begins room session sink before.poster joining writer
-    pub converses : Converses see.reading (start_of session) joining before now end
+    pub converses : Converses see.reading (start_of session) joining before now end ⊎ (StandsStill before now × (end ≡ NoMemory))
     pub writes : Writes see.writing writer written
 
   -- or no writer could be made, and nothing was read, posted or written

@@ -2,8 +2,8 @@
 use Rattle.std.specs.Prelude.{◌≡◌, ◌<◌, ℕ, List, [], Option, None}
 use Rattle.atomic_table.specs.Seated.{TableId}
 use Rattle.connection.specs.Writer.{WritesSince, IsLater, IsWrittenBy, write_told}
-use Rattle.connection.specs.declared.writer.WriteEnd.TheVariants.{Stopped, Dropped}
-use Rattle.outbox_queue.specs.Ends.{Taking, TookUnvouched, TookWhole, Owes, IsOf, newest}
+use Rattle.connection.specs.declared.writer.WriteEnd.TheVariants.{Stopped, Full, Dropped}
+use Rattle.outbox_queue.specs.Ends.{Taking, TookFull, TookUnvouched, TookWhole, Owes, IsOf, newest}
 use Rattle.outbox_queue.specs.Tied.{Kept}
 use Rattle.rawsocket.specs.Devices.{Writing}
 use Rattle.rawsocket.specs.Steps.{WriteSteps}
@@ -33,8 +33,8 @@ IsNewDrain queue room conn home drain =
 
 module _ {O S : Type 0} (seen_of : O → Writing) where
   -- what the writer took from its drain it wrote to its sink, in its serialization and limit, up to its end. The newest history that the drain knows comes back with it: that
-  -- history is of the drain's chronicle, and owes the connection what was taken, or more. Where it stopped, all that was added was taken, and a history came that vouches for that;
-  -- where the outbox was dropped, none came
+  -- history is of the drain's chronicle, and owes the connection what was taken, or more. Where it stopped, all that was added was taken, and a history came that owes just that; where the
+  -- outbox was found full, as many items as it holds were taken, or more; where it was dropped, no history came
   pub record Writes (w : Writer O S) (done : Written O) : Type 0 where
     pub realm : done.realm ≡ w.realm
     pub written : WritesSince w.drain.taken done.drain.value.taken (seen_of w.sink).taken (seen_of done.sink.last.value).taken (IsWrittenBy w.serializer w.limit done.end)
@@ -42,6 +42,7 @@ module _ {O S : Type 0} (seen_of : O → Writing) where
     pub stopped : done.end ≡ Stopped → w.drain.empty_finds < done.drain.value.empty_finds
     pub steps : WriteSteps (seen_of w.sink) (seen_of done.sink.last.value) (write_told done.end)
     pub whole : done.end ≡ Stopped → TookWhole owed_kept over_kept done.drain.value
+    pub full : done.end ≡ Full → (w.drain.empty_finds < done.drain.value.empty_finds) × TookFull owed_kept over_kept done.drain.value
     pub dropped : done.end ≡ Dropped → (w.drain.empty_finds < done.drain.value.empty_finds) × TookUnvouched owed_kept over_kept done.drain.value
     pub seen : done.seen ≡ newest done.drain.value
     pub owes : Owes owed_kept (newest done.drain.value) done.drain.value.conn done.drain.value.taken

@@ -50,6 +50,7 @@ impl Closing {
             WriteEnd::TooLong => self.by_octets(),
             WriteEnd::NoMemory => CloseReason::NoMemory,
             WriteEnd::TooManyTurns => CloseReason::TooManyTurns,
+            WriteEnd::Full => CloseReason::OutboxFull(self.outbox),
             WriteEnd::Stopped => self.by_reader(),
             WriteEnd::Dropped => self.by_reader(),
             WriteEnd::Device => self.by_reader(),

@@ -1,10 +1,11 @@
 //! What became of a stream.
 ghost use Rattle.std.specs.Prelude.{◌≡◌};
-ghost use Rattle.broker_threads.specs.Courses.{ends_of, seen_of, sink_of};
+ghost use Rattle.broker_threads.specs.Courses.{fate_of, seen_of, sink_of};
 
 use crate::closed::Closed;
+use crate::stream_fate::{SessionEnds, StreamFate};
 use crate::writer_thread::{SeenHistory, Written};
-use connection::{ReadEnd, WriteEnd};
+use connection::ReadEnd;
 use session::Fault;
 
 /// What became of a stream that had a seat.
@@ -20,24 +21,19 @@ pub enum Course<O> {
     Served(ReadEnd, Written<O>),
 }
 
-/// How the two threads of a session ended.
-#[derive(Clone, Copy, Debug, Drop, PartialEq, Eq)]
-pub struct SessionEnds {
-    pub read: ReadEnd,
-    pub write: WriteEnd,
-}
-
 impl<O: Drop> Course<O> {
-    /// How its session's threads ended, if one was served.
-    pub fn ends(&self) -> Option<SessionEnds>
-        ensures { result ≡ ends_of self.now }
+    /// The same, as its acceptor is told it.
+    pub fn fate(&self) -> StreamFate
+        ensures { result ≡ fate_of self.now }
     {
         match self {
-            Course::Served(read, written) => Some(SessionEnds {
+            Course::Untouched(_) => StreamFate::NoMemory,
+            Course::NotOpened(_, fault) => StreamFate::NotOpened(*fault),
+            Course::OpenedAlone(_) => StreamFate::OpenedAlone,
+            Course::Served(read, written) => StreamFate::Served(SessionEnds {
                 read: *read,
                 write: written.end,
             }),
-            _ => None,
         }
     }
 

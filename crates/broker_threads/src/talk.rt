@@ -3,6 +3,7 @@ ghost use Rattle.std.specs.Prelude.{◌≡◌, MatchResult, Option, option_map, 
 ghost use Rattle.std.specs.Arc.{arc_value};
 ghost use Rattle.std.specs.String.{string_bytes};
 ghost use Rattle.atomic_table.specs.Seated.{TableId};
+ghost use Rattle.outbox_queue.specs.Outbox.{new_outbox};
 ghost use Rattle.realm_inbox.specs.EndViews.{home_of_poster, poster_conn};
 ghost use Rattle.session.specs.Opened.{session as session_of};
 ghost use Rattle.broker_threads.specs.Begun.{IsMade, IsRefused, course_of, room_of};
@@ -361,8 +362,9 @@ fn prepare<S: Shut>(
     mut opened: Opened,
     poster: &Poster<S>,
 ) -> Option<(Made<S>, WriterTools<S>)>
-    ensures own { IfSome result (λ r. r.0.joining.outbox.conn ≡ poster_conn poster.now) }
-    ensures home { IfSome result (λ r. r.0.joining.outbox.chronicle ≡ home_of_poster poster.now) }
+    ensures outbox { IfSome result (λ r. r.0.joining.outbox ≡ new_outbox r.1.drain.queue
+        (arc_value broker.entry.plan.now).outbox (poster_conn poster.now)
+        (home_of_poster poster.now)) }
     ensures asks { IfSome result (λ r. r.0.joining.authid ≡ (session_of opened).authid) }
     ensures start { IfSome result (λ r. start_of (session_of r.0.opened)
         ≡ start_of (session_of opened)) }
@@ -401,8 +403,8 @@ fn joining<S: Shut>(
     transport: &S,
 ) -> Option<(Joining<S>, Drain<Item, RealmHistory>)>
     ghost home: { Option TableId }
-    ensures own { IfSome result (λ r. r.0.outbox.conn ≡ poster_conn poster.now) }
-    ensures home { IfSome result (λ r. r.0.outbox.chronicle ≡ home) }
+    ensures outbox { IfSome result (λ r. r.0.outbox
+        ≡ new_outbox r.1.queue plan.now.outbox (poster_conn poster.now) home) }
     ensures authid { IfSome result (λ r. r.0.authid ≡ option_map string_bytes authid) }
     ensures drain { IfSome result (λ r. IsNewDrain r.0.outbox.queue plan.now.outbox
         (poster_conn poster.now) home r.1) }

@@ -12,7 +12,7 @@ use std::net::{Net, SocketAddr, TcpListener, TcpStream};
 use std::snapshot::Snapshot;
 use std::time::Clock;
 use threaded_server::{
-    Accepted, Acceptor, Account, Answer, Closed, Parts, SessionEnds, TcpAcceptor, TcpHandle,
+    Accepted, Acceptor, Account, Answer, Closed, Parts, StreamFate, TcpAcceptor, TcpHandle,
 };
 
 /// What is still to be accepted, and the clients of all streams, which connect to the acceptor inside.
@@ -119,13 +119,13 @@ impl<R: Net<Stream = TcpStream, Listener = TcpListener> + Clock + Copy + Drop> A
         &mut self,
         source: Closed<ReadSource<TcpHandle>>,
         sink: Closed<WriteSink<TcpHandle>>,
-        ends: Option<SessionEnds>,
+        fate: StreamFate,
     )
         ensures answers { items_of self.new.answers ≡ items_of self.old.answers }
         ensures lending { lending_of self.new.account ≡ with_returned (lending_of self.old.account)
-            (returned source.last.value sink.last.value ends) }
+            (returned source.last.value sink.last.value fate) }
     {
-        self.account.take_back(source, sink, ends);
+        self.account.take_back(source, sink, fate);
     }
 
     fn pause(&mut self, failures: u32) {

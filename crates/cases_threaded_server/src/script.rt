@@ -4,6 +4,7 @@ ghost use Rattle.std.specs.Prelude.{◌≡◌, ◌++◌, ◌∷◌, []};
 use crate::client::Client;
 use crate::steps::{Cue, Play, Stand, Step};
 use crate::stream::{End, Gates, Hold};
+use crate::tally::Tally;
 use rawsocket::devices::{ReadSource, WriteSink};
 use realm_inbox::GhostList;
 use std::alloc::{AllocError, Global};
@@ -13,7 +14,7 @@ use std::net::Net;
 use std::os::unix::net::UnixStream;
 use std::snapshot::Snapshot;
 use std::sync::Arc;
-use threaded_server::{Accepted, Acceptor, Account, Answer, Closed, Parts, SessionEnds, WriteEnd};
+use threaded_server::{Accepted, Acceptor, Account, Answer, Closed, Parts, StreamFate};
 
 /// What is still to be accepted, and the clients of all streams.
 #[derive(Drop)]
@@ -21,26 +22,6 @@ pub struct Pairs<R: Net + Drop> {
     net: R,
     alloc: Global,
     pub play: Play<UnixStream>,
-}
-
-/// How many sessions have ended, and how many of their writers stopped.
-#[derive(Clone, Copy, Drop)]
-pub struct Tally {
-    pub sessions: u64,
-    pub stopped: u64,
-}
-
-impl Tally {
-    /// Counts one more, if it was a session.
-    fn count(&mut self, ends: Option<SessionEnds>) {
-        let Some(ends) = ends else {
-            return;
-        };
-        self.sessions = self.sessions.wrapping_add(1);
-        if ends.write == WriteEnd::Stopped {
-            self.stopped = self.stopped.wrapping_add(1);
-        }
-    }
 }
 
 /// An acceptor that follows a script.
@@ -62,10 +43,7 @@ impl<R: Net + Drop> Script<R> {
         };
         Script {
             pairs: Pairs { net, alloc, play },
-            tally: Tally {
-                sessions: 0,
-                stopped: 0,
-            },
+            tally: Tally::new(),
             answers: GhostList::new(),
             account: Account::new(),
         }
@@ -177,14 +155,14 @@ impl<R: Net + Drop> Acceptor for Script<R> {
         &mut self,
         source: Closed<ReadSource<End>>,
         sink: Closed<WriteSink<End>>,
-        ends: Option<SessionEnds>,
+        fate: StreamFate,
     )
         ensures answers { items_of self.new.answers ≡ items_of self.old.answers }
         ensures lending { lending_of self.new.account ≡ with_returned (lending_of self.old.account)
-            (returned source.last.value sink.last.value ends) }
+            (returned source.last.value sink.last.value fate) }
     {
-        self.tally.count(ends);
-        self.account.take_back(source, sink, ends);
+        self.tally.count(fate);
+        self.account.take_back(source, sink, fate);
     }
 
     fn pause(&mut self, _failures: u32) {}

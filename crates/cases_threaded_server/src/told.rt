@@ -1,6 +1,6 @@
 //! What a case tells of its clients.
 use crate::client::{Client, Peer};
-use crate::script::Tally;
+use crate::tally::Tally;
 use case_text::spell;
 use std::alloc::Global;
 use std::io;
@@ -80,11 +80,22 @@ fn last_of(octets: &[u8], count: usize) -> &[u8] {
     last
 }
 
-/// How many sessions have ended, and how many of their writers stopped.
+/// How many sessions have ended, and how many of their writers stopped; and why how many other streams weren't served.
 pub fn tell_tally(told: &mut String, tally: Tally) -> io::Result<()> {
-    let Tally { sessions, stopped } = tally;
+    let Tally {
+        served,
+        stopped,
+        not_opened,
+        opened_alone,
+        no_seat,
+        no_memory,
+    } = tally;
+    write!(
+        told,
+        "sessions ended: {served}, writers stopped: {stopped}\n"
+    )?;
     Ok(write!(
         told,
-        "sessions ended: {sessions}, writers stopped: {stopped}\n"
+        "not opened: {not_opened}, opened alone: {opened_alone}, no seat: {no_seat}, no memory: {no_memory}\n"
     )?)
 }

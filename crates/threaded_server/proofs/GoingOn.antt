@@ -9,12 +9,13 @@ use Rattle.threaded_server.proofs.Places.{map_get}
 use Rattle.std.specs.Arc.{arc_value}
 use Rattle.rawsocket.specs.Handshakes.{refusing}
 use Rattle.threaded_server.specs.OwnStreams.{GoesOn, HaveOwnNames, NamesAreOwn, StreamsAreOwn, StreamsGoOn}
-use Rattle.broker_threads.specs.Courses.{ends_of, sink_of}
+use Rattle.broker_threads.specs.Courses.{fate_of, sink_of}
 use Rattle.threaded_server.specs.Lending.{returned}
 use Rattle.threaded_server.specs.Overs.{TellsRefusal, Went, after_of, before_of}
 use Rattle.threaded_server.specs.Served.{Served}
 use Rattle.broker_threads.specs.Streams.{GoesBy, KeepsNames, Offer, Sight, Stream, offer_of, stream}
-use Rattle.broker_threads.specs.Talks.{Converses, passage, start_of}
+use Rattle.broker_threads.proofs.Lemmas.{went_on}
+use Rattle.broker_threads.specs.Talks.{ReadsOn, StandsStill, passage, start_of}
 use Rattle.broker_threads.specs.declared.closed.Closed.{Closed}
 use Rattle.broker_threads.specs.declared.course.Course.{Course}
 use Rattle.broker_threads.specs.declared.course.Course.TheVariants as course
@@ -59,7 +60,7 @@ contains_at : {A : Type 0} (xs : List A) (i : ℕ) (x : A) → slice_get xs i �
 contains_at xs i x at = (i, slice_get_within xs i x at, get_or_from_slice_get xs i x x at)
 
 module _ {I O S : Type 0} (see : Sight I O) (offer : Offer) where
-  reader_goes_on : (before : Stream I O S) (source : Closed I) (back : List (Option (Poster S))) (c : Course O) → GoesBy see offer before source back c → GoesOn see (before.source, before.sink) (returned source.last.value (sink_of c).last.value (ends_of c))
+  reader_goes_on : (before : Stream I O S) (source : Closed I) (back : List (Option (Poster S))) (c : Course O) → GoesBy see offer before source back c → GoesOn see (before.source, before.sink) (returned source.last.value (sink_of c).last.value (fate_of c))
   reader_goes_on before source back (course.Untouched sink) h = record {
     same = record { read = ap (λ (x : I). (see.reading x).name) h.0; written = ap (λ (x : O). (see.writing x).name) h.1 };
     given = begins_same (see.reading before.source).given (see.reading source.last.value).given (ap (λ (x : I). (see.reading x).given) h.0);
@@ -76,22 +77,25 @@ module _ {I O S : Type 0} (see : Sight I O) (offer : Offer) where
     taken = begins_more (see.writing before.sink).taken (see.writing sink.last.value).taken opens.written opens.wrote;
   }
   reader_goes_on before source back (course.Served end written) h = record {
-    same = record { read = named_by_talk h.talks.converses ∙ h.opens.same.read; written = h.talks.writes.steps.steps.name ∙ ap (λ (o : O). (see.writing o).name) h.talks.begins.writes_to ∙ h.opens.same.written };
+    same = record { read = named_by_talk went ∙ h.opens.same.read; written = h.talks.writes.steps.steps.name ∙ ap (λ (o : O). (see.writing o).name) h.talks.begins.writes_to ∙ h.opens.same.written };
     given = begins_on (see.reading before.source).given (see.reading h.opened_source).given (see.reading source.last.value).given
-        (begins_more (see.reading before.source).given (see.reading h.opened_source).given h.opens.opens.octets h.opens.opens.read) (by_talk h.talks.converses);
+        (begins_more (see.reading before.source).given (see.reading h.opened_source).given h.opens.opens.octets h.opens.opens.read) (by_talk went);
     taken = begins_on (see.writing before.sink).taken (see.writing h.opened_sink).taken (see.writing written.sink.last.value).taken
         (begins_more (see.writing before.sink).taken (see.writing h.opened_sink).taken h.opens.opens.written h.opens.opens.wrote)
         (begins_more (see.writing h.opened_sink).taken (see.writing written.sink.last.value).taken h.talks.writes.written.octets
         (h.talks.writes.written.wrote ∙ ap (λ (o : O). (see.writing o).taken ++ h.talks.writes.written.octets) h.talks.begins.writes_to));
   }
     where
-      by_talk : Converses see.reading (start_of h.session) h.talks.joining (passage h.opened_source h.poster) (passage source.last.value h.left) end → IsPrefix (see.reading h.opened_source).given (see.reading source.last.value).given
-      by_talk (inl r) = begins_more (see.reading h.opened_source).given (see.reading source.last.value).given r.posted.octets r.posted.read
-      by_talk (inr r) = begins_same (see.reading h.opened_source).given (see.reading source.last.value).given (ap (λ (x : I). (see.reading x).given) r.0)
+      went : ReadsOn see.reading (start_of h.session) h.talks.joining (passage h.opened_source h.poster) (passage source.last.value h.left) end ⊎ StandsStill (passage h.opened_source h.poster) (passage source.last.value h.left)
+      went = went_on see.reading (start_of h.session) h.talks.joining (passage h.opened_source h.poster) (passage source.last.value h.left) end h.talks.converses
 
-      named_by_talk : Converses see.reading (start_of h.session) h.talks.joining (passage h.opened_source h.poster) (passage source.last.value h.left) end → (see.reading source.last.value).name ≡ (see.reading h.opened_source).name
+      by_talk : ReadsOn see.reading (start_of h.session) h.talks.joining (passage h.opened_source h.poster) (passage source.last.value h.left) end ⊎ StandsStill (passage h.opened_source h.poster) (passage source.last.value h.left) → IsPrefix (see.reading h.opened_source).given (see.reading source.last.value).given
+      by_talk (inl r) = begins_more (see.reading h.opened_source).given (see.reading source.last.value).given r.posted.octets r.posted.read
+      by_talk (inr r) = begins_same (see.reading h.opened_source).given (see.reading source.last.value).given (ap (λ (x : I). (see.reading x).given) r.unread)
+
+      named_by_talk : ReadsOn see.reading (start_of h.session) h.talks.joining (passage h.opened_source h.poster) (passage source.last.value h.left) end ⊎ StandsStill (passage h.opened_source h.poster) (passage source.last.value h.left) → (see.reading source.last.value).name ≡ (see.reading h.opened_source).name
       named_by_talk (inl r) = r.reads.steps.steps.name
-      named_by_talk (inr r) = ap (λ (x : I). (see.reading x).name) r.0
+      named_by_talk (inr r) = ap (λ (x : I). (see.reading x).name) r.unread
 
 module _ {I O : Type 0} (see : Sight I O) where
   refused_goes_on : (before now : O) → TellsRefusal (see.writing before) (see.writing now) → IsPrefix (see.writing before).taken (see.writing now).taken

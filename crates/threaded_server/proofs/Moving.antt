@@ -40,7 +40,7 @@ module _ {I O S : Type 0} where
 
   -- what is left of a stream that goes over is taken back
   pub taken_back : (now new : Lending I O) (has left : Books I O S) (gone : Option (Gone I O)) → left.lent ≡ has.lent → GoesOver has.over left.over gone
-      → MatchOption gone (new ≡ now) (λ g. new ≡ with_returned now (returned g.source.last.value g.sink.last.value g.ends)) → Moves 0 now new has left
+      → MatchOption gone (new ≡ now) (λ g. new ≡ with_returned now (returned g.source.last.value g.sink.last.value g.fate)) → Moves 0 now new has left
   taken_back now new has left None same over back = record {
     more = [];
     over = [];
@@ -80,7 +80,7 @@ module _ {I O S : Type 0} where
 
   -- a stream is lent, and what is left of it is taken back at once where it isn't served
   pub admitted : (now lending new : Lending I O) (has left : Books I O S) (halves : I × O) (gone : Option (Gone I O)) → lending ≡ with_lent now halves → left.lent ≡ has.lent ++ halves ∷ [] → GoesOver has.over left.over gone
-      → MatchOption gone (new ≡ lending) (λ g. new ≡ with_returned lending (returned g.source.last.value g.sink.last.value g.ends)) → Moves 1 now new has left
+      → MatchOption gone (new ≡ lending) (λ g. new ≡ with_returned lending (returned g.source.last.value g.sink.last.value g.fate)) → Moves 1 now new has left
   admitted now lending new has left halves gone lent here over back =
       let between : Books I O S = record { lent = left.lent; over = has.over } in
       moves_on 1 0 now lending new has between left (is_lent now lending has between halves lent here refl) (taken_back lending new between left gone refl over back)

@@ -7,7 +7,7 @@ use Rattle.threaded_server.proofs.Places.{get_push_cases, get_set_cases, same_or
 use Rattle.std.proofs.lemmas.Grind.{flat_map-append}
 use Rattle.std.specs.declared.snapshot.Snapshot.{Snapshot}
 use Rattle.threaded_server.specs.Seats.{Table, Takes, free_at, given_back, number_at}
-use Rattle.threaded_server.specs.Conns.{AreApart, IsGiven, IsNew, IsNumbered, Numbered, conn_of, conns_of}
+use Rattle.threaded_server.specs.Conns.{AscendAtSeats, IsGiven, IsNew, IsNumbered, Numbered, conn_of, conns_of}
 use Rattle.threaded_server.specs.Posters.{AreOf}
 use Rattle.threaded_server.specs.declared.entry.Connection.{Connection}
 use Rattle.threaded_server.specs.declared.over.Over.{Over}
@@ -16,15 +16,18 @@ use Rattle.broker_threads.specs.declared.reader_thread.Ended.{Ended}
 use Rattle.broker_threads.specs.declared.reader_thread.Reader.{Reader}
 use Rattle.wamp_ids.specs.Numbers.{seat_of}
 
--- one number more, which isn't there
-pub one_apart : (numbers now : List ℕ) (n : ℕ) → now ≡ numbers ++ n ∷ [] → ((i m : ℕ) → slice_get numbers i ≡ Some m → m ≢ n) → AreApart numbers → AreApart now
-one_apart numbers now n e new h i j m at there = by_place (get_push_cases numbers n m i (ap (λ l. slice_get l i) (sym e) ∙ at)) (get_push_cases numbers n m j (ap (λ l. slice_get l j) (sym e) ∙ there))
+-- one number more, above those of its seat
+pub one_ascends : (numbers now : List ℕ) (n : ℕ) → now ≡ numbers ++ n ∷ [] → ((i m : ℕ) → slice_get numbers i ≡ Some m → seat_of m ≡ seat_of n → m < n) → AscendAtSeats numbers → AscendAtSeats now
+one_ascends numbers now n e above h i j m k less at there same = by_place (get_push_cases numbers n m i (ap (λ l. slice_get l i) (sym e) ∙ at)) (get_push_cases numbers n k j (ap (λ l. slice_get l j) (sym e) ∙ there))
   where
-    by_place : ((i ≡ length numbers) × (n ≡ m)) ⊎ (slice_get numbers i ≡ Some m) → ((j ≡ length numbers) × (n ≡ m)) ⊎ (slice_get numbers j ≡ Some m) → i ≡ j
-    by_place (inl a) (inl b) = a.0 ∙ sym b.0
-    by_place (inl a) (inr b) = absurd (new j m b (sym a.1))
-    by_place (inr a) (inl b) = absurd (new i m a (sym b.1))
-    by_place (inr a) (inr b) = h i j m a b
+    behind : i ≡ length numbers → j < length numbers + 1 → ⊥
+    behind last within = omega (arith, less, last, within)
+
+    by_place : ((i ≡ length numbers) × (n ≡ m)) ⊎ (slice_get numbers i ≡ Some m) → ((j ≡ length numbers) × (n ≡ k)) ⊎ (slice_get numbers j ≡ Some k) → m < k
+    by_place (inl a) (inl b) = absurd (behind a.0 (let last : j ≡ length numbers = b.0 in omega (arith, last)))
+    by_place (inl a) (inr b) = absurd (behind a.0 (let within : j < length numbers = slice_get_within numbers j k b in omega (arith, within)))
+    by_place (inr a) (inl b) = subst (λ (x : ℕ). m < x) b.1 (above i m a (same ∙ ap seat_of (sym b.1)))
+    by_place (inr a) (inr b) = h i j m k less a b same
 
 -- what a free seat gives
 free_is : (t : Table) (place n : ℕ) → free_at t place ≡ Some n → n ≡ number_at t place
@@ -55,10 +58,10 @@ place_given old now n t = ap (λ (m : ℕ). seat_of m - 1) (free_is old t.place 
 pub turn_given : (old now : Table) (n : ℕ) → (t : Takes old n now) → (n - 1) / 256 ≡ get_or old.given t.place 0
 turn_given old now n t = ap (λ (m : ℕ). (m - 1) / 256) (free_is old t.place n t.free) ∙ split_given (get_or old.given t.place 0) t.place t.within
 
--- a number that is taken is given from then on, wasn't before, and what was given is
+-- a number that is taken is given from then on, is above those that its seat gave, and what was given is
 pub record Fresh (old now : Table) (n : ℕ) : Type 0 where
   pub given : IsGiven now n
-  pub unlike : (m : ℕ) → IsGiven old m → m ≢ n
+  pub above : (m : ℕ) → IsGiven old m → seat_of m ≡ seat_of n → m < n
   pub still : (m : ℕ) → IsGiven old m → IsGiven now m
   pub long : length now.given ≡ length old.given
 
@@ -66,7 +69,7 @@ pub taken_fresh : (old now : Table) (n : ℕ) → length old.given ≡ 256 → T
 taken_fresh old now n all t = record {
   given = subst (λ (l : List ℕ). (n - 1) / 256 < get_or l (seat_of n - 1) 0) (sym t.given)
       (subst (λ (k : ℕ). (n - 1) / 256 < get_or (set old.given t.place (count + 1)) k 0) (sym seat) (subst (λ (m : ℕ). (n - 1) / 256 < m) (sym (get_or-set_same old.given t.place (count + 1) 0 within)) (omega (arith, turn))));
-  unlike = λ m given same. omega (arith, turn, subst (λ (k : ℕ). (n - 1) / 256 < get_or old.given k 0) seat (subst (λ (k : ℕ). IsGiven old k) same given));
+  above = λ m given same. let less : (m - 1) / 256 < count = subst (λ (k : ℕ). (m - 1) / 256 < get_or old.given k 0) (ap (λ (k : ℕ). k - 1) same ∙ seat) given in omega (arith, less, turn);
   still = λ m given. subst (λ (l : List ℕ). (m - 1) / 256 < get_or l (seat_of m - 1) 0) (sym t.given) (by_place m given (same_or_other t.place (seat_of m - 1)));
   long = ap length t.given ∙ length-set old.given t.place (count + 1);
 }
@@ -97,7 +100,7 @@ module _ {I O S : Type 0} where
   pub none_numbered : (seats : Table) (entries : List (Option (Connection I O S))) (overs : List (Over I O S)) → length seats.given ≡ 256 → All (λ slot. slot ≡ None) entries → overs ≡ [] → Numbered seats entries overs
   none_numbered seats entries overs all nobody e = record {
     long = all;
-    apart = λ i j n at there. absurd (nothing i n at);
+    ascend = λ i j m n less at there same. absurd (nothing i m at);
     given = λ i n at. absurd (nothing i n at);
     served = λ k entry at. absurd (none-some entry (sym (nobody k (Some entry) (slice_get_within entries k (Some entry) at)) ∙ get_or_from_slice_get entries k (Some entry) (Some entry) at));
   }
@@ -111,11 +114,11 @@ module _ {I O S : Type 0} where
       let f = taken_fresh old now n h.long t in (
         record {
           long = f.long ∙ h.long;
-          apart = h.apart;
+          ascend = h.ascend;
           given = λ i m at. f.still m (h.given i m at);
-          served = λ k entry at. let s = h.served k entry at in record { seat = s.seat; new = record { given = f.still entry.began.value.conn s.new.given; unlike = s.new.unlike }; own = s.own };
+          served = λ k entry at. let s = h.served k entry at in record { seat = s.seat; new = record { given = f.still entry.began.value.conn s.new.given; above = s.new.above }; own = s.own };
         },
-        record { given = f.given; unlike = λ i m at. f.unlike m (h.given i m at) },
+        record { given = f.given; above = λ i m at. f.above m (h.given i m at) },
       )
 
   -- or none is
@@ -128,7 +131,7 @@ module _ {I O S : Type 0} where
       → AreOf n entry.began.value.posters.items → IsNew seats overs n → Numbered seats entries overs → Numbered seats seated same
   seat_numbered seats n entries seated overs same place entry e f at is own new h = subst (λ (o : List (Over I O S)). Numbered seats seated o) (sym f) (record {
     long = h.long;
-    apart = h.apart;
+    ascend = h.ascend;
     given = h.given;
     served = λ k other there. by_place k other (get_set_cases entries place k (Some entry) (Some other) (ap (λ l. slice_get l k) (sym e) ∙ there));
   })
@@ -148,9 +151,9 @@ module _ {I O S : Type 0} where
   pub over_numbered : (seats : Table) (entries same : List (Option (Connection I O S))) (overs now : List (Over I O S)) (o : Over I O S) → same ≡ entries → now ≡ overs ++ o ∷ [] → conn_of o ≡ [] → Numbered seats entries overs → Numbered seats same now
   over_numbered seats entries same overs now o e f none h = subst (λ (l : List (Option (Connection I O S))). Numbered seats l now) (sym e) (record {
     long = h.long;
-    apart = subst AreApart (sym alike) h.apart;
+    ascend = subst AscendAtSeats (sym alike) h.ascend;
     given = λ i n at. h.given i n (ap (λ l. slice_get l i) (sym alike) ∙ at);
-    served = λ k entry at. let s = h.served k entry at in record { seat = s.seat; new = record { given = s.new.given; unlike = λ i n there. s.new.unlike i n (ap (λ l. slice_get l i) (sym alike) ∙ there) }; own = s.own };
+    served = λ k entry at. let s = h.served k entry at in record { seat = s.seat; new = record { given = s.new.given; above = λ i n there. s.new.above i n (ap (λ l. slice_get l i) (sym alike) ∙ there) }; own = s.own };
   })
     where
       alike : conns_of now ≡ conns_of overs
@@ -161,12 +164,12 @@ module _ {I O S : Type 0} where
       → ((k : ℕ) (entry : Connection I O S) → slice_get left k ≡ Some (Some entry) → (slice_get entries k ≡ Some (Some entry)) × (k + 1 ≢ seat_of n)) → Numbered seats entries overs → Numbered seats left now
   ended_numbered seats n entries left overs now began ended e is new others h = record {
     long = h.long;
-    apart = one_apart (conns_of overs) (conns_of now) n more new.unlike h.apart;
+    ascend = one_ascends (conns_of overs) (conns_of now) n more new.above h.ascend;
     given = λ i m at. by_given i m (get_push_cases (conns_of overs) n m i (ap (λ l. slice_get l i) (sym more) ∙ at));
     served = λ k entry at.
         let was = others k entry at in
         let s = h.served k entry was.0 in
-        record { seat = s.seat; new = record { given = s.new.given; unlike = λ i m there. apart k entry was.1 s i m (get_push_cases (conns_of overs) n m i (ap (λ l. slice_get l i) (sym more) ∙ there)) }; own = s.own };
+        record { seat = s.seat; new = record { given = s.new.given; above = λ i m there. below k entry was.1 s i m (get_push_cases (conns_of overs) n m i (ap (λ l. slice_get l i) (sym more) ∙ there)) }; own = s.own };
   }
     where
       more : conns_of now ≡ conns_of overs ++ n ∷ []
@@ -176,9 +179,9 @@ module _ {I O S : Type 0} where
       by_given i m (inl w) = subst (λ (x : ℕ). IsGiven seats x) w.1 new.given
       by_given i m (inr w) = h.given i m w
 
-      apart : (k : ℕ) (entry : Connection I O S) → k + 1 ≢ seat_of n → IsNumbered seats k overs entry.began.value → (i m : ℕ) → ((i ≡ length (conns_of overs)) × (n ≡ m)) ⊎ (slice_get (conns_of overs) i ≡ Some m) → m ≢ entry.began.value.conn
-      apart k entry other s i m (inl w) same = other (sym (ap seat_of (w.1 ∙ same) ∙ s.seat))
-      apart k entry other s i m (inr w) same = s.new.unlike i m w same
+      below : (k : ℕ) (entry : Connection I O S) → k + 1 ≢ seat_of n → IsNumbered seats k overs entry.began.value → (i m : ℕ) → ((i ≡ length (conns_of overs)) × (n ≡ m)) ⊎ (slice_get (conns_of overs) i ≡ Some m) → seat_of m ≡ seat_of entry.began.value.conn → m < entry.began.value.conn
+      below k entry other s i m (inl w) same = absurd (other (sym (ap seat_of w.1 ∙ same ∙ s.seat)))
+      below k entry other s i m (inr w) same = s.new.above i m w same
 
   -- a connection leaves its place
   pub left_numbered : (seats : Table) (entries left : List (Option (Connection I O S))) (overs now : List (Over I O S)) (place : ℕ) (entry : Connection I O S) (ended : Snapshot (Ended I O S)) → left ≡ set entries place None → slice_get entries place ≡ Some (Some entry)
@@ -210,7 +213,7 @@ module _ {I O S : Type 0} where
   pub back_numbered : (seats now : Table) (n : ℕ) (entries : List (Option (Connection I O S))) (overs : List (Over I O S)) → now ≡ given_back seats n → Numbered seats entries overs → Numbered now entries overs
   back_numbered seats now n entries overs e h = subst (λ (t : Table). Numbered t entries overs) (sym e) (record {
     long = h.long;
-    apart = h.apart;
+    ascend = h.ascend;
     given = h.given;
-    served = λ k entry at. let s = h.served k entry at in record { seat = s.seat; new = record { given = s.new.given; unlike = s.new.unlike }; own = s.own };
+    served = λ k entry at. let s = h.served k entry at in record { seat = s.seat; new = record { given = s.new.given; above = s.new.above }; own = s.own };
   })

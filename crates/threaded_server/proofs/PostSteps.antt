@@ -20,7 +20,8 @@ use Rattle.threaded_server.proofs.Places.{found_there, get_before_set}
 use Rattle.threaded_server.specs.Posters.{AreOfSeat}
 use Rattle.threaded_server.specs.Posts.{Say, posts_at, posts_between, posts_of, since}
 use Rattle.broker_threads.specs.Streams.{GoesBy, IsServed, Offer, Reads, Sight, Stream, offer_of}
-use Rattle.broker_threads.specs.Talks.{Converses, Passage, passage, start_of}
+use Rattle.broker_threads.proofs.Lemmas.{went_on}
+use Rattle.broker_threads.specs.Talks.{Passage, ReadsOn, StandsStill, passage, start_of}
 use Rattle.broker_threads.specs.declared.closed.Closed.{Closed}
 use Rattle.broker_threads.specs.declared.course.Course.{Course}
 use Rattle.broker_threads.specs.declared.course.Course.TheVariants.{Untouched, NotOpened, OpenedAlone, Served}
@@ -40,12 +41,12 @@ module _ {S : Type 0} where
   stays : (p : Poster S) → Goes p p
   stays p = record { more = []; posted = sym (append-nil (posted p)) }
 
-  talked : {I : Type 0} (seen : I → Reading) (begun : Start) (joining : Joining S) (before now : Passage I S) (end : ReadEnd) → Converses seen begun joining before now end
+  talked : {I : Type 0} (seen : I → Reading) (begun : Start) (joining : Joining S) (before now : Passage I S) (end : ReadEnd) → ReadsOn seen begun joining before now end ⊎ StandsStill before now
       → Goes before.poster now.poster
   talked seen begun joining before now end (inl h) =
       let of : Act S → ℕ × Act S = λ act. (poster_conn before.poster, act) in
       record { more = map of (Join joining ∷ []) ++ map of h.posted.acts; posted = ap (λ p. p.said) h.posted.posted ∙ append_assoc (posted before.poster) (map of (Join joining ∷ [])) (map of h.posted.acts) }
-  talked seen begun joining before now end (inr h) = record { more = []; posted = ap (λ p. p.said) h.1 ∙ sym (append-nil (posted before.poster)) }
+  talked seen begun joining before now end (inr h) = record { more = []; posted = ap (λ p. p.said) h.unposted ∙ sym (append-nil (posted before.poster)) }
 
   -- what one of another seat posted is nothing of this seat's
   between_others : (number : ℕ) (given back : Option (Poster S)) → ((p : Poster S) → given ≡ Some p → seat_of (poster_conn p) ≢ number) → posts_between number given back ≡ []
@@ -71,7 +72,7 @@ module _ {I O S : Type 0} (see : Sight I O) (offer : Offer) where
       by_place (inl w) = record {
         poster = h.left;
         at = ap (λ l. slice_get l i) h.posters_are ∙ w.1;
-        goes = subst (λ (x : Poster S). Goes x h.left) (same_Some h.poster p w.0) (talked see.reading (start_of h.session) h.talks.joining (passage h.opened_source h.poster) (passage source h.left) end h.talks.converses);
+        goes = subst (λ (x : Poster S). Goes x h.left) (same_Some h.poster p w.0) (talked see.reading (start_of h.session) h.talks.joining (passage h.opened_source h.poster) (passage source h.left) end (went_on see.reading (start_of h.session) h.talks.joining (passage h.opened_source h.poster) (passage source h.left) end h.talks.converses));
       }
       by_place (inr w) = record { poster = p; at = ap (λ l. slice_get l i) h.posters_are ∙ w; goes = stays p }
 

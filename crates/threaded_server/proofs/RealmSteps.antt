@@ -1,5 +1,5 @@
 -- What is kept of the realms, while streams come and go.
-use Rattle.std.proofs.Common.{◌≡◌, ◌≢◌, ℕ, Bool, List, [], ◌∷◌, ◌++◌, Option, None, Some, All, Contains, IfSome, option_map, set, slice_get, refl, sym, ap, ◌∙◌, subst}
+use Rattle.std.proofs.Common.{◌≡◌, ◌≢◌, ℕ, Bool, List, [], ◌∷◌, ◌++◌, Option, None, Some, All, Contains, IfSome, length, length-set, option_map, set, slice_get, refl, sym, ap, ◌∙◌, subst}
 use mathlib.Core.Logic.{◌⊎◌, inl, inr}
 use Rattle.std.proofs.lemmas.List.Elements.{All-push, All-weaker, Contains-append_left, Contains-push}
 use Rattle.std.proofs.lemmas.Option.{same_Some}
@@ -19,7 +19,8 @@ use Rattle.threaded_server.specs.Posters.{AreAt, AreOf, AreOfSeat}
 use Rattle.broker_threads.specs.Courses.{seen_of}
 use Rattle.threaded_server.specs.Realms.{IsAtHome, Keeps, Shown, TakesIn, inbox_in, places_of, with_seen}
 use Rattle.broker_threads.specs.Streams.{GoesBy, IsServed, Offer, Reads, Sight, Stream, offer_of}
-use Rattle.broker_threads.specs.Talks.{Converses, Passage, passage, start_of}
+use Rattle.broker_threads.proofs.Lemmas.{went_on}
+use Rattle.broker_threads.specs.Talks.{Passage, ReadsOn, StandsStill, passage, start_of}
 use Rattle.connection.specs.Reader.{Start}
 use Rattle.threaded_server.specs.Ties.{CourseKept, IsKept, IsKeptIn, OverKept}
 use Rattle.broker_threads.specs.Writes.{owed_kept}
@@ -46,6 +47,11 @@ module _ {S : Type 0} where
   -- each realm is at its place, and keeps what it kept
   abbrev pub Longer : List (Shown S) → List (Shown S) → Type 0
   Longer old new = (i : ℕ) (r : Shown S) → slice_get old i ≡ Some r → (s : Shown S) × (slice_get new i ≡ Some s) × Grows r s
+
+  -- as many as before
+  pub takes_long : (old : List (Shown S)) (o : Option SeenHistory) (new : List (Shown S)) → TakesIn old o new → length new ≡ length old
+  takes_long old None new e = ap length e
+  takes_long old (Some seen) new k = ap length k.kept ∙ length-set old seen.realm (with_seen k.realm seen.history)
 
   pub same_longer : (old new : List (Shown S)) → new ≡ old → Longer old new
   same_longer old new e i r at = (r, ap (λ l. slice_get l i) e ∙ at, still r)
@@ -132,14 +138,14 @@ put_by realms after i (Some kept) r at t = (with_seen t.realm kept, ap (λ l. sl
 
 module _ {I S : Type 0} (seen : I → Reading) where
   -- a poster that comes back is of the same inbox
-  back_home : (begun : Start) (joining : Joining S) (before now : Passage I S) (end : ReadEnd) → Converses seen begun joining before now end → inbox_of_poster now.poster ≡ inbox_of_poster before.poster
+  back_home : (begun : Start) (joining : Joining S) (before now : Passage I S) (end : ReadEnd) → ReadsOn seen begun joining before now end ⊎ StandsStill before now → inbox_of_poster now.poster ≡ inbox_of_poster before.poster
   back_home begun joining before now end (inl h) = same_Some (inbox_of_poster now.poster) (inbox_of_poster before.poster) (ap (λ p. p.inbox) h.posted.posted)
-  back_home begun joining before now end (inr h) = same_Some (inbox_of_poster now.poster) (inbox_of_poster before.poster) (ap (λ p. p.inbox) h.1)
+  back_home begun joining before now end (inr h) = same_Some (inbox_of_poster now.poster) (inbox_of_poster before.poster) (ap (λ p. p.inbox) h.unposted)
 
   -- and of the same connection
-  back_conn : (begun : Start) (joining : Joining S) (before now : Passage I S) (end : ReadEnd) → Converses seen begun joining before now end → poster_conn now.poster ≡ poster_conn before.poster
+  back_conn : (begun : Start) (joining : Joining S) (before now : Passage I S) (end : ReadEnd) → ReadsOn seen begun joining before now end ⊎ StandsStill before now → poster_conn now.poster ≡ poster_conn before.poster
   back_conn begun joining before now end (inl h) = ap (λ p. p.conn) h.posted.posted
-  back_conn begun joining before now end (inr h) = ap (λ p. p.conn) h.1
+  back_conn begun joining before now end (inr h) = ap (λ p. p.conn) h.unposted
 
 module _ {I O S : Type 0} (see : Sight I O) (offer : Offer) where
   -- where a session was served: its realm, and the inbox of that
@@ -154,7 +160,7 @@ module _ {I O S : Type 0} (see : Sight I O) (offer : Offer) where
   served_back places before source back end written h at i p e = by_place (get_set_cases before.posters h.session.realm i (Some h.left) (Some p) (ap (λ l. slice_get l i) (sym h.posters_are) ∙ e))
     where
       home : inbox_of_poster h.left ≡ inbox_of_poster h.poster
-      home = back_home see.reading (start_of h.session) h.talks.joining (passage h.opened_source h.poster) (passage source h.left) end h.talks.converses
+      home = back_home see.reading (start_of h.session) h.talks.joining (passage h.opened_source h.poster) (passage source h.left) end (went_on see.reading (start_of h.session) h.talks.joining (passage h.opened_source h.poster) (passage source h.left) end h.talks.converses)
 
       by_place : ((h.session.realm ≡ i) × (Some h.left ≡ Some p)) ⊎ ((h.session.realm ≢ i) × (slice_get before.posters i ≡ Some (Some p))) → slice_get places i ≡ Some (inbox_of_poster p)
       by_place (inl w) = ap (slice_get places) (sym w.0) ∙ at h.session.realm h.poster h.named ∙ ap Some (sym home ∙ ap inbox_of_poster (same_Some h.left p w.1))
@@ -164,7 +170,7 @@ module _ {I O S : Type 0} (see : Sight I O) (offer : Offer) where
   served_of_seat number before source back end written h own i p e = by_place (get_set_cases before.posters h.session.realm i (Some h.left) (Some p) (ap (λ l. slice_get l i) (sym h.posters_are) ∙ e))
     where
       same : poster_conn h.left ≡ poster_conn h.poster
-      same = back_conn see.reading (start_of h.session) h.talks.joining (passage h.opened_source h.poster) (passage source h.left) end h.talks.converses
+      same = back_conn see.reading (start_of h.session) h.talks.joining (passage h.opened_source h.poster) (passage source h.left) end (went_on see.reading (start_of h.session) h.talks.joining (passage h.opened_source h.poster) (passage source h.left) end h.talks.converses)
 
       by_place : ((h.session.realm ≡ i) × (Some h.left ≡ Some p)) ⊎ ((h.session.realm ≢ i) × (slice_get before.posters i ≡ Some (Some p))) → seat_of (poster_conn p) ≡ number
       by_place (inl w) = ap (λ x. seat_of (poster_conn x)) (sym (same_Some h.left p w.1)) ∙ ap seat_of same ∙ own h.session.realm h.poster h.named
@@ -217,6 +223,7 @@ module _ {I O S : Type 0} (see : Sight I O) (offer : Offer) where
         owes = subst (λ o. Owes owed_kept o written.drain.value.conn written.drain.value.taken) (sym writes.seen) writes.owes;
         newest_is = writes.seen;
         whole = writes.whole;
+        full = λ is. (writes.full is).1;
         kept = s.3;
       }
 

@@ -6,7 +6,7 @@ use Rattle.std.specs.Option.{ForSome}
 use Rattle.std.specs.declared.snapshot.Snapshot.{Snapshot}
 use Rattle.broker_threads.proofs.Lemmas.{put_back}
 use Rattle.threaded_server.proofs.Balance.{all_none_came_, all_none_in_slots, all_went_, gone_, passed_, seated_}
-use Rattle.broker_threads.specs.Courses.{ends_of, sink_of}
+use Rattle.broker_threads.specs.Courses.{fate_of, sink_of}
 use Rattle.threaded_server.specs.Lending.{returned}
 use Rattle.threaded_server.specs.Overs.{after_of, before_of}
 use Rattle.threaded_server.specs.Roster.{IsOfPlan, halves_of}
@@ -70,8 +70,8 @@ module _ {I O S : Type 0} where
   seated_before began ended over e = ap before_of e
 
   pub seated_after : (began : Snapshot (Reader I O S)) (shown : Snapshot (Ended I O S)) (ended : Ended I O S) (over : Over I O S) → over ≡ Seated began shown → shown.value ≡ ended
-      → after_of over ≡ returned ended.source.last.value (sink_of ended.course).last.value (ends_of ended.course)
-  seated_after began shown ended over e f = ap after_of e ∙ ap (λ (x : Ended I O S). returned x.source.last.value (sink_of x.course).last.value (ends_of x.course)) f
+      → after_of over ≡ returned ended.source.last.value (sink_of ended.course).last.value (fate_of ended.course)
+  seated_after began shown ended over e f = ap after_of e ∙ ap (λ (x : Ended I O S). returned x.source.last.value (sink_of x.course).last.value (fate_of x.course)) f
 
   -- nobody came yet
   pub none_yet : (lent : List (I × O)) (overs : List (Over I O S)) (slots : List (Option (Connection I O S))) → lent ≡ [] → overs ≡ [] → All (λ slot. slot ≡ None) slots → ∥ Balances lent (map before_of overs) (map halves_of (in_slots slots)) ∥₁

@@ -7,7 +7,7 @@ use Rattle.std.proofs.lemmas.List.Elements.{All-contains, All-cons, All-head, Al
 use Rattle.std.proofs.lemmas.Option.{get_or_from_slice_get, none-some, same_Some, slice_get_within}
 use Rattle.chronicle.specs.Recorded.{Reaches, Recorded}
 use Rattle.outbox_queue.proofs.OwedBeginnings.{prefix-on}
-use Rattle.outbox_queue.specs.Ends.{IsVouched, Last, Owes, Taking, TookWhole, Vouches, came_with, newest, or_else}
+use Rattle.outbox_queue.specs.Ends.{IsVouched, Last, Owes, Taking, TookFull, TookWhole, Vouches, came_with, newest, or_else}
 use Rattle.outbox_queue.specs.Tied.{Kept}
 use Rattle.realm.specs.Grants.{Grants, pairs_of}
 use Rattle.realm.specs.History.{History, Begins}
@@ -29,7 +29,7 @@ use Rattle.broker_threads.specs.Acts.{Acts, ActsBy}
 use Rattle.threaded_server.specs.Posters.{IsOfInbox, Stand, lists_at, poster_at}
 use Rattle.threaded_server.specs.Posts.{AllSay, AreIn, OnlyPosted, posts_at}
 use Rattle.threaded_server.specs.Realms.{AllWerePosted, EachRuns, RunsTo, Shown, inbox_in, places_of, shown}
-use Rattle.threaded_server.specs.Ties.{AreAllOwed, CourseKept, CourseTied, IsKept, IsKeptIn, IsRun, IsTied, OverKept, OverTied, TookAllOwed}
+use Rattle.threaded_server.specs.Ties.{AreAllOwed, CourseKept, CourseTied, IsKept, IsKeptIn, IsRun, IsTied, OverKept, OverTied}
 use Rattle.broker_threads.specs.Writes.{over_kept, owed_kept}
 use Rattle.broker_threads.specs.declared.actor_thread.Acted.{Acted}
 use Rattle.broker_threads.specs.declared.actor_thread.ActorThread.{ActorThread}
@@ -69,7 +69,7 @@ module _ {S : Type 0} where
   pub so_far_all : (all rest : List (Shown S)) (runs : List (RealmRun S)) → RunSoFar all rest runs → rest ≡ [] → EachRuns all runs
   so_far_all all rest runs h e = subst (λ (l : List (Shown S)). EachRuns l runs) (sym (h.all_are ∙ ap (λ l. h.done ++ l) e ∙ append-nil h.done)) h.each
 
-  ran_long : (realms : List (Shown S)) (runs : List (RealmRun S)) → EachRuns realms runs → length realms ≡ length runs
+  pub ran_long : (realms : List (Shown S)) (runs : List (RealmRun S)) → EachRuns realms runs → length realms ≡ length runs
   ran_long [] [] each = refl
   ran_long [] (run ∷ runs) each = absurd each
   ran_long (realm ∷ realms) [] each = absurd each
@@ -192,27 +192,24 @@ legal_by w done (Some actor) acts = subst (λ (o : Option History). IsLegal o) (
 legal_of : {S : Type 0} (w : ActorThread S) (done : Acted S) → Acts w done → IsLegal done.chronicle.history
 legal_of w done acts = legal_by w done done.actor acts.course
 
-none_or_some : (n : ℕ) → (n ≡ 0) ⊎ (0 < n)
-none_or_some n = search arith
-
 -- what vouches for what was taken begins the history that was made, which owes nothing more
-vouched_by : (own : Option History) (kept : Kept History) (conn capacity : ℕ) (items added : List Item) (finds : ℕ) → Reaches Begins (Some kept.history) own → IsLegal own → items ≡ added → Vouches owed_kept over_kept kept conn added finds
-    → (0 < finds → capacity ≤ length added) → AreAllOwed own conn items ⊎ (capacity ≤ length items)
-vouched_by None kept conn capacity items added finds reaches legal all vouches room = absurd reaches
-vouched_by (Some h) kept conn capacity items added finds reaches legal all vouches room = by_finds (none_or_some finds)
-  where
-    by_finds : (finds ≡ 0) ⊎ (0 < finds) → AreAllOwed (Some h) conn items ⊎ (capacity ≤ length items)
-    by_finds (inl never) = inl (all ∙ vouches.whole never ∙ sym (vouches.over h reaches legal))
-    by_finds (inr found) = inr (subst (λ l. capacity ≤ length l) (sym all) (room found))
+vouched_by : (own : Option History) (kept : Kept History) (conn : ℕ) (items added : List Item) (finds : ℕ) → Reaches Begins (Some kept.history) own → IsLegal own → items ≡ added → Vouches owed_kept over_kept kept conn added finds
+    → finds ≡ 0 → AreAllOwed own conn items
+vouched_by None kept conn items added finds reaches legal all vouches never = absurd reaches
+vouched_by (Some h) kept conn items added finds reaches legal all vouches never = all ∙ vouches.whole never ∙ sym (vouches.over h reaches legal)
 
 all_owed : (own : Option History) (all : List (Kept History)) (o : Option (Kept History)) (drain : Taking Item (Kept History)) → All (λ kept. Reaches Begins (Some kept.history) own) all → IsKeptIn all o → o ≡ newest drain → IsLegal own
-    → TookWhole owed_kept over_kept drain → TookAllOwed own drain
+    → TookWhole owed_kept over_kept drain → AreAllOwed own drain.conn drain.taken
 all_owed own all o drain begins kept is legal took =
     let last = took.all.last in
     let came : newest drain ≡ Some took.history = ap (λ (l : Option (Last Item (Kept History))). or_else (came_with l) drain.seen) took.all.came ∙ ap (λ (h : Option (Kept History)). or_else h drain.seen) took.brought in
     let reaches : Reaches Begins (Some took.history.history) own = subst (λ (x : Option (Kept History)). IfSome x (λ k. Reaches Begins (Some k.history) own)) (is ∙ came) (reached own all o begins kept) in
     let vouches : Vouches owed_kept over_kept took.history drain.conn last.added last.full_finds = subst (λ (h : Option (Kept History)). IsVouched owed_kept over_kept h drain.conn last.added last.full_finds) took.brought took.all.vouched in
-    vouched_by own took.history drain.conn drain.capacity drain.taken last.added last.full_finds reaches legal took.all.all vouches took.all.room
+    vouched_by own took.history drain.conn drain.taken last.added last.full_finds reaches legal took.all.all vouches took.never
+
+-- as many items as the outbox holds, or more
+room_taken : (drain : Taking Item (Kept History)) → TookFull owed_kept over_kept drain → drain.capacity ≤ length drain.taken
+room_taken drain took = subst (λ l. drain.capacity ≤ length l) (sym took.all.all) (took.all.room took.full)
 
 module _ {O S : Type 0} where
   tied : (realms : List (Shown S)) (runs : List (RealmRun S)) (conn : ℕ) (posters : List (Option (Poster S))) (written : Written O) → EachRuns realms runs → IsKept realms conn posters written → IsTied runs conn posters written
@@ -228,6 +225,7 @@ module _ {O S : Type 0} where
         own = k.own;
         owes = owed_by written.seen own written.drain.value.conn written.drain.value.taken (reached own k.realm.seen written.seen r.2.begins k.kept) k.owes;
         whole = λ stopped. all_owed own k.realm.seen written.seen written.drain.value r.2.begins k.kept k.newest_is (legal_of r.0.began.value r.0.ended.value r.2.acts) (k.whole stopped);
+        full = λ found. room_taken written.drain.value (k.full found);
       }
 
   course_tied : (realms : List (Shown S)) (runs : List (RealmRun S)) (conn : ℕ) (posters : List (Option (Poster S))) (course : Course O) → EachRuns realms runs → CourseKept realms conn posters course → CourseTied runs conn posters course

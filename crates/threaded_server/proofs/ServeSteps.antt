@@ -1,5 +1,5 @@
 -- What the accepting thread does, step by step.
-use Rattle.std.proofs.Common.{◌≡◌, ◌+◌, ◌<◌, ℕ, List, [], ◌∷◌, ◌++◌, All, Result, get_or, refl, sym, ap, ◌∙◌, subst, append-nil, arith}
+use Rattle.std.proofs.Common.{◌≡◌, ◌≢◌, ◌+◌, ◌<◌, ℕ, List, [], ◌∷◌, ◌++◌, All, Result, Err, length, get_or, refl, sym, ap, ◌∙◌, subst, append-nil, arith}
 use Rattle.std.proofs.Math.Logic.{∥∥₁_map}
 use Rattle.std.proofs.lemmas.List.Elements.{All-nil}
 use Rattle.std.proofs.lemmas.List.Sorted.{IsPermutation-refl}
@@ -8,7 +8,8 @@ use Rattle.realm.specs.Grants.{Grants}
 use Rattle.threaded_server.proofs.Accepting.{Accepting, one_came, one_failed}
 use Rattle.threaded_server.proofs.GoingOn.{over_goes_on}
 use Rattle.threaded_server.proofs.Moving.{moves_on}
-use Rattle.threaded_server.specs.Conns.{AreApart, conns_of}
+use Rattle.threaded_server.specs.Answers.{EndsBy}
+use Rattle.threaded_server.specs.Conns.{AscendAtSeats, conns_of}
 use Rattle.threaded_server.specs.Lending.{Lending}
 use Rattle.threaded_server.specs.Overs.{AllWent, Books, Moves, Went, after_of, before_of}
 use Rattle.threaded_server.specs.Posts.{OnlyPosted}
@@ -18,6 +19,7 @@ use Rattle.threaded_server.specs.Ties.{IsRun, OverTied}
 use Rattle.threaded_server.specs.declared.answer.Answer.{Answer}
 use Rattle.threaded_server.specs.declared.answer.Answer.TheVariants.{Came, Failed}
 use Rattle.broker_config.specs.declared.fault.Fault.{Fault}
+use Rattle.broker_config.specs.declared.fault.Fault.TheVariants.{NoMemory}
 use Rattle.threaded_server.specs.declared.over.Over.{Over}
 use Rattle.threaded_server.specs.declared.realm_run.RealmRun.{RealmRun}
 
@@ -45,8 +47,8 @@ module _ {I O S : Type 0} where
   -- serving is over, and each stream is
   pub served : (see : Sight I O) (shown offer : Offer) (had_grants grants : Grants) (runs : List (RealmRun S)) (before now closed : List Answer) (was lending returned : Lending I O) (had has left : Books I O S) (result : Result Unit Fault) → had.lent ≡ [] → had.over ≡ []
       → LentUntil before now was lending had has result → closed ≡ now → Moves 0 lending returned has left → shown ≡ offer → had_grants ≡ grants → ∥ AllWent see shown left.lent left.over ∥₁
-      → All (λ run. IsRun had_grants run) runs → AreApart (conns_of left.over) → ∥ OnlyPosted runs left.over ∥₁ → ∥ All (λ over. OverTied runs over) left.over ∥₁ → ∥ Served S see offer grants before closed was returned ∥₁
-  served see shown offer had_grants grants runs before now closed was lending returned had has left result none nobody h e m same alike all each_ran apart only tied =
+      → All (λ run. IsRun had_grants run) runs → (result ≢ Err NoMemory → length runs ≡ length offer.names) → AscendAtSeats (conns_of left.over) → ∥ OnlyPosted runs left.over ∥₁ → ∥ All (λ over. OverTied runs over) left.over ∥₁ → ∥ Served S see offer grants before closed was returned ∥₁
+  served see shown offer had_grants grants runs before now closed was lending returned had has left result none nobody h e m same alike all each_ran count ascend only tied =
       let whole = moves_on (came_in h.serves.given) 0 was lending returned had has left h.moves m in
       let lent : left.lent ≡ whole.more = whole.lent_here ∙ ap (λ l. l ++ whole.more) none in
       let over : left.over ≡ whole.over = whole.over_here ∙ ap (λ l. l ++ whole.over) nobody in
@@ -65,8 +67,9 @@ module _ {I O S : Type 0} where
         went = gone;
         own = λ i d within. ∥∥₁_map (gone.went i d within) (λ w. (over_goes_on see offer (get_or whole.over i d) w).same);
         runs = runs;
+        all_ran = λ asked. count (λ (refused : result ≡ Err NoMemory). asked (subst (λ (r : Result Unit Fault). EndsBy r h.serves.given) refused h.serves.ends));
         each_ran = subst (λ (g : Grants). All (λ run. IsRun g run) runs) alike each_ran;
-        apart = subst (λ (o : List (Over I O S)). AreApart (conns_of o)) over apart;
+        ascend = subst (λ (o : List (Over I O S)). AscendAtSeats (conns_of o)) over ascend;
         only_posted = subst (λ (o : List (Over I O S)). ∥ OnlyPosted runs o ∥₁) over only;
         tied = subst (λ o. ∥ All (λ x. OverTied runs x) o ∥₁) over tied;
       })
@@ -84,8 +87,9 @@ module _ {I O S : Type 0} where
     returned_are = sym (append-nil was.returned);
     went = record { each = IsPermutation-refl []; went = All-nil (λ over. ∥ Went see offer over ∥₁); found = λ i over at. absurd (none-some over at) };
     runs = [];
+    all_ran = λ asked. absurd (asked refl);
     each_ran = All-nil (λ run. IsRun grants run);
-    apart = λ i j n at there. absurd (none-some n at);
+    ascend = λ i j m n less at there same. absurd (none-some m at);
     only_posted = ∣ (λ realm k run at less. absurd (none-some run at)) ∣₁;
     tied = ∣ All-nil (λ over. OverTied [] over) ∣₁;
     own = All-nil (λ over. ∥ KeepsNames see (before_of over) ((after_of over).source, (after_of over).sink) ∥₁);

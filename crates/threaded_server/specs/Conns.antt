@@ -1,5 +1,5 @@
 -- The numbers of the connections that had a seat.
-use Rattle.std.specs.Prelude.{◌≡◌, ◌≢◌, ◌<◌, ◌+◌, ◌-◌, ◌/◌, ℕ, List, [], ◌∷◌, Option, Some, get_or, length, slice_get}
+use Rattle.std.specs.Prelude.{◌≡◌, ◌<◌, ◌+◌, ◌-◌, ◌/◌, ℕ, List, [], ◌∷◌, Option, Some, get_or, length, slice_get}
 use Rattle.std.specs.List.{flat_map}
 use Rattle.threaded_server.specs.Seats.{Table}
 use Rattle.threaded_server.specs.Posters.{AreOf}
@@ -20,19 +20,19 @@ module _ {I O S : Type 0} where
   abbrev pub conns_of : List (Over I O S) → List ℕ
   conns_of streams = flat_map conn_of streams
 
--- no number stands twice
-abbrev pub AreApart : List ℕ → Type 0
-AreApart numbers = (i j n : ℕ) → slice_get numbers i ≡ Some n → slice_get numbers j ≡ Some n → i ≡ j
+-- those of one seat ascend; so no number stands twice
+abbrev pub AscendAtSeats : List ℕ → Type 0
+AscendAtSeats numbers = (i j m n : ℕ) → i < j → slice_get numbers i ≡ Some m → slice_get numbers j ≡ Some n → seat_of m ≡ seat_of n → m < n
 
 -- its seat gave the number
 abbrev pub IsGiven : Table → ℕ → Type 0
 IsGiven seats number = (number - 1) / 256 < get_or seats.given (seat_of number - 1) 0
 
 module _ {I O S : Type 0} where
-  -- the number was given, and to none of the streams that are over
+  -- the number was given, and is above those of its seat which the streams have that are over
   pub record IsNew (seats : Table) (streams : List (Over I O S)) (number : ℕ) : Type 0 where
     pub given : IsGiven seats number
-    pub unlike : (i n : ℕ) → slice_get (conns_of streams) i ≡ Some n → n ≢ number
+    pub above : (i n : ℕ) → slice_get (conns_of streams) i ≡ Some n → seat_of n ≡ seat_of number → n < number
 
   -- the number of a reader at a seat, from 0, is new, of that seat, and the one that its posters have
   pub record IsNumbered (seats : Table) (k : ℕ) (streams : List (Over I O S)) (reader : Reader I O S) : Type 0 where
@@ -40,9 +40,9 @@ module _ {I O S : Type 0} where
     pub new : IsNew seats streams reader.conn
     pub own : AreOf reader.conn reader.posters.items
 
-  -- no two streams that had a seat have one number, nor any of those that are served
+  -- the numbers of streams that had a seat ascend at each seat, those that are served last
   pub record Numbered (seats : Table) (entries : List (Option (Connection I O S))) (streams : List (Over I O S)) : Type 0 where
     pub long : length seats.given ≡ 256
-    pub apart : AreApart (conns_of streams)
+    pub ascend : AscendAtSeats (conns_of streams)
     pub given : (i n : ℕ) → slice_get (conns_of streams) i ≡ Some n → IsGiven seats n
     pub served : (k : ℕ) (entry : Connection I O S) → slice_get entries k ≡ Some (Some entry) → IsNumbered seats k streams entry.began.value

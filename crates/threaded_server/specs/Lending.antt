@@ -1,18 +1,18 @@
 -- The streams that an acceptor gives away, and those that were let go of.
-use Rattle.std.specs.Prelude.{ℕ, ◌+◌, List, [], ◌∷◌, ◌++◌, Option, map}
+use Rattle.std.specs.Prelude.{ℕ, ◌+◌, List, [], ◌∷◌, ◌++◌, map}
 use Rattle.std.specs.declared.snapshot.Snapshot.{Snapshot}
-use Rattle.broker_threads.specs.declared.course.SessionEnds.{SessionEnds}
+use Rattle.broker_threads.specs.declared.stream_fate.StreamFate.{StreamFate}
 use Rattle.ghost_state.specs.GhostList.{items_of}
 use Rattle.threaded_server.specs.declared.account.Account.{Account}
 
--- a stream that was let go of: its two halves, as they were last, and how the threads of its session ended, if one was served
+-- a stream that was let go of: its two halves, as they were last, and what became of it
 pub record Returned (I O : Type 0) : Type 0 where
   pub source : I
   pub sink : O
-  pub ends : Option SessionEnds
+  pub fate : StreamFate
 
-abbrev pub returned : {I O : Type 0} → I → O → Option SessionEnds → Returned I O
-returned source sink ends = record { source = source; sink = sink; ends = ends }
+abbrev pub returned : {I O : Type 0} → I → O → StreamFate → Returned I O
+returned source sink fate = record { source = source; sink = sink; fate = fate }
 
 -- the two halves of each stream that was taken apart, in their order, as they were then; those that were let go of, in the order of that; and how many
 -- streams couldn't be taken apart, for want of memory
@@ -35,7 +35,7 @@ module _ {I O : Type 0} where
   with_refused l = record l { refused = l.refused + 1 }
 
   -- what snapshots show of one
-  abbrev pub shown : Snapshot I × Snapshot O × Option SessionEnds → Returned I O
+  abbrev pub shown : Snapshot I × Snapshot O × StreamFate → Returned I O
   shown back = returned back.0.value back.1.value back.2
 
   abbrev pub lending_of : Account I O → Lending I O

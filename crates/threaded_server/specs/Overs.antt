@@ -5,9 +5,10 @@ use Rattle.std.specs.declared.snapshot.Snapshot.{Snapshot}
 use Rattle.rawsocket.specs.Devices.{Takes, TakesBeginning, WriteFails, Writing}
 use Rattle.rawsocket.specs.Handshakes.{refusing}
 use Rattle.session.specs.Opened.{AreUsedUp}
-use Rattle.broker_threads.specs.Courses.{ends_of, sink_of}
+use Rattle.broker_threads.specs.Courses.{fate_of, sink_of}
 use Rattle.threaded_server.specs.Lending.{Lending, Returned, returned}
 use Rattle.broker_threads.specs.Streams.{KeepsNames, Offer, Reads, Sight, offer_of}
+use Rattle.broker_threads.specs.declared.stream_fate.StreamFate.TheVariants.{NoMemory, NoSeat}
 use Rattle.threaded_server.specs.declared.over.Gone.{Gone}
 use Rattle.threaded_server.specs.declared.over.Over.{Over}
 use Rattle.threaded_server.specs.declared.over.Over.TheVariants.{Seated, TurnedAway, Untouched}
@@ -19,11 +20,11 @@ module _ {I O S : Type 0} where
   before_of (TurnedAway halves source sink) = halves.value
   before_of (Untouched halves) = halves.value
 
-  -- and as they were let go of
+  -- and as they were let go of, with what the acceptor is told of it
   abbrev pub after_of : Over I O S → Returned I O
-  after_of (Seated reader ended) = returned ended.value.source.last.value (sink_of ended.value.course).last.value (ends_of ended.value.course)
-  after_of (TurnedAway halves source sink) = returned source.value sink.value None
-  after_of (Untouched halves) = returned halves.value.0 halves.value.1 None
+  after_of (Seated reader ended) = returned ended.value.source.last.value (sink_of ended.value.course).last.value (fate_of ended.value.course)
+  after_of (TurnedAway halves source sink) = returned source.value sink.value NoSeat
+  after_of (Untouched halves) = returned halves.value.0 halves.value.1 NoMemory
 
   -- one stream more is over, of which this is left
   pub record Adds (before now : List (Over I O S)) (back : Returned I O) : Type 0 where
@@ -40,7 +41,7 @@ module _ {I O S : Type 0} where
   -- none is, or one more
   abbrev pub GoesOver : List (Over I O S) → List (Over I O S) → Option (Gone I O) → Type 0
   GoesOver before now None = now ≡ before
-  GoesOver before now (Some gone) = Adds before now (returned gone.source.last.value gone.sink.last.value gone.ends)
+  GoesOver before now (Some gone) = Adds before now (returned gone.source.last.value gone.sink.last.value gone.fate)
 
 -- what a broker knows of its streams: the halves of all that it was lent, in their order, and what became of those that are over, in the order of that
 pub record Books (I O S : Type 0) : Type 0 where

@@ -1,8 +1,8 @@
 -- What a broker served.
-use Rattle.std.specs.Prelude.{◌≡◌, ◌+◌, ℕ, List, [], ◌∷◌, ◌++◌, Result, All, length, map}
+use Rattle.std.specs.Prelude.{◌≡◌, ◌≢◌, ◌+◌, ℕ, List, [], ◌∷◌, ◌++◌, Result, All, length, map}
 use Rattle.realm.specs.Grants.{Grants}
 use Rattle.threaded_server.specs.Answers.{Serves}
-use Rattle.threaded_server.specs.Conns.{AreApart, conns_of}
+use Rattle.threaded_server.specs.Conns.{AscendAtSeats, conns_of}
 use Rattle.threaded_server.specs.Lending.{Lending}
 use Rattle.threaded_server.specs.Overs.{AllWent, Books, Moves, after_of, before_of}
 use Rattle.threaded_server.specs.Posts.{OnlyPosted}
@@ -45,13 +45,14 @@ pub record Served {I O : Type 0} (S : Type 0) (see : Sight I O) (offer : Offer) 
   pub went : AllWent see offer lent streams
   -- each came back under the name that it was lent under
   pub own : All (λ over. ∥ KeepsNames see (before_of over) ((after_of over).source, (after_of over).sink) ∥₁) streams
-  -- no two connections had one number
-  pub apart : AreApart (conns_of streams)
-  -- each realm that served a session ran, from an empty history with these grants on
+  -- the numbers of connections ascend at each seat, so no two had one number
+  pub ascend : AscendAtSeats (conns_of streams)
+  -- each realm that serves a session ran, from an empty history with these grants on; where accepting was asked, as many ran as have names
   pub runs : List (RealmRun S)
+  pub all_ran : given ≢ [] → length runs ≡ length offer.names
   pub each_ran : All (λ run. IsRun grants run) runs
   -- what a realm received of a seat begins what the streams posted there
   pub only_posted : ∥ OnlyPosted runs streams ∥₁
-  -- what a session's writer took begins what the one history of the realm that its HELLO names owes its connection, and is all of that where it stopped,
-  -- unless it took as many items as an outbox holds
+  -- what a session's writer took begins what the one history of the realm that its HELLO names owes its connection, and is all of that where it stopped; where its outbox was found
+  -- full, it took as many items as that holds, or more
   pub tied : ∥ All (λ over. OverTied runs over) streams ∥₁

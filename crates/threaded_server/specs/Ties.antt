@@ -1,7 +1,7 @@
 -- What a session was written, and the history of its realm.
-use Rattle.std.specs.Prelude.{◌≡◌, ◌⊎◌, ◌≤◌, ⊤, ℕ, List, Option, None, Some, Contains, length, slice_get}
-use Rattle.connection.specs.declared.writer.WriteEnd.TheVariants.{Stopped}
-use Rattle.outbox_queue.specs.Ends.{Owes, Taking, TookWhole, newest}
+use Rattle.std.specs.Prelude.{◌≡◌, ◌≤◌, ⊤, ℕ, List, Option, None, Some, Contains, length, slice_get}
+use Rattle.connection.specs.declared.writer.WriteEnd.TheVariants.{Stopped, Full}
+use Rattle.outbox_queue.specs.Ends.{Owes, TookFull, TookWhole, newest}
 use Rattle.outbox_queue.specs.Tied.{Kept}
 use Rattle.realm.specs.Grants.{Grants, pairs_of}
 use Rattle.realm.specs.History.{History}
@@ -30,10 +30,6 @@ abbrev pub AreAllOwed : Option History → ℕ → List Item → Type 0
 AreAllOwed None conn items = ⊥
 AreAllOwed (Some h) conn items = items ≡ owed h conn
 
--- all that the history, which there is, owes the connection was taken; or as many items as the outbox holds, or more, where a step found that full
-abbrev pub TookAllOwed : Option History → Taking Item (Kept History) → Type 0
-TookAllOwed history drain = AreAllOwed history drain.conn drain.taken ⊎ (drain.capacity ≤ length drain.taken)
-
 module _ {O S : Type 0} where
   -- a connection's session was served by the poster of its realm's inbox, and its realm keeps what its writer saw last, which owes the connection what was taken
   pub record IsKept (realms : List (Shown S)) (conn : ℕ) (posters : List (Option (Poster S))) (written : Written O) : Type 0 where
@@ -46,10 +42,11 @@ module _ {O S : Type 0} where
     pub owes : Owes owed_kept written.seen written.drain.value.conn written.drain.value.taken
     pub newest_is : written.seen ≡ newest written.drain.value
     pub whole : written.end ≡ Stopped → TookWhole owed_kept over_kept written.drain.value
+    pub full : written.end ≡ Full → TookFull owed_kept over_kept written.drain.value
     pub kept : IsKeptIn realm.seen written.seen
 
   -- a connection's session was served by the poster of its realm's inbox, on which its realm's actor ran; and what its writer took begins what the history that this actor
-  -- made owes the connection. Where the writer stopped it is all of that, unless the outbox was found full
+  -- made owes the connection. Where the writer stopped it is all of that; where its outbox was found full, it is as many items as that holds, or more
   pub record IsTied (runs : List (RealmRun S)) (conn : ℕ) (posters : List (Option (Poster S))) (written : Written O) : Type 0 where
     pub run : RealmRun S
     pub at : slice_get runs written.realm ≡ Some run
@@ -58,7 +55,8 @@ module _ {O S : Type 0} where
     pub inbox : inbox_of_poster poster ≡ inbox_of run.began.value.inbox
     pub own : written.drain.value.conn ≡ conn
     pub owes : Owes owed run.ended.value.chronicle.history written.drain.value.conn written.drain.value.taken
-    pub whole : written.end ≡ Stopped → TookAllOwed run.ended.value.chronicle.history written.drain.value
+    pub whole : written.end ≡ Stopped → AreAllOwed run.ended.value.chronicle.history written.drain.value.conn written.drain.value.taken
+    pub full : written.end ≡ Full → written.drain.value.capacity ≤ length written.drain.value.taken
 
   -- of what became of a stream that had a seat, where a session was served
   abbrev pub CourseKept : List (Shown S) → ℕ → List (Option (Poster S)) → Course O → Type 0

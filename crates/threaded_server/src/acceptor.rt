@@ -4,7 +4,7 @@ ghost use Rattle.threaded_server.specs.Answers.{answer_of};
 ghost use Rattle.threaded_server.specs.Lending.{returned, with_lent, with_refused, with_returned};
 
 use crate::answer::Answer;
-use broker_threads::{Closed, SessionEnds};
+use broker_threads::{Closed, StreamFate};
 use rawsocket::devices::{Sink, Source};
 use realm_inbox::Shut;
 use std::alloc::{AllocError, Global};
@@ -85,17 +85,16 @@ pub trait Acceptor {
             (λ parts. lending self.new ≡ with_lent (lending self.old) (parts.source, parts.sink))
             (λ _. lending self.new ≡ with_refused (lending self.old)) };
 
-    /// Takes back what is left of a stream, once both of its halves were let go of, and is told how the two threads of its session ended,
-    /// if one was served.
+    /// Takes back what is left of a stream, once both of its halves were let go of, and is told what became of it.
     fn take_back(
         &mut self,
         source: Closed<Self::Source>,
         sink: Closed<Self::Sink>,
-        ends: Option<SessionEnds>,
+        fate: StreamFate,
     )
         ensures answers { answers self.new ≡ answers self.old }
         ensures lending { lending self.new ≡ with_returned (lending self.old)
-            (returned source.last.value sink.last.value ends) };
+            (returned source.last.value sink.last.value fate) };
 
     /// Who is at the other end of a stream, in words: empty where that isn't known. `None` where memory was refused.
     fn peer(&self, alloc: Global, _stream: &Self::Stream) -> Option<String> {

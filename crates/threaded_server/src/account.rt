@@ -3,7 +3,7 @@ ghost use Rattle.std.specs.Prelude.{◌≡◌, [], ◌∷◌, ◌++◌};
 ghost use Rattle.threaded_server.specs.Lending.{lending_of, none_lent, returned, with_lent, with_refused, with_returned};
 
 use crate::acceptor::Parts;
-use broker_threads::{Closed, SessionEnds};
+use broker_threads::{Closed, StreamFate};
 use ghost_state::{GhostCount, GhostList};
 use std::snapshot::Snapshot;
 
@@ -11,7 +11,7 @@ use std::snapshot::Snapshot;
 #[derive(Drop)]
 pub struct Account<I, O> {
     lent: GhostList<(I, O)>,
-    returned: GhostList<(Snapshot<I>, Snapshot<O>, Option<SessionEnds>)>,
+    returned: GhostList<(Snapshot<I>, Snapshot<O>, StreamFate)>,
     refused: GhostCount,
 }
 
@@ -47,12 +47,12 @@ impl<I: Drop, O: Drop> Account<I, O> {
         self.refused.tick();
     }
 
-    /// Both halves of a stream were let go of, and the threads of its session ended so, if one was served.
-    pub fn take_back(&mut self, source: Closed<I>, sink: Closed<O>, ends: Option<SessionEnds>)
+    /// Both halves of a stream were let go of, and this became of it.
+    pub fn take_back(&mut self, source: Closed<I>, sink: Closed<O>, fate: StreamFate)
         ensures { lending_of self.new ≡ with_returned (lending_of self.old)
-            (returned source.last.value sink.last.value ends) }
+            (returned source.last.value sink.last.value fate) }
     {
-        let back = (source.into_last(), sink.into_last(), ends);
+        let back = (source.into_last(), sink.into_last(), fate);
         self.returned.add(Snapshot::of(&back));
     }
 }

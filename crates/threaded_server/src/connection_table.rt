@@ -8,8 +8,8 @@ ghost use Rattle.realm.specs.Grants.{pairs_of};
 ghost use Rattle.realm.specs.body.HistoryCode.{history_code};
 ghost use Rattle.std.specs.Arc.{arc_value};
 ghost use Rattle.realm_inbox.specs.EndViews.{AreNewSeats, inbox_of, posted};
-ghost use Rattle.threaded_server.specs.Conns.{AreApart, Numbered, conns_of};
-ghost use Rattle.broker_threads.specs.Courses.{ends_of, seen_of, sink_of};
+ghost use Rattle.threaded_server.specs.Conns.{AscendAtSeats, Numbered, conns_of};
+ghost use Rattle.broker_threads.specs.Courses.{fate_of, seen_of, sink_of};
 ghost use Rattle.threaded_server.specs.Overs.{AllWent, GoesOver, TellsRefusal};
 ghost use Rattle.threaded_server.specs.Posters.{Stand, lists_at, lists_of};
 ghost use Rattle.threaded_server.specs.Posts.{AllSay, OnlyPosted, posts_at};
@@ -30,7 +30,7 @@ use crate::roster::Roster;
 use crate::seats::Seats;
 use crate::starting::{Newcomer, Started, start};
 use broker_threads::told::{tell_accepted, tell_refused, tell_unserved};
-use broker_threads::{Closed, Ended, Fate, Plan, SeatTable};
+use broker_threads::{Closed, Ended, Fate, Plan, SeatTable, StreamFate};
 use ghost_state::GhostList;
 use log_lines::{CloseReason, ConnectionRefusal};
 use rawsocket::devices::{Sink, Source, Turns, send};
@@ -120,6 +120,7 @@ impl<
     /// Joins the reader at this place, from 0, if it is over, and frees its seat. What is left of its stream, where it was.
     pub fn reap<R: Threads + Wait>(&mut self, rt: &R, place: usize) -> Option<Gone<I, O>>
         ensures plan { self.new.roster.over.plan ≡ self.old.roster.over.plan }
+        ensures realms { length (realms_of self.new.realms) ≡ length (realms_of self.old.realms) }
         ensures lent { items_of self.new.roster.lent ≡ items_of self.old.roster.lent }
         ensures over { GoesOver (items_of self.old.roster.over.streams)
             (items_of self.new.roster.over.streams) result }
@@ -134,6 +135,7 @@ impl<
     /// Waits for the reader at this place, if there is one, and frees its seat. What is left of its stream, where there was one.
     pub fn release<R: Threads + Wait>(&mut self, rt: &R, place: usize) -> Option<Gone<I, O>>
         ensures plan { self.new.roster.over.plan ≡ self.old.roster.over.plan }
+        ensures realms { length (realms_of self.new.realms) ≡ length (realms_of self.old.realms) }
         ensures lent { items_of self.new.roster.lent ≡ items_of self.old.roster.lent }
         ensures over { GoesOver (items_of self.old.roster.over.streams)
             (items_of self.new.roster.over.streams) result }
@@ -187,7 +189,8 @@ impl<
 
     /// Stops the realms' actors, and waits until each has marked whose sessions it holds.
     pub fn stop_actors<R: Wait>(&mut self, rt: &R)
-        ensures { self.new.roster ≡ self.old.roster }
+        ensures roster { self.new.roster ≡ self.old.roster }
+        ensures realms { length (realms_of self.new.realms) ≡ length (realms_of self.old.realms) }
     {
         self.realms.stop(rt);
     }
@@ -199,9 +202,10 @@ impl<
         ensures runs { All
             (λ run. IsRun (pairs_of self.roster.over.plan.value.config.value.grants.items) run)
             (items_of result) }
+        ensures realms { length (items_of result) ≡ length (realms_of self.realms) }
         ensures only_posted { ∥ OnlyPosted (items_of result)
             (items_of self.roster.over.streams) ∥₁ }
-        ensures apart { AreApart (conns_of (items_of self.roster.over.streams)) }
+        ensures ascend { AscendAtSeats (conns_of (items_of self.roster.over.streams)) }
         ensures tied { ∥ All (λ over. OverTied (items_of result) over)
             (items_of self.roster.over.streams) ∥₁ }
         ensures went { ∥ AllWent
@@ -236,6 +240,7 @@ impl<
         arrival: Arrival<I, O, S>,
     ) -> Option<Gone<I, O>>
         ensures plan { self.new.roster.over.plan ≡ self.old.roster.over.plan }
+        ensures realms { length (realms_of self.new.realms) ≡ length (realms_of self.old.realms) }
         ensures lent { items_of self.new.roster.lent ≡ items_of self.old.roster.lent
             ++ (arrival.parts.source, arrival.parts.sink) ∷ [] }
         ensures over { GoesOver (items_of self.old.roster.over.streams)
@@ -282,6 +287,7 @@ impl<
     /// A stream is let go of, from which nothing was read, and to which nothing was written: memory was refused for it.
     pub fn let_go(&mut self, halves: (I, O)) -> Gone<I, O>
         ensures plan { self.new.roster.over.plan ≡ self.old.roster.over.plan }
+        ensures realms { length (realms_of self.new.realms) ≡ length (realms_of self.old.realms) }
         ensures lent { items_of self.new.roster.lent
             ≡ items_of self.old.roster.lent ++ halves ∷ [] }
         ensures over { GoesOver (items_of self.old.roster.over.streams)
@@ -294,6 +300,7 @@ impl<
     fn turn_away(&mut self, parts: Parts<I, O, S>) -> Gone<I, O>
         requires full { (place : ℕ) → place < 256 → free_at self.old.seats place ≡ None }
         ensures plan { self.new.roster.over.plan ≡ self.old.roster.over.plan }
+        ensures realms { length (realms_of self.new.realms) ≡ length (realms_of self.old.realms) }
         ensures lent { items_of self.new.roster.lent ≡ items_of self.old.roster.lent
             ++ (parts.source, parts.sink) ∷ [] }
         ensures over { GoesOver (items_of self.old.roster.over.streams)
@@ -310,7 +317,7 @@ impl<
         Gone {
             source: Closed::of(source),
             sink: Closed::of(sink),
-            ends: None,
+            fate: StreamFate::NoSeat,
         }
     }
 }
@@ -335,7 +342,7 @@ fn take_in<
         ≡ set (lists_of posters.old) place (Some ended.posters.items) }
     ensures source { result.0.source ≡ ended.source }
     ensures sink { result.0.sink ≡ sink_of ended.course }
-    ensures ends { result.0.ends ≡ ends_of ended.course }
+    ensures fate { result.0.fate ≡ fate_of ended.course }
 {
     let Ended {
         source,
@@ -343,11 +350,11 @@ fn take_in<
         course,
         reason,
     } = ended;
-    let ends = course.ends();
+    let fate = course.fate();
     let (sink, seen) = course.into_parts();
     realms.take_in(rt, seen);
     posters.put(place, back);
-    (Gone { source, sink, ends }, reason)
+    (Gone { source, sink, fate }, reason)
 }
 
 // A connection's seat is free again, whose posters are back.

@@ -1,5 +1,5 @@
 //! Streams that are over.
-use broker_threads::{Closed, Ended, Reader, SessionEnds};
+use broker_threads::{Closed, Ended, Reader, StreamFate};
 use realm_inbox::Shut;
 use std::snapshot::Snapshot;
 
@@ -19,6 +19,6 @@ pub enum Over<I, O, S: Shut> {
 pub struct Gone<I, O> {
     pub source: Closed<I>,
     pub sink: Closed<O>,
-    /// How the threads of its session ended, if one was served.
-    pub ends: Option<SessionEnds>,
+    /// What became of the stream.
+    pub fate: StreamFate,
 }

@@ -10,7 +10,7 @@ ghost use Rattle.broker_threads.specs.Streams.{Sight, offer_of, sight};
 use crate::entry::Connection;
 use crate::over::{Gone, Over};
 use crate::overs::Overs;
-use broker_threads::{Closed, Ended, Plan};
+use broker_threads::{Closed, Ended, Plan, StreamFate};
 use ghost_state::GhostList;
 use rawsocket::devices::{Sink, Source};
 use realm_inbox::Shut;
@@ -120,7 +120,7 @@ impl<
         ensures entries { self.new.entries ≡ self.old.entries }
         ensures source { result.source.last.value ≡ halves.0 }
         ensures sink { result.sink.last.value ≡ halves.1 }
-        ensures ends { result.ends ≡ None }
+        ensures fate { result.fate ≡ StreamFate.NoMemory }
     {
         let over = Over::Untouched(Snapshot::of(&halves));
         self.pass(Snapshot::of(&halves), Snapshot::of(&over));
@@ -128,7 +128,7 @@ impl<
         Gone {
             source: Closed::of(source),
             sink: Closed::of(sink),
-            ends: None,
+            fate: StreamFate::NoMemory,
         }
     }
 

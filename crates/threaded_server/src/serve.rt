@@ -1,5 +1,5 @@
 //! The accepting thread.
-ghost use Rattle.std.specs.Prelude.{◌≡◌, ◌≤◌, ◌<◌, ◌+◌, [], ◌∷◌, ◌++◌, length, All, IfOk, MatchOption, None, OnOk};
+ghost use Rattle.std.specs.Prelude.{◌≡◌, ◌≢◌, ◌≤◌, ◌<◌, ◌+◌, [], ◌∷◌, ◌++◌, length, All, IfOk, MatchOption, None, OnOk};
 ghost use Rattle.ghost_state.specs.GhostList.{items_of};
 ghost use Rattle.realm.specs.Grants.{pairs_of};
 ghost use Rattle.threaded_server.specs.Answers.{Serves};
@@ -45,7 +45,7 @@ const MOST_FAILURES: u32 = 100;
 /// 100 times in a row, every live session gets its GOODBYE (WAMP, "Session Closing"), every other stream is ended, and all threads are
 /// waited for: as long as a peer takes nothing of what its session is still owed, this doesn't return.
 ///
-/// Each stream that the acceptor gave comes back to it ([`Acceptor::take_back`]), whatever became of it.
+/// Each stream that the acceptor gave comes back to it ([`Acceptor::take_back`]), with what became of it.
 ///
 /// A connection takes the lowest free seat of 256. One for which none is free gets the octets 7F 40 00 00, and is closed. Where memory or a
 /// thread is refused for a connection, that connection is closed, and the broker goes on.
@@ -148,6 +148,8 @@ fn open_and_accept<
         (books connection_table.old.roster.lent connection_table.old.roster.over.streams)
         (books connection_table.new.roster.lent connection_table.new.roster.over.streams) result }
     ensures plan { connection_table.new.roster.over.plan ≡ connection_table.old.roster.over.plan }
+    ensures realms { result ≢ Err Fault.NoMemory
+        → length (realms_of connection_table.new.realms) ≡ length config.now.realms.items }
 {
     if let Err(_) = open(rt, connection_table, config) {
         return Err(Fault::NoMemory);
@@ -224,7 +226,9 @@ fn open<
     requires none { realms_of connection_table.old.realms ≡ [] }
     requires unused { IsUnused connection_table.old.roster.entries.items
         (items_of connection_table.old.roster.over.streams) }
-    ensures { connection_table.new.roster ≡ connection_table.old.roster }
+    ensures roster { connection_table.new.roster ≡ connection_table.old.roster }
+    ensures realms { OnOk result
+        (length (realms_of connection_table.new.realms) ≡ length config.now.realms.items) }
 {
     for name in &config.realms {
         open_realm(rt, connection_table, config, name)?;
@@ -285,6 +289,8 @@ fn accept_all<R: Threads + Wait + Clock + Copy + Send + 'static, A: Acceptor>(
         (books connection_table.old.roster.lent connection_table.old.roster.over.streams)
         (books connection_table.new.roster.lent connection_table.new.roster.over.streams) result }
     ensures plan { connection_table.new.roster.over.plan ≡ connection_table.old.roster.over.plan }
+    ensures realms { length (realms_of connection_table.new.realms)
+        ≡ length (realms_of connection_table.old.realms) }
 {
     let mut failures: u32 = 0;
     'accepting: for _ in rt.forever() {
@@ -314,10 +320,10 @@ fn take_back<A: Acceptor>(acceptor: &mut A, gone: Option<Gone<A::Source, A::Sink
     ensures answers { A.answers acceptor.new ≡ A.answers acceptor.old }
     ensures lending { MatchOption gone (A.lending acceptor.new ≡ A.lending acceptor.old)
         (λ gone. A.lending acceptor.new ≡ with_returned (A.lending acceptor.old)
-        (returned gone.source.last.value gone.sink.last.value gone.ends)) }
+        (returned gone.source.last.value gone.sink.last.value gone.fate)) }
 {
-    if let Some(Gone { source, sink, ends }) = gone {
-        acceptor.take_back(source, sink, ends);
+    if let Some(Gone { source, sink, fate }) = gone {
+        acceptor.take_back(source, sink, fate);
     }
 }
 
@@ -332,6 +338,8 @@ fn reap<R: Threads + Wait, A: Acceptor>(
         (books connection_table.old.roster.lent connection_table.old.roster.over.streams)
         (books connection_table.new.roster.lent connection_table.new.roster.over.streams) }
     ensures plan { connection_table.new.roster.over.plan ≡ connection_table.old.roster.over.plan }
+    ensures realms { length (realms_of connection_table.new.realms)
+        ≡ length (realms_of connection_table.old.realms) }
 {
     for place in 0..connection_table.places() {
         let gone = connection_table.reap(rt, place);
@@ -350,6 +358,8 @@ fn join_all<R: Threads + Wait, A: Acceptor>(
         (books connection_table.old.roster.lent connection_table.old.roster.over.streams)
         (books connection_table.new.roster.lent connection_table.new.roster.over.streams) }
     ensures plan { connection_table.new.roster.over.plan ≡ connection_table.old.roster.over.plan }
+    ensures realms { length (realms_of connection_table.new.realms)
+        ≡ length (realms_of connection_table.old.realms) }
     ensures none { All (λ slot. slot ≡ None) connection_table.new.roster.entries.items }
 {
     for place in 0..connection_table.places() {
@@ -370,6 +380,8 @@ fn receive<R: Threads + Wait + Clock + Copy + Send + 'static, A: Acceptor>(
         (books connection_table.old.roster.lent connection_table.old.roster.over.streams)
         (books connection_table.new.roster.lent connection_table.new.roster.over.streams) }
     ensures plan { connection_table.new.roster.over.plan ≡ connection_table.old.roster.over.plan }
+    ensures realms { length (realms_of connection_table.new.realms)
+        ≡ length (realms_of connection_table.old.realms) }
 {
     let peer = peer_of(acceptor, &connection_table.plan, &stream);
     match acceptor.split(connection_table.alloc, stream) {
@@ -415,6 +427,8 @@ fn admit<
     peer: Option<String>,
 ) -> Option<Gone<I, O>>
     ensures plan { connection_table.new.roster.over.plan ≡ connection_table.old.roster.over.plan }
+    ensures realms { length (realms_of connection_table.new.realms)
+        ≡ length (realms_of connection_table.old.realms) }
     ensures lent { items_of connection_table.new.roster.lent
         ≡ items_of connection_table.old.roster.lent
         ++ (parts.source, parts.sink) ∷ [] }
@@ -447,6 +461,8 @@ fn close<R: Threads + Wait, A: Acceptor>(
         (books connection_table.old.roster.lent connection_table.old.roster.over.streams)
         (books connection_table.new.roster.lent connection_table.new.roster.over.streams) }
     ensures plan { connection_table.new.roster.over.plan ≡ connection_table.old.roster.over.plan }
+    ensures realms { length (realms_of connection_table.new.realms)
+        ≡ length (realms_of connection_table.old.realms) }
     ensures none { All (λ slot. slot ≡ None) connection_table.new.roster.entries.items }
 {
     stop(rt, connection_table);
@@ -460,7 +476,9 @@ fn stop<
     O: Sink + Drop + Send + 'static,
     S: Shut + Send + 'static,
 >(rt: &R, connection_table: &mut ConnectionTable<I, O, S>)
-    ensures { connection_table.new.roster ≡ connection_table.old.roster }
+    ensures roster { connection_table.new.roster ≡ connection_table.old.roster }
+    ensures realms { length (realms_of connection_table.new.realms)
+        ≡ length (realms_of connection_table.old.realms) }
 {
     connection_table
         .plan

@@ -6,7 +6,7 @@ ghost use Rattle.threaded_server.specs.Named.{AreNamed};
 use crate::acceptor::{Accepted, Acceptor, Parts};
 use crate::account::Account;
 use crate::answer::Answer;
-use broker_threads::{Closed, SessionEnds};
+use broker_threads::{Closed, StreamFate};
 use ghost_state::GhostCount;
 use rawsocket::devices::{ReadSource, WriteSink};
 use realm_inbox::{GhostList, Shut};
@@ -175,13 +175,13 @@ impl<R: Clock + Drop> Acceptor for TcpAcceptor<R> {
         &mut self,
         source: Closed<ReadSource<TcpHandle>>,
         sink: Closed<WriteSink<TcpHandle>>,
-        ends: Option<SessionEnds>,
+        fate: StreamFate,
     )
         ensures answers { items_of self.new.answers ≡ items_of self.old.answers }
         ensures lending { lending_of self.new.account ≡ with_returned (lending_of self.old.account)
-            (returned source.last.value sink.last.value ends) }
+            (returned source.last.value sink.last.value fate) }
     {
-        self.account.take_back(source, sink, ends);
+        self.account.take_back(source, sink, fate);
     }
 
     fn peer(&self, alloc: Global, stream: &TcpStream) -> Option<String> {

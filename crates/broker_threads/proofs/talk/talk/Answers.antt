@@ -1,3 +1,4 @@
+use Rattle.std.proofs.Common.{inl}
 use Rattle.session.specs.Opened.{session as session_of}
 use Rattle.broker_threads.specs.Sights.{sight}
 use Rattle.broker_threads.specs.Talks.{passage, start_of}
@@ -19,7 +20,7 @@ returns g c =
       joining = begun.made.joining;
       writer = begun.writer.promise.0.value;
       begins = made.begins;
-      converses = from_start i.seen (start_of (session_of begun.made.opened)) (start_of (session_of c.args.session.opened)) begun.made.joining (passage c.args.source.now c.args.poster)
-          (passage c.converse-poster.new.source c.converse-poster.result.poster) c.converse-poster.result.read made.start c.converse-poster.ensures;
+      converses = inl (from_start i.seen (start_of (session_of begun.made.opened)) (start_of (session_of c.args.session.opened)) begun.made.joining (passage c.args.source.now c.args.poster)
+          (passage c.converse-poster.new.source c.converse-poster.result.poster) c.converse-poster.result.read made.start c.converse-poster.ensures);
       writes = c.join-written.ensures;
     }

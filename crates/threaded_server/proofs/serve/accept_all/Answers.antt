@@ -4,12 +4,13 @@ use Rattle.threaded_server.proofs.ServeSteps.{accept_failed, stream_came}
 use Rattle.threaded_server.proofs.serve.accept_all.Goals as goal
 
 pub accepting-init : goal.accepting-init
-accepting-init g c = (none_so_far _ _ _, refl)
+accepting-init g c = (none_so_far _ _ _, refl, refl)
 
 pub accepting-preserved-in-Stream : goal.accepting-preserved-in-Stream
 accepting-preserved-in-Stream g c = (
   stream_came _ _ _ _ _ _ _ _ _ _ _ _ _ _ _ c.accepting.invariant.0 c.in-Stream.ensures.answers c.in-Stream.ensures.lending c.reap.ensures.answers c.reap.ensures.moves c.receive.ensures.answers c.receive.ensures.moves,
   c.receive.ensures.plan ∙ c.reap.ensures.plan ∙ c.accepting.invariant.1,
+  c.receive.ensures.realms ∙ c.reap.ensures.realms ∙ c.accepting.invariant.2,
 )
 
 pub returns-in-Stop-clause-lent : goal.returns-in-Stop-clause-lent
@@ -23,4 +24,5 @@ accepting-preserved g c = (
   accept_failed _ _ _ _ _ _ _ _ _ _ _ _ _ _ c.accepting.invariant.0 c.in-Failed.ensures.answers c.in-Failed.ensures.lending c.reap-in-Failed.ensures.answers c.reap-in-Failed.ensures.moves c.pause.ensures.answers c.pause.ensures.lending
       c.if-failures-ge-MOST_FAILURES.false,
   c.reap-in-Failed.ensures.plan ∙ c.accepting.invariant.1,
+  c.reap-in-Failed.ensures.realms ∙ c.accepting.invariant.2,
 )

@@ -2,10 +2,12 @@ use Rattle.std.proofs.Common.{◌≡◌, ◌-◌, [], ◌∷◌, ◌++◌, None,
 use Rattle.threaded_server.specs.Seats.{free_at}
 use Rattle.ghost_state.specs.GhostList.{items_of}
 use Rattle.threaded_server.proofs.Numbering.{back_numbered, over_numbered, seat_numbered, taken_numbered, took_numbered, unseated_numbered}
+use Rattle.threaded_server.proofs.RealmSteps.{takes_long}
 use Rattle.threaded_server.proofs.RosterSteps.{seated_before}
 use Rattle.threaded_server.proofs.SeatSteps.{free_place, seat_given, seat_kept, still_seated}
 use Rattle.threaded_server.proofs.TableStanding.{back_standing, ended_standing, posters_there, reader_left, seat_asks, seat_standing, taken_at, untouched_standing}
 use Rattle.threaded_server.proofs.TableSteps.{lent_on, seated_adds, untouched_adds}
+use Rattle.broker_threads.specs.Courses.{seen_of}
 use Rattle.threaded_server.specs.Overs.{Found, Went}
 use Rattle.threaded_server.specs.Posters.{AreAt, AreOf, lists_of}
 use Rattle.threaded_server.specs.Realms.{places_of, realms_of}
@@ -139,10 +141,13 @@ pub returns-in-Ended-clause-lent : goal.returns-in-Ended-clause-lent
 returns-in-Ended-clause-lent g c =
     lent_on (items_of c.args.self.now.roster.lent) (items_of c.args.self.now.roster.lent) (items_of c.pass.new.self.lent) c.in-Ended.halves.value (c.args.arrival.parts.source, c.args.arrival.parts.sink) c.pass.ensures.lent c.in-Ended.ensures.0 refl
 
+pub returns-in-Ended-clause-realms : goal.returns-in-Ended-clause-realms
+returns-in-Ended-clause-realms g c = takes_long (realms_of c.args.self.now.realms) (seen_of c.in-Ended.ended.course) (realms_of c.take_in-gone.new.realms) c.take_in-gone.ensures.realms
+
 pub returns-in-Ended-clause-over : goal.returns-in-Ended-clause-over
 returns-in-Ended-clause-over g c =
     seated_adds (items_of c.args.self.now.roster.over.streams) (items_of c.pass.new.self.over.streams) c.in-Ended.began c.of.result c.in-Ended.ended c.of-in-Ended.result.value c.take_in-gone.result.0.source c.take_in-gone.result.0.sink
-    c.take_in-gone.result.0.ends c.pass.ensures.over c.of-in-Ended.ensures c.of.ensures c.take_in-gone.ensures.source c.take_in-gone.ensures.sink c.take_in-gone.ensures.ends
+    c.take_in-gone.result.0.fate c.pass.ensures.over c.of-in-Ended.ensures c.of.ensures c.take_in-gone.ensures.source c.take_in-gone.ensures.sink c.take_in-gone.ensures.fate
 
 pub returns-clause-lent : goal.returns-clause-lent
 returns-clause-lent g c =
@@ -150,4 +155,4 @@ returns-clause-lent g c =
 
 pub returns-clause-over : goal.returns-clause-over
 returns-clause-over g c =
-    untouched_adds (items_of c.args.self.now.roster.over.streams) (items_of c.let_go-gone.new.self.over.streams) c.in-Refused.halves c.let_go-gone.result.source.last.value c.let_go-gone.result.sink.last.value c.let_go-gone.result.ends c.let_go-gone.ensures.over c.let_go-gone.ensures.source c.let_go-gone.ensures.sink c.let_go-gone.ensures.ends
+    untouched_adds (items_of c.args.self.now.roster.over.streams) (items_of c.let_go-gone.new.self.over.streams) c.in-Refused.halves c.let_go-gone.result.source.last.value c.let_go-gone.result.sink.last.value c.let_go-gone.result.fate c.let_go-gone.ensures.over c.let_go-gone.ensures.source c.let_go-gone.ensures.sink c.let_go-gone.ensures.fate

@@ -11,7 +11,7 @@ use Rattle.threaded_server.proofs.connection_table.ConnectionTable.let_go.Goals 
 
 pub returns-clause-over : goal.returns-clause-over
 returns-clause-over g c =
-    untouched_adds (items_of c.args.self.now.roster.over.streams) (items_of c.let_go.new.self.over.streams) c.args.halves c.let_go.result.source.last.value c.let_go.result.sink.last.value c.let_go.result.ends c.let_go.ensures.over c.let_go.ensures.source c.let_go.ensures.sink c.let_go.ensures.ends
+    untouched_adds (items_of c.args.self.now.roster.over.streams) (items_of c.let_go.new.self.over.streams) c.args.halves c.let_go.result.source.last.value c.let_go.result.sink.last.value c.let_go.result.fate c.let_go.ensures.over c.let_go.ensures.source c.let_go.ensures.sink c.let_go.ensures.fate
 
 pub invariant_of-self : goal.invariant_of-self
 invariant_of-self g c =
