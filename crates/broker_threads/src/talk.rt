@@ -188,6 +188,7 @@ fn converse<R: Wait, I: Source, S: Shut>(
             has_greeted: false,
         };
     }
+    let turn = broker.plan.long_turns.of(poster.conn());
     let encoding = EncodingPoster {
         alloc: broker.alloc,
         in_use: &in_use,
@@ -205,7 +206,15 @@ fn converse<R: Wait, I: Source, S: Shut>(
         received: 0,
     };
     let mut octets = 0;
-    let read = read_counted(rt, broker.alloc, source, opened, &mut posting, &mut octets);
+    let read = read_counted(
+        rt,
+        broker.alloc,
+        turn,
+        source,
+        opened,
+        &mut posting,
+        &mut octets,
+    );
     let FarewellPoster {
         poster,
         has_aborted,

@@ -13,6 +13,7 @@
 mod encoding_poster;
 mod farewell_poster;
 mod in_use;
+mod long_turns;
 mod pongs;
 mod reader;
 mod weight;
@@ -21,6 +22,7 @@ mod writer;
 pub use encoding_poster::EncodingPoster;
 pub use farewell_poster::FarewellPoster;
 pub use in_use::{InUse, Using};
+pub use long_turns::{LongTurn, LongTurns};
 pub use pongs::{AskedPongs, OwedPongs, PongPoster, share_pongs};
 pub use reader::{ReadEnd, read_counted, read_posts};
 pub use writer::{Watch, WriteEnd, write_items, write_watched};

@@ -9,6 +9,7 @@ ghost use Rattle.realm_inbox.specs.Posted.{with_acts};
 ghost use Rattle.connection.specs.Posts.{Says, SaysNothing, is_farewell};
 ghost use Rattle.connection.specs.Reader.{IsPosted, IsAdvance, PostsFront, IsReadUpTo, IsReadBy, ReadsSince, ReadsUntil, Departs, batch, read_told, start, taking};
 
+use crate::long_turns::{LONG_MESSAGE, LongTurn};
 use crate::weight::weight_of;
 use message_tree::Octets;
 use rawsocket::devices::{NoOctets, PIECE, Source, Turns, read_piece};
@@ -85,10 +86,33 @@ fn post<R: Wait, S: Shut, P: Posting<S>>(
     }
 }
 
+// Reads a payload: a long one in its turn.
+fn read_in_turn<R: Wait>(
+    rt: &R,
+    alloc: Global,
+    turn: LongTurn<'_>,
+    serializer: Serializer,
+    payload: &[u8],
+) -> Result<Said, Fault>
+    ensures ok { IfOk result (λ said. Says serializer payload.now said) }
+    ensures bad { IfErr result (λ f. f ≢ Fault.NoMemory → SaysNothing serializer payload.now f) }
+{
+    match turn.turn {
+        Some(turn) if payload.len() >= LONG_MESSAGE => {
+            let held = turn.lock(rt);
+            let read = read_payload(alloc, serializer, payload);
+            drop(held);
+            read
+        }
+        _ => read_payload(alloc, serializer, payload),
+    }
+}
+
 // Posts what a payload says.
 fn post_message<R: Wait, S: Shut, P: Posting<S>>(
     rt: &R,
     alloc: Global,
+    turn: LongTurn<'_>,
     serializer: Serializer,
     payload: &[u8],
     poster: &mut P,
@@ -97,7 +121,7 @@ fn post_message<R: Wait, S: Shut, P: Posting<S>>(
         (batch (record { kind = Kind.Message; payload = payload.now } ∷ []) None)
         (P.posted poster.old) (P.posted poster.new) result }
 {
-    let said = match read_payload(alloc, serializer, payload) {
+    let said = match read_in_turn(rt, alloc, turn, serializer, payload) {
         Ok(said) => said,
         Err(Fault::NoMemory) => return Err(ReadEnd::NoMemory),
         Err(fault) => {
@@ -136,6 +160,7 @@ fn post_ping<R: Wait, S: Shut, P: Posting<S>>(
 fn post_lying<R: Wait, S: Shut, P: Posting<S>>(
     rt: &R,
     alloc: Global,
+    turn: LongTurn<'_>,
     serializer: Serializer,
     kind: Kind,
     payload: &[u8],
@@ -145,7 +170,7 @@ fn post_lying<R: Wait, S: Shut, P: Posting<S>>(
         (P.posted poster.old) (P.posted poster.new) result }
 {
     match kind {
-        Kind::Message => post_message(rt, alloc, serializer, payload, poster),
+        Kind::Message => post_message(rt, alloc, turn, serializer, payload, poster),
         Kind::Ping => match Octets::of(alloc, payload) {
             Ok(payload) => post_ping(rt, payload, poster),
             Err(_) => Err(ReadEnd::NoMemory),
@@ -158,6 +183,7 @@ fn post_lying<R: Wait, S: Shut, P: Posting<S>>(
 fn post_frame<R: Wait, S: Shut, P: Posting<S>>(
     rt: &R,
     alloc: Global,
+    turn: LongTurn<'_>,
     serializer: Serializer,
     frame: Frame,
     poster: &mut P,
@@ -167,7 +193,7 @@ fn post_frame<R: Wait, S: Shut, P: Posting<S>>(
 {
     match frame.kind {
         Kind::Ping => post_ping(rt, Octets::from_vec(frame.payload), poster),
-        kind => post_lying(rt, alloc, serializer, kind, &frame.payload, poster),
+        kind => post_lying(rt, alloc, turn, serializer, kind, &frame.payload, poster),
     }
 }
 
@@ -175,6 +201,7 @@ fn post_frame<R: Wait, S: Shut, P: Posting<S>>(
 fn post_completed<R: Wait, S: Shut, P: Posting<S>>(
     rt: &R,
     alloc: Global,
+    turn: LongTurn<'_>,
     serializer: Serializer,
     frame: Option<Frame>,
     poster: &mut P,
@@ -183,7 +210,7 @@ fn post_completed<R: Wait, S: Shut, P: Posting<S>>(
         (P.posted poster.new) result }
 {
     match frame {
-        Some(frame) => post_frame(rt, alloc, serializer, frame, poster),
+        Some(frame) => post_frame(rt, alloc, turn, serializer, frame, poster),
         None => Ok(()),
     }
 }
@@ -210,6 +237,7 @@ fn post_fault<R: Wait, S: Shut, P: Posting<S>>(
 fn post_frames<R: Wait, S: Shut, P: Posting<S>>(
     rt: &R,
     alloc: Global,
+    turn: LongTurn<'_>,
     serializer: Serializer,
     frames: Vec<Frame>,
     poster: &mut P,
@@ -219,7 +247,7 @@ fn post_frames<R: Wait, S: Shut, P: Posting<S>>(
 {
     let mut left = VecDeque::from_vec(frames);
     'frames: while let Some(frame) = left.pop_front() {
-        if let Err(end) = post_frame(rt, alloc, serializer, frame, poster) {
+        if let Err(end) = post_frame(rt, alloc, turn, serializer, frame, poster) {
             return Err(end);
         }
     }
@@ -230,6 +258,7 @@ fn post_frames<R: Wait, S: Shut, P: Posting<S>>(
 fn post_whole<'p, R: Wait, S: Shut, P: Posting<S>>(
     rt: &R,
     alloc: Global,
+    turn: LongTurn<'_>,
     serializer: Serializer,
     deframer: &Deframer,
     octets: &'p [u8],
@@ -244,7 +273,7 @@ fn post_whole<'p, R: Wait, S: Shut, P: Posting<S>>(
 {
     let mut rest = octets;
     'frames: while let Some((kind, payload, after)) = deframer.next_frame(rest) {
-        if let Err(end) = post_lying(rt, alloc, serializer, kind, payload, poster) {
+        if let Err(end) = post_lying(rt, alloc, turn, serializer, kind, payload, poster) {
             return Err(end);
         }
         rest = after;
@@ -256,6 +285,7 @@ fn post_whole<'p, R: Wait, S: Shut, P: Posting<S>>(
 fn advance<R: Wait, S: Shut, P: Posting<S>>(
     rt: &R,
     alloc: Global,
+    turn: LongTurn<'_>,
     serializer: Serializer,
     deframer: &mut Deframer,
     piece: &[u8],
@@ -270,10 +300,10 @@ fn advance<R: Wait, S: Shut, P: Posting<S>>(
         Ok(resumed) => resumed,
         Err(_) => return Err(ReadEnd::NoMemory),
     };
-    if let Err(end) = post_completed(rt, alloc, serializer, frame, poster) {
+    if let Err(end) = post_completed(rt, alloc, turn, serializer, frame, poster) {
         return Err(end);
     }
-    let rest = match post_whole(rt, alloc, serializer, deframer, rest, poster) {
+    let rest = match post_whole(rt, alloc, turn, serializer, deframer, rest, poster) {
         Ok(rest) => rest,
         Err(end) => return Err(end),
     };
@@ -287,6 +317,7 @@ fn advance<R: Wait, S: Shut, P: Posting<S>>(
 fn begin<R: Wait, S: Shut, P: Posting<S>>(
     rt: &R,
     alloc: Global,
+    turn: LongTurn<'_>,
     serializer: Serializer,
     early: Vec<Frame>,
     deframer: &mut Deframer,
@@ -296,16 +327,17 @@ fn begin<R: Wait, S: Shut, P: Posting<S>>(
         (taking [] deframer.new.held) (P.posted poster.old) (P.posted poster.new) result }
     ensures most { deframer.new.most ≡ deframer.old.most }
 {
-    if let Err(end) = post_frames(rt, alloc, serializer, early, poster) {
+    if let Err(end) = post_frames(rt, alloc, turn, serializer, early, poster) {
         return Err(end);
     }
-    advance(rt, alloc, serializer, deframer, &[], poster)
+    advance(rt, alloc, turn, serializer, deframer, &[], poster)
 }
 
 // Posts the early frames and those that the deframer holds, and then reads and posts until something ends it.
 fn read_on<R: Wait, S: Shut, I: Source, P: Posting<S>>(
     rt: &R,
     alloc: Global,
+    turn: LongTurn<'_>,
     source: &mut I,
     serializer: Serializer,
     early: Vec<Frame>,
@@ -324,7 +356,7 @@ fn read_on<R: Wait, S: Shut, I: Source, P: Posting<S>>(
 {
     let mut deframer = deframer;
     let mut turns = Turns::new();
-    if let Err(end) = begin(rt, alloc, serializer, early, &mut deframer, poster) {
+    if let Err(end) = begin(rt, alloc, turn, serializer, early, &mut deframer, poster) {
         return end;
     }
     'pieces: loop {
@@ -334,7 +366,7 @@ fn read_on<R: Wait, S: Shut, I: Source, P: Posting<S>>(
         };
         *octets = octets.wrapping_add(count as u64);
         let piece = &buffer[..count];
-        if let Err(end) = advance(rt, alloc, serializer, &mut deframer, piece, poster) {
+        if let Err(end) = advance(rt, alloc, turn, serializer, &mut deframer, piece, poster) {
             return end;
         }
     }
@@ -360,6 +392,7 @@ fn leave<R: Wait, S: Shut, P: Posting<S>>(rt: &R, poster: &mut P, end: ReadEnd) 
 fn read_up_to<R: Wait, S: Shut, I: Source, P: Posting<S>>(
     rt: &R,
     alloc: Global,
+    turn: LongTurn<'_>,
     source: &mut I,
     opened: Opened,
     poster: &mut P,
@@ -377,6 +410,7 @@ fn read_up_to<R: Wait, S: Shut, I: Source, P: Posting<S>>(
     read_on(
         rt,
         alloc,
+        turn,
         source,
         opened.serializer,
         opened.early,
@@ -408,13 +442,14 @@ pub fn read_posts<R: Wait, S: Shut, I: Source, P: Posting<S>>(
     ensures reads { ReadsUntil (read_meter (I.seen source.old)) (read_meter (I.seen source.new))
         result }
 {
-    read_counted(rt, alloc, source, opened, poster, &mut 0)
+    read_counted(rt, alloc, LongTurn::free(), source, opened, poster, &mut 0)
 }
 
-/// The same. It adds to `octets` how many octets it read.
+/// The same, where long messages of several connections are read in turns. It adds to `octets` how many octets it read.
 pub fn read_counted<R: Wait, S: Shut, I: Source, P: Posting<S>>(
     rt: &R,
     alloc: Global,
+    turn: LongTurn<'_>,
     source: &mut I,
     opened: Opened,
     poster: &mut P,
@@ -427,6 +462,6 @@ pub fn read_counted<R: Wait, S: Shut, I: Source, P: Posting<S>>(
     ensures reads { ReadsUntil (read_meter (I.seen source.old)) (read_meter (I.seen source.new))
         result }
 {
-    let end = read_up_to(rt, alloc, source, opened, poster, octets);
+    let end = read_up_to(rt, alloc, turn, source, opened, poster, octets);
     leave(rt, poster, end)
 }

@@ -18,7 +18,7 @@ use crate::realm_handle::RealmHandle;
 use broker_config::{Config, Fault, copy_grants};
 use broker_threads::told::{tell_failed, tell_refused, tell_stopping};
 use broker_threads::{ActorThread, IdWords, Log, Marked, Plan};
-use connection::InUse;
+use connection::{InUse, LongTurns};
 use crossbeam_channel::bounded;
 use log_lines::ConnectionRefusal;
 use rawsocket::MessageBound;
@@ -196,6 +196,7 @@ fn plan_of(
         in_use,
         outbox: config.outbox,
         bound,
+        long_turns: LongTurns::new(),
         log,
         is_stopping: AtomicBool::new(false),
         connections: AtomicU64::new(0),
