@@ -103,6 +103,7 @@ module _ {O S : Type 0} where
         owes = k.owes;
         newest_is = k.newest_is;
         whole = k.whole;
+        full = k.full;
         kept = kept_in k.realm.seen s.0.seen written.seen s.2.seen k.kept;
       }
 
