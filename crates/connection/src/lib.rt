@@ -15,6 +15,8 @@ mod farewell_poster;
 mod in_use;
 mod pongs;
 mod reader;
+mod told;
+mod watch;
 mod weight;
 mod writer;
 
@@ -23,4 +25,6 @@ pub use farewell_poster::FarewellPoster;
 pub use in_use::{InUse, Using};
 pub use pongs::{AskedPongs, OwedPongs, PongPoster, share_pongs};
 pub use reader::{ReadEnd, read_counted, read_posts};
-pub use writer::{Watch, WriteEnd, write_items, write_watched};
+pub use told::Told;
+pub use watch::Watch;
+pub use writer::{WriteEnd, write_items, write_watched};
