@@ -13,17 +13,17 @@ frames-init g c = Halfway-start c.args.serializer (contents c.args.frames.items)
 
 pub frames-preserved : goal.frames-preserved
 frames-preserved g c =
-    let here = subst (λ (xs : List Frame). Halfway c.args.serializer (contents c.args.frames.items) (contents xs) (g.P.Posting.posted c.args.poster.now) (g.P.Posting.posted c.frames.poster)) c.in-Some.ensures.items c.frames.invariant in
+    let here = subst (λ (xs : List Frame). Halfway c.args.serializer (contents c.args.frames.items) (contents xs) (g.P.Posting.posted c.args.poster.now) (g.P.Posting.posted c.frames.poster)) c.in-Some.ensures.items c.frames.invariant.posts in
     Halfway-more c.args.serializer (contents c.args.frames.items) (content c.in-Some.frame) (contents c.pop_front.new.self.items) (g.P.Posting.posted c.args.poster.now) (g.P.Posting.posted c.frames.poster) (g.P.Posting.posted c.post_frame.new.poster)
-    here c.in_default-post_frame.ensures
+    here c.in_default-post_frame.ensures.posted
 
-pub returns-in-Err : goal.returns-in-Err
-returns-in-Err g c =
-    let here = subst (λ (xs : List Frame). Halfway c.args.serializer (contents c.args.frames.items) (contents xs) (g.P.Posting.posted c.args.poster.now) (g.P.Posting.posted c.frames.poster)) c.in-Some.ensures.items c.frames.invariant in
+pub returns-in-Err-clause-posted : goal.returns-in-Err-clause-posted
+returns-in-Err-clause-posted g c =
+    let here = subst (λ (xs : List Frame). Halfway c.args.serializer (contents c.args.frames.items) (contents xs) (g.P.Posting.posted c.args.poster.now) (g.P.Posting.posted c.frames.poster)) c.in-Some.ensures.items c.frames.invariant.posts in
     Halfway-ends c.args.serializer c.in-Err.end None (contents c.args.frames.items) (content c.in-Some.frame) (contents c.pop_front.new.self.items) (g.P.Posting.posted c.args.poster.now) (g.P.Posting.posted c.frames.poster)
-    (g.P.Posting.posted c.post_frame.new.poster) here c.in-Err.ensures
+    (g.P.Posting.posted c.post_frame.new.poster) here c.in-Err.ensures.posted
 
-pub returns : goal.returns
-returns g c =
+pub returns-clause-posted : goal.returns-clause-posted
+returns-clause-posted g c =
     Halfway-done c.args.serializer (contents c.args.frames.items) (contents c.frames.left.items) (g.P.Posting.posted c.args.poster.now) (g.P.Posting.posted c.frames.poster)
-    (none_left c.frames.left.items (omega (arith, c.in_default.ensures.cases.0, c.frames.left.ok.0))) c.frames.invariant
+    (none_left c.frames.left.items (omega (arith, c.in_default.ensures.cases.0, c.frames.left.ok.0))) c.frames.invariant.posts

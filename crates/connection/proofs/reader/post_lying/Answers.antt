@@ -3,6 +3,6 @@ use Rattle.rawsocket.specs.declared.frame.Kind.TheVariants.{Ping}
 use Rattle.connection.proofs.FramesPosted.{posted_as}
 use Rattle.connection.proofs.reader.post_lying.Goals as goal
 
-pub returns-in-Ok : goal.returns-in-Ok
-returns-in-Ok g c =
-    posted_as c.args.serializer c.post_ping.result Ping c.args.kind c.in-Ok.payload c.args.payload.now (g.P.Posting.posted c.args.poster.now) (g.P.Posting.posted c.post_ping.new.poster) (sym c.in-Ping.is) c.in-Ok.ensures (c.post_ping.ensures c.args.serializer)
+pub returns-in-Ok-clause-posted : goal.returns-in-Ok-clause-posted
+returns-in-Ok-clause-posted g c =
+    posted_as c.args.serializer c.post_ping.result Ping c.args.kind c.in-Ok.payload c.args.payload.now (g.P.Posting.posted c.args.poster.now) (g.P.Posting.posted c.post_ping.new.poster) (sym c.in-Ping.is) c.in-Ok.ensures (c.post_ping.ensures.posted c.args.serializer)

@@ -10,12 +10,12 @@ pub frames-preserved : goal.frames-preserved
 frames-preserved g c =
     let frame : Content = record { kind = c.in-Some.kind; payload = c.in-Some.payload.now } in
     front_next c.args.deframer.now.most c.args.serializer (Ok tt) frame c.args.octets.now c.frames.rest.now c.in-Some.after.now (g.P.Posting.posted c.args.poster.now) (g.P.Posting.posted c.frames.poster) (g.P.Posting.posted c.post_lying.new.poster)
-    c.in-Some.ensures.len c.in-Some.ensures.found c.frames.invariant c.in_default-post_lying.ensures
+    c.in-Some.ensures.len c.in-Some.ensures.found c.frames.invariant.posts c.in_default-post_lying.ensures.posted
 
 pub returns-in-Err-clause-ended : goal.returns-in-Err-clause-ended
 returns-in-Err-clause-ended g c =
     let frame : Content = record { kind = c.in-Some.kind; payload = c.in-Some.payload.now } in (
       c.in-Some.after.now,
       front_next c.args.deframer.now.most c.args.serializer (Err c.in-Err.end) frame c.args.octets.now c.frames.rest.now c.in-Some.after.now (g.P.Posting.posted c.args.poster.now) (g.P.Posting.posted c.frames.poster)
-          (g.P.Posting.posted c.post_lying.new.poster) c.in-Some.ensures.len c.in-Some.ensures.found c.frames.invariant c.in-Err.ensures,
+          (g.P.Posting.posted c.post_lying.new.poster) c.in-Some.ensures.len c.in-Some.ensures.found c.frames.invariant.posts c.in-Err.ensures.posted,
     )
