@@ -133,6 +133,7 @@ impl Debt {
 fn in_words(end: WriteEnd) -> &'static str {
     match end {
         WriteEnd::Stopped => "stopped",
+        WriteEnd::Full => "outbox full",
         WriteEnd::Dropped => "dropped",
         WriteEnd::Device => "device failed",
         WriteEnd::TooLong => "E18 TooLongForClient",

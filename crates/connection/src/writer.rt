@@ -2,7 +2,7 @@
 ghost use Rattle.std.specs.Prelude.{◌≡◌, ◌≢◌, ◌≤◌, ◌<◌, ◌++◌, ◌∷◌, ◌⊎◌, [], length, IfOk, IfErr, OnOk, OnErr, Some, ⊤};
 ghost use Rattle.rawsocket.specs.Devices.{Takes, TakesBeginning};
 ghost use Rattle.rawsocket.specs.Steps.{Steps, WriteSteps, told_by, write_meter};
-ghost use Rattle.outbox_queue.specs.Ends.{TookUnvouched, TookWhole};
+ghost use Rattle.outbox_queue.specs.Ends.{TookFull, TookUnvouched, TookWhole};
 ghost use Rattle.outbox_queue.specs.Outbox.{MatchDrained};
 ghost use Rattle.session.specs.LargeFrames.{octets_in};
 ghost use Rattle.connection.specs.Writer.{IsWrittenBy, WritesSince, IsLater, write_told};
@@ -26,7 +26,9 @@ const KEPT: usize = 131_072;
 pub enum WriteEnd {
     /// The outbox was found empty, and all items that were taken are written. Where its other end is waited for, that was handed over.
     Stopped,
-    /// The same, but its other end was dropped: nothing vouches for what was added.
+    /// The same, but the outbox was found full: as many items as it holds were taken, or more, and what the history owes beside them isn't written.
+    Full,
+    /// The same as for [`WriteEnd::Stopped`], but its other end was dropped: nothing vouches for what was added.
     Dropped,
     /// The device failed. A beginning of the frames of all items is written, in which less than 65,536 octets and one frame may lack.
     Device,
@@ -191,15 +193,24 @@ fn pass_on<S: Sink>(sink: &mut S, gathered: &mut Gathered) -> Result<(), WriteEn
     }
 }
 
-/// Waits for the next item, or until there is to be none.
-fn wait<R: Wait, H: Owed<Item>>(rt: &R, drain: &mut Drain<Item, H>, until: Until) -> Drained<Item>
+/// Waits for the next item, or until there is to be none. Nothing is gathered meanwhile.
+fn wait<R: Wait, H: Owed<Item>>(
+    rt: &R,
+    drain: &mut Drain<Item, H>,
+    _gathered: &Gathered,
+    until: Until,
+) -> Drained<Item>
+    requires gathered { _gathered.now.frames.items ≡ [] }
     ensures took { MatchDrained result (λ item. drain.new.taken ≡ drain.old.taken ++ item ∷ [])
-        (drain.new.taken ≡ drain.old.taken) (drain.new.taken ≡ drain.old.taken) }
+        (drain.new.taken ≡ drain.old.taken) (drain.new.taken ≡ drain.old.taken)
+        (drain.new.taken ≡ drain.old.taken) }
     ensures drain { IsLater H.begins drain.old drain.new }
     ensures found { MatchDrained result (λ _. ⊤) (drain.old.empty_finds < drain.new.empty_finds)
+        (drain.old.empty_finds < drain.new.empty_finds)
         (drain.old.empty_finds < drain.new.empty_finds) }
     ensures whole { MatchDrained result (λ _. ⊤)
         (until ≡ Until.Whole → TookWhole H.owed H.is_over drain.new)
+        ((until ≡ Until.Whole) × TookFull H.owed H.is_over drain.new)
         ((until ≡ Until.Whole) × TookUnvouched H.owed H.is_over drain.new) }
 {
     match until {
@@ -230,6 +241,9 @@ fn next_item<R: Wait, H: Owed<Item>, S: Sink>(
         → drain.old.empty_finds < drain.new.empty_finds }
     ensures whole { result ≡ Err WriteEnd.Stopped → until ≡ Until.Whole
         → TookWhole H.owed H.is_over drain.new }
+    ensures full { result ≡ Err WriteEnd.Full
+        → (until ≡ Until.Whole) × (drain.old.empty_finds < drain.new.empty_finds)
+        × TookFull H.owed H.is_over drain.new }
     ensures dropped { result ≡ Err WriteEnd.Dropped
         → (until ≡ Until.Whole) × (drain.old.empty_finds < drain.new.empty_finds)
         × TookUnvouched H.owed H.is_over drain.new }
@@ -243,9 +257,10 @@ fn next_item<R: Wait, H: Owed<Item>, S: Sink>(
     if let Err(end) = pass_on(sink, gathered) {
         return Err(end);
     }
-    match wait(rt, drain, until) {
+    match wait(rt, drain, gathered, until) {
         Drained::Item(item) => Ok(item),
         Drained::Stopped => Err(WriteEnd::Stopped),
+        Drained::Full => Err(WriteEnd::Full),
         Drained::Dropped => Err(WriteEnd::Dropped),
     }
 }
@@ -326,6 +341,9 @@ fn write_next<R: Wait, H: Owed<Item>, S: Sink, W: Watch>(
         → drain.old.empty_finds < drain.new.empty_finds }
     ensures whole { result ≡ Err WriteEnd.Stopped → until ≡ Until.Whole
         → TookWhole H.owed H.is_over drain.new }
+    ensures full { result ≡ Err WriteEnd.Full
+        → (until ≡ Until.Whole) × (drain.old.empty_finds < drain.new.empty_finds)
+        × TookFull H.owed H.is_over drain.new }
     ensures dropped { result ≡ Err WriteEnd.Dropped
         → (until ≡ Until.Whole) × (drain.old.empty_finds < drain.new.empty_finds)
         × TookUnvouched H.owed H.is_over drain.new }
@@ -363,6 +381,7 @@ pub fn write_items<R: Wait, H: Owed<Item>, S: Sink>(
         (S.seen sink.new).taken (IsWrittenBy serializer limit result.1) }
     ensures drain { IsLater H.begins drain result.0 }
     ensures stopped { result.1 ≡ WriteEnd.Stopped → drain.empty_finds < result.0.empty_finds }
+    ensures never_full { result.1 ≢ WriteEnd.Full }
     ensures never { result.1 ≢ WriteEnd.Dropped }
     ensures writes { WriteSteps (S.seen sink.old) (S.seen sink.new) (write_told result.1) }
 {
@@ -377,8 +396,9 @@ pub fn write_items<R: Wait, H: Owed<Item>, S: Sink>(
     )
 }
 
-/// The same, while somebody watches, and until the outbox's other end came over: all that was added was taken then. It ends by
-/// [`WriteEnd::Stopped`] where a history came with it, which vouches for that, and else by [`WriteEnd::Dropped`].
+/// The same, while somebody watches, and until the outbox's other end came over: all that was added was taken then. Where a history came
+/// with it, that vouches for it: it ends by [`WriteEnd::Stopped`] where that is all that the history owes, and by [`WriteEnd::Full`] where
+/// the outbox was found full. Else it ends by [`WriteEnd::Dropped`].
 pub fn write_watched<R: Wait, H: Owed<Item>, S: Sink, W: Watch>(
     rt: &R,
     alloc: Global,
@@ -394,6 +414,8 @@ pub fn write_watched<R: Wait, H: Owed<Item>, S: Sink, W: Watch>(
     ensures drain { IsLater H.begins drain result.0 }
     ensures stopped { result.1 ≡ WriteEnd.Stopped → drain.empty_finds < result.0.empty_finds }
     ensures whole { result.1 ≡ WriteEnd.Stopped → TookWhole H.owed H.is_over result.0 }
+    ensures full { result.1 ≡ WriteEnd.Full
+        → (drain.empty_finds < result.0.empty_finds) × TookFull H.owed H.is_over result.0 }
     ensures dropped { result.1 ≡ WriteEnd.Dropped
         → (drain.empty_finds < result.0.empty_finds) × TookUnvouched H.owed H.is_over result.0 }
     ensures writes { WriteSteps (S.seen sink.old) (S.seen sink.new) (write_told result.1) }
@@ -426,6 +448,9 @@ fn write_until<R: Wait, H: Owed<Item>, S: Sink, W: Watch>(
     ensures stopped { result.1 ≡ WriteEnd.Stopped → drain.empty_finds < result.0.empty_finds }
     ensures whole { result.1 ≡ WriteEnd.Stopped → until ≡ Until.Whole
         → TookWhole H.owed H.is_over result.0 }
+    ensures full { result.1 ≡ WriteEnd.Full
+        → (until ≡ Until.Whole) × (drain.empty_finds < result.0.empty_finds)
+        × TookFull H.owed H.is_over result.0 }
     ensures dropped { result.1 ≡ WriteEnd.Dropped
         → (until ≡ Until.Whole) × (drain.empty_finds < result.0.empty_finds)
         × TookUnvouched H.owed H.is_over result.0 }

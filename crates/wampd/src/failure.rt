@@ -85,16 +85,16 @@ impl Failure {
     pub fn to_listen(alloc: Global, host: &str, port: u16, error: &io::Error) -> Failure
         ensures { result.fault ≡ ListenFault }
     {
-        let reason = format!(in alloc; "cannot listen on {host}:{port}: {error}");
-        Failure::with_reason(alloc, Fault::ListenFault, reason.ok())
+        let reason = refused_at(alloc, "listen on", host, port, error);
+        Failure::with_reason(alloc, Fault::ListenFault, reason)
     }
 
     /// No connection to a broker could be made.
     pub fn to_connect(alloc: Global, host: &str, port: u16, error: &io::Error) -> Failure
         ensures { result.fault ≡ ConnectFault }
     {
-        let reason = format!(in alloc; "cannot connect to {host}:{port}: {error}");
-        Failure::with_reason(alloc, Fault::ConnectFault, reason.ok())
+        let reason = refused_at(alloc, "connect to", host, port, error);
+        Failure::with_reason(alloc, Fault::ConnectFault, reason)
     }
 
     /// A file that is to be published couldn't be opened.
@@ -158,6 +158,21 @@ impl Failure {
             None => Vec::new(alloc),
         };
         Failure { fault, more }
+    }
+}
+
+/// What the system refuses to do at a host's port. An address of IPv6 stands in brackets, so that its end can be told from the port.
+fn refused_at(
+    alloc: Global,
+    what: &str,
+    host: &str,
+    port: u16,
+    error: &io::Error,
+) -> Option<String> {
+    if host.contains(':') {
+        format!(in alloc; "cannot {what} [{host}]:{port}: {error}").ok()
+    } else {
+        format!(in alloc; "cannot {what} {host}:{port}: {error}").ok()
     }
 }
 

@@ -9,7 +9,7 @@ use Rattle.session.specs.ItemFrames.{octets_of}
 use Rattle.connection.specs.Writer.{IsWritable, IsRefused, IsMissing, IsBegun, frames_of}
 use Rattle.connection.specs.declared.writer.ClientTerms.{ClientTerms}
 use Rattle.connection.specs.declared.writer.WriteEnd.{WriteEnd}
-use Rattle.connection.specs.declared.writer.WriteEnd.TheVariants.{Stopped, Dropped, Device, TooLong, NoMemory, TooManyTurns}
+use Rattle.connection.specs.declared.writer.WriteEnd.TheVariants.{Stopped, Full, Dropped, Device, TooLong, NoMemory, TooManyTurns}
 
 -- what a writer has written, and what it holds back behind that
 pub record Output : Type 0 where
@@ -47,6 +47,7 @@ IsOfDevice _ = ⊥
 -- what was held back is written, or a beginning of it, by an end that comes while no item is in hand
 abbrev pub EndsBetween : WriteEnd → Output → List ℕ → Type 0
 EndsBetween Stopped before now = now ≡ before.written ++ before.held
+EndsBetween Full before now = now ≡ before.written ++ before.held
 EndsBetween Dropped before now = now ≡ before.written ++ before.held
 EndsBetween Device before now = GrowsByBeginning before.written now before.held
 EndsBetween TooManyTurns before now = GrowsByBeginning before.written now before.held
@@ -59,6 +60,7 @@ EndsWith f NoMemory before now = (f ≡ fault.NoMemory) × (now ≡ before.writt
 EndsWith f Device before now = GrowsByBeginning before.written now before.held
 EndsWith f TooManyTurns before now = GrowsByBeginning before.written now before.held
 EndsWith f Stopped before now = ⊥
+EndsWith f Full before now = ⊥
 EndsWith f Dropped before now = ⊥
 
 -- the only one of the items has this fault, and all that was held back is written
@@ -71,6 +73,7 @@ pub record StopsAt (Ends : Item → List ℕ → Type 0) (held_before : List ℕ
 -- what is written of what was held back, and of the item that was taken, by the end that comes then
 abbrev pub EndsFrom : ClientTerms → WriteEnd → List ℕ → List Item → List ℕ → Type 0
 EndsFrom client Stopped held items octets = (items ≡ []) × (octets ≡ held)
+EndsFrom client Full held items octets = (items ≡ []) × (octets ≡ held)
 EndsFrom client Dropped held items octets = (items ≡ []) × (octets ≡ held)
 EndsFrom client TooLong held items octets = StopsAt (IsRefused client.serializer client.limit) held items octets
 EndsFrom client NoMemory held items octets = StopsAt IsMissing held items octets
