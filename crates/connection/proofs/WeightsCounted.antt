@@ -1,5 +1,5 @@
 -- Acts that were posted, and as how many octets each counted.
-use Rattle.std.proofs.Common.{◌≡◌, ◌≤◌, ℕ, ◌+◌, List, [], ◌∷◌, ◌++◌, Result, Ok, Err, OnOk, OnErr, MatchResult, length, refl, sym, ap, ◌∙◌, append_assoc, append-nil}
+use Rattle.std.proofs.Common.{◌≡◌, ◌≢◌, ℕ, List, [], ◌∷◌, ◌++◌, Result, Ok, Err, OnOk, OnErr, MatchResult, refl, sym, ap, ◌∙◌, append_assoc, append-nil}
 use Rattle.rawsocket.specs.declared.devices.no_octets.NoOctets.{NoOctets}
 use Rattle.rawsocket.specs.declared.devices.no_octets.NoOctets.TheVariants as no_octets
 use Rattle.rawsocket.specs.declared.handshake.Serializer.{Serializer}
@@ -9,6 +9,7 @@ use Rattle.realm_inbox.specs.declared.act.Act.{Act}
 use Rattle.connection.specs.Posts.{CountsAs, EachCounts}
 use Rattle.connection.specs.Reader.{CountsSince, came_back, end_of}
 use Rattle.connection.specs.declared.reader.ReadEnd.{ReadEnd}
+use Rattle.connection.specs.declared.reader.ReadEnd.TheVariants.{Left, Violation, Ended, Device, TooManyTurns, NoMemory, ActorGone}
 
 module _ {S : Type 0} (s : Serializer) where
   each_join : (a b : List (Act S)) (m n : List ℕ) → EachCounts s a m → EachCounts s b n → EachCounts s (a ++ b) (m ++ n)
@@ -42,7 +43,20 @@ module _ {S : Type 0} (s : Serializer) where
   }
 
 -- none comes back for what the stream is
-pub none_back : (why : NoOctets) → came_back (end_of why) ≡ 0
+none_back : (why : NoOctets) → came_back (end_of why) ≡ 0
 none_back no_octets.Ended = refl
 none_back no_octets.Failed = refl
 none_back no_octets.TooManyTurns = refl
+
+pub stream_back : (why : NoOctets) (end : ReadEnd) → end ≡ end_of why → came_back end ≡ 0
+stream_back why end is = ap came_back is ∙ none_back why
+
+-- none comes back but by the end that says so
+pub others_back : (end : ReadEnd) → end ≢ ActorGone → came_back end ≡ 0
+others_back Left other = refl
+others_back (Violation f) other = refl
+others_back Ended other = refl
+others_back Device other = refl
+others_back TooManyTurns other = refl
+others_back NoMemory other = refl
+others_back ActorGone other = absurd (other refl)

@@ -1,8 +1,9 @@
-use Rattle.std.proofs.Common.{◌≡◌, ◌++◌, ap, ◌∙◌, rules, subst, Ok, Err}
+use Rattle.std.proofs.Common.{◌≡◌, ◌++◌, refl, ap, ◌∙◌, rules, subst, Ok, Err}
 use Rattle.rawsocket.specs.Deframer.{completed, IsShort}
 use Rattle.rawsocket.specs.Frames.{fault_of, kept}
 use Rattle.connection.specs.Reader.{PostsFront}
 use Rattle.connection.proofs.PiecePosted.{goes_through, stops_at_completed, stops_at_once, stops_at_rest, stops_behind}
+use Rattle.connection.proofs.WeightsCounted.{counts_none, counts_then}
 use Rattle.connection.proofs.reader.advance.Goals as goal
 
 pub returns-in-Err-clause-advances : goal.returns-in-Err-clause-advances
@@ -35,3 +36,18 @@ returns-clause-advances g c =
     (g.P.Posting.posted c.args.poster.now) (g.P.Posting.posted c.post_completed.new.poster) (g.P.Posting.posted c.post_whole.new.poster) (g.P.Posting.posted c.post_fault.new.poster) c.in-Ok.ensures.reads c.in_default.ensures.posted
     (subst (λ most. PostsFront most c.args.serializer c.in-Ok.resumed.1.now back (g.P.Posting.posted c.post_completed.new.poster) (g.P.Posting.posted c.post_whole.new.poster) (Ok tt)) same c.in-Ok-post_whole.ensures.front)
     (subst (λ most. IsShort most back) same c.in-Ok-post_whole.ensures.short) held (c.fault.ensures ∙ ap (λ most. fault_of most c.hold.new.self.held) (c.hold.ensures.most ∙ same)) (c.post_fault.ensures.posted c.args.serializer)
+
+pub returns-in-Err-clause-counts : goal.returns-in-Err-clause-counts
+returns-in-Err-clause-counts g c = counts_none c.args.serializer (g.P.Posting.posted c.args.poster.now) (g.P.Posting.posted c.args.poster.now) (g.P.Posting.weights c.args.poster.now) (g.P.Posting.weights c.args.poster.now) refl refl
+
+pub returns-in-Err-post_whole-clause-counts : goal.returns-in-Err-post_whole-clause-counts
+returns-in-Err-post_whole-clause-counts g c = 
+    counts_then c.args.serializer (g.P.Posting.posted c.args.poster.now) (g.P.Posting.posted c.post_completed.new.poster) (g.P.Posting.posted c.post_whole.new.poster) (g.P.Posting.weights c.args.poster.now) (g.P.Posting.weights c.post_completed.new.poster) (g.P.Posting.weights c.post_whole.new.poster) c.post_completed.ensures.counts c.post_whole.ensures.counts
+
+pub returns-then-is_err-clause-counts : goal.returns-then-is_err-clause-counts
+returns-then-is_err-clause-counts g c = 
+    counts_then c.args.serializer (g.P.Posting.posted c.args.poster.now) (g.P.Posting.posted c.post_completed.new.poster) (g.P.Posting.posted c.post_whole.new.poster) (g.P.Posting.weights c.args.poster.now) (g.P.Posting.weights c.post_completed.new.poster) (g.P.Posting.weights c.post_whole.new.poster) c.post_completed.ensures.counts c.post_whole.ensures.counts
+
+pub returns-clause-counts : goal.returns-clause-counts
+returns-clause-counts g c = 
+    counts_then c.args.serializer (g.P.Posting.posted c.args.poster.now) (g.P.Posting.posted c.post_whole.new.poster) (g.P.Posting.posted c.post_fault.new.poster) (g.P.Posting.weights c.args.poster.now) (g.P.Posting.weights c.post_whole.new.poster) (g.P.Posting.weights c.post_fault.new.poster) (counts_then c.args.serializer (g.P.Posting.posted c.args.poster.now) (g.P.Posting.posted c.post_completed.new.poster) (g.P.Posting.posted c.post_whole.new.poster) (g.P.Posting.weights c.args.poster.now) (g.P.Posting.weights c.post_completed.new.poster) (g.P.Posting.weights c.post_whole.new.poster) c.post_completed.ensures.counts c.post_whole.ensures.counts) (c.post_fault.ensures.counts c.args.serializer)

@@ -3,6 +3,7 @@ use Rattle.std.proofs.Common.{◌≡◌, sym, ap}
 use Rattle.connection.specs.Reader.{read_told}
 use Rattle.connection.specs.declared.reader.ReadEnd.TheVariants.{Ended, ActorGone}
 use Rattle.connection.proofs.ReaderProgress.{departs_ends, departs_same, departs_as}
+use Rattle.connection.proofs.WeightsCounted.{counts_then}
 use Rattle.connection.proofs.reader.read_counted.Goals as goal
 
 pub returns-clause-posted : goal.returns-clause-posted
@@ -20,3 +21,6 @@ returns-clause-reads g c = record {
   is_told = λ here. ap read_told (sym (departs_same c.read_up_to-end.result c.leave.result (g.P.Posting.posted c.read_up_to-end.new.poster) (g.P.Posting.posted c.leave.new.poster) c.leave.ensures.departs here));
   steps = c.read_up_to-end.ensures.reads;
 }
+
+pub returns-clause-counts : goal.returns-clause-counts
+returns-clause-counts g c = counts_then c.args.opened.serializer (g.P.Posting.posted c.args.poster.now) (g.P.Posting.posted c.read_up_to-end.new.poster) (g.P.Posting.posted c.leave.new.poster) (g.P.Posting.weights c.args.poster.now) (g.P.Posting.weights c.read_up_to-end.new.poster) (g.P.Posting.weights c.leave.new.poster) c.read_up_to-end.ensures.counts (c.leave.ensures.counts c.args.opened.serializer)
