@@ -41,13 +41,13 @@ pub returns-in-Err-clause-counts : goal.returns-in-Err-clause-counts
 returns-in-Err-clause-counts g c = counts_none c.args.serializer (g.P.Posting.posted c.args.poster.now) (g.P.Posting.posted c.args.poster.now) (g.P.Posting.weights c.args.poster.now) (g.P.Posting.weights c.args.poster.now) refl refl
 
 pub returns-in-Err-post_whole-clause-counts : goal.returns-in-Err-post_whole-clause-counts
-returns-in-Err-post_whole-clause-counts g c = 
+returns-in-Err-post_whole-clause-counts g c =
     counts_then c.args.serializer (g.P.Posting.posted c.args.poster.now) (g.P.Posting.posted c.post_completed.new.poster) (g.P.Posting.posted c.post_whole.new.poster) (g.P.Posting.weights c.args.poster.now) (g.P.Posting.weights c.post_completed.new.poster) (g.P.Posting.weights c.post_whole.new.poster) c.post_completed.ensures.counts c.post_whole.ensures.counts
 
 pub returns-then-is_err-clause-counts : goal.returns-then-is_err-clause-counts
-returns-then-is_err-clause-counts g c = 
+returns-then-is_err-clause-counts g c =
     counts_then c.args.serializer (g.P.Posting.posted c.args.poster.now) (g.P.Posting.posted c.post_completed.new.poster) (g.P.Posting.posted c.post_whole.new.poster) (g.P.Posting.weights c.args.poster.now) (g.P.Posting.weights c.post_completed.new.poster) (g.P.Posting.weights c.post_whole.new.poster) c.post_completed.ensures.counts c.post_whole.ensures.counts
 
 pub returns-clause-counts : goal.returns-clause-counts
-returns-clause-counts g c = 
+returns-clause-counts g c =
     counts_then c.args.serializer (g.P.Posting.posted c.args.poster.now) (g.P.Posting.posted c.post_whole.new.poster) (g.P.Posting.posted c.post_fault.new.poster) (g.P.Posting.weights c.args.poster.now) (g.P.Posting.weights c.post_whole.new.poster) (g.P.Posting.weights c.post_fault.new.poster) (counts_then c.args.serializer (g.P.Posting.posted c.args.poster.now) (g.P.Posting.posted c.post_completed.new.poster) (g.P.Posting.posted c.post_whole.new.poster) (g.P.Posting.weights c.args.poster.now) (g.P.Posting.weights c.post_completed.new.poster) (g.P.Posting.weights c.post_whole.new.poster) c.post_completed.ensures.counts c.post_whole.ensures.counts) (c.post_fault.ensures.counts c.args.serializer)

@@ -64,5 +64,5 @@ pub returns-in-Err-read_piece-clause-returned : goal.returns-in-Err-read_piece-c
 returns-in-Err-read_piece-clause-returned g c = omega (arith, c.pieces.invariant.returned, stream_back c.in-Err-read_piece.none c.from.result c.from.ensures)
 
 pub returns-in-Err-advance-clause-counts : goal.returns-in-Err-advance-clause-counts
-returns-in-Err-advance-clause-counts g c = 
+returns-in-Err-advance-clause-counts g c =
     counts_then c.args.serializer (g.P.Posting.posted c.args.poster.now) (g.P.Posting.posted c.pieces.poster) (g.P.Posting.posted c.advance.new.poster) (g.P.Posting.weights c.args.poster.now) (g.P.Posting.weights c.pieces.poster) (g.P.Posting.weights c.advance.new.poster) c.pieces.invariant.counts c.advance.ensures.counts
