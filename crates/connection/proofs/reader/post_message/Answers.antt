@@ -1,7 +1,7 @@
-use Rattle.std.proofs.Common.{rules, refl, sym, ◌∙◌, None, [], ◌∷◌}
+use Rattle.std.proofs.Common.{rules, arith, refl, sym, ◌∙◌, None, [], ◌∷◌}
 use Rattle.realm_inbox.specs.declared.act.Act.TheVariants.{Said, Spoilt}
 use Rattle.connection.proofs.FramesPosted.{back_posted, says_more, says_farewell, says_nothing}
-use Rattle.connection.proofs.WeightsCounted.{counts_none}
+use Rattle.connection.proofs.WeightsCounted.{counts_none, counts_one}
 use Rattle.connection.proofs.reader.post_message.Goals as goal
 
 pub returns-in-Err-clause-posted : goal.returns-in-Err-clause-posted
@@ -33,3 +33,11 @@ returns-in-Err-post g c = record {
 
 pub returns-in-Err-post-2-clause-counts : goal.returns-in-Err-post-2-clause-counts
 returns-in-Err-post-2-clause-counts g c = counts_none c.args.serializer (g.P.Posting.posted c.args.poster.now) (g.P.Posting.posted c.post-2.new.poster) (g.P.Posting.weights c.args.poster.now) (g.P.Posting.weights c.post-2.new.poster) c.in-Err-post-2.ensures.back c.in-Err-post-2.ensures.weighed
+
+pub returns-then-last-clause-counts : goal.returns-then-last-clause-counts
+returns-then-last-clause-counts g c =
+    counts_one c.args.serializer (Said c.in-Ok.said) _ (g.P.Posting.posted c.args.poster.now) (g.P.Posting.posted c.post-2.new.poster) (g.P.Posting.weights c.args.poster.now) (g.P.Posting.weights c.post-2.new.poster) (c.args.payload.now, c.in-Ok.ensures.ok, omega (arith, c.weight_of-octets.ensures.least)) c.in_default-post.ensures.posted c.in_default-post.ensures.weighed
+
+pub returns-clause-counts : goal.returns-clause-counts
+returns-clause-counts g c =
+    counts_one c.args.serializer (Said c.in-Ok.said) _ (g.P.Posting.posted c.args.poster.now) (g.P.Posting.posted c.post-2.new.poster) (g.P.Posting.weights c.args.poster.now) (g.P.Posting.weights c.post-2.new.poster) (c.args.payload.now, c.in-Ok.ensures.ok, omega (arith, c.weight_of-octets.ensures.least)) c.in_default-post.ensures.posted c.in_default-post.ensures.weighed
