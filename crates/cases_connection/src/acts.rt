@@ -1,14 +1,17 @@
 //! What is posted, and in words.
-ghost use Rattle.std.specs.Prelude.{◌≡◌, ◌++◌, ◌∷◌, [], MatchResult, false};
+ghost use Rattle.std.specs.Prelude.{◌≡◌, ◌+◌, ◌++◌, ◌∷◌, [], MatchResult, false};
+ghost use Rattle.ghost_state.specs.GhostList.{items_of};
 ghost use Rattle.realm_inbox.specs.Joins.{is_join};
 ghost use Rattle.realm_inbox.specs.Posted.{with_acts};
 ghost use Rattle.cases_connection.specs.Outside.{outside};
 
 use case_text::spell;
+use ghost_state::{GhostCount, GhostList};
 use realm_inbox::{Act, Posting, Shut};
 use session::{CarriedArgs, Said};
 use std::alloc::{AllocError, Global};
 use std::io;
+use std::snapshot::Snapshot;
 use std::sync::Wait;
 
 /// The most acts that a log has room for.
@@ -33,6 +36,9 @@ pub struct Log {
     room: usize,
     // The most octets that one of them counted for.
     heaviest: usize,
+    // They take no bytes.
+    weights: GhostList<usize>,
+    returned: GhostCount,
 }
 
 impl Log {
@@ -42,6 +48,8 @@ impl Log {
             acts: Vec::with_capacity(alloc, ROOM)?,
             room: room.min(ROOM),
             heaviest: 0,
+            weights: GhostList::new(),
+            returned: GhostCount::new(),
         })
     }
 
@@ -95,6 +103,10 @@ impl Log {
 impl Posting<Nowhere> for Log {
     ghost posted = { λ l. outside l.acts.items };
 
+    ghost weights = { λ l. items_of l.weights };
+
+    ghost returned = { λ l. l.returned };
+
     fn post<R: Wait>(
         &mut self,
         _rt: &R,
@@ -102,12 +114,22 @@ impl Posting<Nowhere> for Log {
         octets: usize,
     ) -> Result<(), Act<Nowhere>>
         requires { is_join act ≡ false }
-        ensures { MatchResult result (λ _. outside self.new.acts.items
+        ensures posted { MatchResult result (λ _. outside self.new.acts.items
             ≡ with_acts (outside self.old.acts.items) (act ∷ [])) (λ back. (back ≡ act)
             × (outside self.new.acts.items ≡ outside self.old.acts.items)) }
+        ensures weighed { MatchResult result
+            (λ _. items_of self.new.weights ≡ items_of self.old.weights ++ octets ∷ [])
+            (λ _. items_of self.new.weights ≡ items_of self.old.weights) }
+        ensures returned { MatchResult result (λ _. self.new.returned ≡ self.old.returned)
+            (λ _. self.new.returned ≡ self.old.returned + 1) }
     {
         self.heaviest = self.heaviest.max(octets);
-        self.add(act)
+        let posted = self.add(act);
+        match &posted {
+            Ok(()) => self.weights.add(Snapshot::of(&octets)),
+            Err(_) => self.returned.tick(),
+        }
+        posted
     }
 }
 

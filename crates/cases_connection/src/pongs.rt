@@ -1,5 +1,5 @@
 //! A thread posts PINGs, and another writes their PONGs.
-ghost use Rattle.std.specs.Prelude.{◌≡◌, ◌∷◌, [], MatchResult, false};
+ghost use Rattle.std.specs.Prelude.{◌≡◌, ◌+◌, ◌∷◌, ◌++◌, [], MatchResult, false};
 ghost use Rattle.ghost_state.specs.GhostList.{items_of};
 ghost use Rattle.realm_inbox.specs.Joins.{is_join};
 ghost use Rattle.realm_inbox.specs.Posted.{with_acts};
@@ -8,8 +8,9 @@ ghost use Rattle.cases_connection.specs.Outside.{outside};
 use crate::acts::Nowhere;
 use case_text::{Work, line_of, start};
 use connection::{OwedPongs, PongPoster, share_pongs};
+use ghost_state::{GhostCount, GhostList};
 use message_tree::Octets;
-use realm_inbox::{Act, GhostList, Posting};
+use realm_inbox::{Act, Posting};
 use session::Item;
 use std::alloc::{AllocError, Global};
 use std::io;
@@ -24,25 +25,37 @@ const LOOKS: u64 = 2_000_000;
 /// Counts what is posted, and keeps none of it.
 #[derive(Drop)]
 pub struct Counter {
-    // It takes no bytes.
+    // They take no bytes.
     acts: GhostList<Act<Nowhere>>,
+    weights: GhostList<usize>,
+    returned: GhostCount,
     count: Arc<AtomicU64>,
 }
 
 impl Posting<Nowhere> for Counter {
     ghost posted = { λ c. outside (items_of c.acts) };
 
+    ghost weights = { λ c. items_of c.weights };
+
+    ghost returned = { λ c. c.returned };
+
     fn post<R: Wait>(
         &mut self,
         _rt: &R,
         act: Act<Nowhere>,
-        _octets: usize,
+        octets: usize,
     ) -> Result<(), Act<Nowhere>>
         requires { is_join act ≡ false }
-        ensures { MatchResult result (λ _. outside (items_of self.new.acts)
+        ensures posted { MatchResult result (λ _. outside (items_of self.new.acts)
             ≡ with_acts (outside (items_of self.old.acts)) (act ∷ [])) (λ back. (back ≡ act)
             × (outside (items_of self.new.acts) ≡ outside (items_of self.old.acts))) }
+        ensures weighed { MatchResult result
+            (λ _. items_of self.new.weights ≡ items_of self.old.weights ++ octets ∷ [])
+            (λ _. items_of self.new.weights ≡ items_of self.old.weights) }
+        ensures returned { MatchResult result (λ _. self.new.returned ≡ self.old.returned)
+            (λ _. self.new.returned ≡ self.old.returned + 1) }
     {
+        self.weights.add(Snapshot::of(&octets));
         self.acts.add(Snapshot::of(&act));
         self.count.fetch_add(1, Ordering::SeqCst);
         Ok(())
@@ -146,6 +159,8 @@ pub fn hold_back<R: Threads + Wait + Copy + Send + 'static>(
     let count = Arc::new(alloc, AtomicU64::new(0))?;
     let counter = Counter {
         acts: GhostList::new(),
+        weights: GhostList::new(),
+        returned: GhostCount::new(),
         count: Arc::try_clone(&count)?,
     };
     let pinger = Pinger {

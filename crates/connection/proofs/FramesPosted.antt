@@ -199,14 +199,17 @@ module _ {S : Type 0} (s : Serializer) where
       → PostsAll s (batch [] given) (Breaks fault) before now
   fault_posted given broken fault before now e f posted = subst (λ g. PostsAll s (batch [] g) (Breaks fault) before now) (sym e) (record { acts = act.Spoilt ∷ []; posted = posted; posts = (refl, ap Breaks f) })
 
+  -- where an act came back none of the frames is posted
+  pub back_posted : (end : ReadEnd) (fault : Option stream.Fault) (frames : List Content) (before now : Posted S) → end ≡ reader.ActorGone → now ≡ before → IsPosted s (batch frames fault) before now (Err end)
+  back_posted end fault frames before now is same =
+      subst (λ x. IsPosted s (batch frames fault) before now (Err x)) (sym is)
+      (record { done = []; left = frames; frames_are = refl; acts = []; posted = same ∙ sym (with_none before); posts = (refl, refl) })
+
   -- a PING is posted, or comes back
   pub ping_posted : (result : Result Unit ReadEnd) (payload : List ℕ) (before now : Posted S) → OnOk result (now ≡ with_acts before (act.Ping payload ∷ [])) → OnErr result (now ≡ before) → IfErr result (λ e. e ≡ reader.ActorGone)
       → IsPosted s (batch (record { kind = kind.Ping; payload = payload } ∷ []) None) before now result
   ping_posted (Ok u) payload before now posted back end = record { acts = act.Ping payload ∷ []; posted = posted; posts = record { more = []; acts_are = refl; next = (refl, refl) } }
-  ping_posted (Err e) payload before now posted back end =
-      let frames : List Content = record { kind = kind.Ping; payload = payload } ∷ [] in
-      subst (λ x. IsPosted s (batch frames None) before now (Err x)) (sym end)
-      (record { done = []; left = frames; frames_are = refl; acts = []; posted = back ∙ sym (with_none before); posts = (refl, refl) })
+  ping_posted (Err e) payload before now posted back end = back_posted e None (record { kind = kind.Ping; payload = payload } ∷ []) before now end back
 
   pub Halfway-of : (a b : List Content) (before now : Posted S) → PostsAll s (batch a None) GoesOn before now → Halfway (a ++ b) b before now
   Halfway-of a b before now w = record { done = a; frames_are = refl; acts = w.acts; posted = w.posted; posts = w.posts }

@@ -3,3 +3,4 @@ mod PiecePosted
 mod DrainProgress
 mod ReaderProgress
 mod WriterProgress
+mod WeightsCounted

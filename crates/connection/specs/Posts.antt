@@ -1,5 +1,5 @@
 -- What the frames of a client are posted as.
-use Rattle.std.specs.Prelude.{◌≡◌, ◌⊎◌, ℕ, Bool, true, false, List, [], ◌∷◌, None, Some}
+use Rattle.std.specs.Prelude.{◌≡◌, ◌⊎◌, ◌≤◌, ℕ, Bool, true, false, List, [], ◌∷◌, length, None, Some}
 use Rattle.std.specs.declared.option.Option.{Option}
 use Rattle.rawsocket.specs.Frames.{Content}
 use Rattle.rawsocket.specs.declared.fault.Fault as stream
@@ -68,3 +68,17 @@ module _ {S : Type 0} where
       (SaysMore s c.payload (Posts s fault frames) acts course ⊎ (SaysFarewell s c.payload acts course ⊎ Spoils s c.payload acts course))
       (First (Ping c.payload) (Posts s fault frames) acts course)
       (Posts s fault frames acts course)
+
+  -- an act counts as so many octets: a message as no fewer than a payload has that says it, and a PING as no fewer than its payload has. What
+  -- tells that the client is gone, or broke the protocol, may count as none
+  abbrev pub CountsAs : Serializer → Act S → ℕ → Type 0
+  CountsAs s (Said said) octets = (payload : List ℕ) × Says s payload said × (length payload ≤ octets)
+  CountsAs s (Ping payload) octets = length payload ≤ octets
+  CountsAs s act octets = Unit {0}
+
+  -- each of the acts does, one after the other
+  abbrev pub EachCounts : Serializer → List (Act S) → List ℕ → Type 0
+  EachCounts s [] [] = Unit {0}
+  EachCounts s (act ∷ acts) (octets ∷ weights) = CountsAs s act octets × EachCounts s acts weights
+  EachCounts s [] (octets ∷ weights) = ⊥
+  EachCounts s (act ∷ acts) [] = ⊥

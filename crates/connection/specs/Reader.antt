@@ -12,7 +12,7 @@ use Rattle.rawsocket.specs.declared.handshake.Serializer.{Serializer}
 use Rattle.realm_inbox.specs.Posted.{Posted, with_acts}
 use Rattle.realm_inbox.specs.declared.act.Act.{Act}
 use Rattle.realm_inbox.specs.declared.act.Act.TheVariants.{Gone}
-use Rattle.connection.specs.Posts.{Course, GoesOn, Leaves, Breaks, Posts}
+use Rattle.connection.specs.Posts.{Course, GoesOn, Leaves, Breaks, Posts, EachCounts}
 use Rattle.connection.specs.declared.reader.ReadEnd.{ReadEnd}
 use Rattle.connection.specs.declared.reader.ReadEnd.TheVariants.{Left, Violation, Ended, Device, TooManyTurns, NoMemory, ActorGone}
 
@@ -118,6 +118,14 @@ module _ {S : Type 0} where
     pub posted : now ≡ with_acts before acts
     pub holds : Read octets acts
 
+  -- acts were posted since, and each counted as so many octets
+  pub record CountsSince (s : Serializer) (before now : Posted S) (weights_before weights : List ℕ) : Type 0 where
+    pub acts : List (Act S)
+    pub octets : List ℕ
+    pub posted : now ≡ with_acts before acts
+    pub weighed : weights ≡ weights_before ++ octets
+    pub each : EachCounts s acts octets
+
   -- all of them were posted since
   pub record PostsAll (s : Serializer) (given : Batch) (course : Course) (before now : Posted S) : Type 0 where
     pub acts : List (Act S)
@@ -176,6 +184,16 @@ abbrev pub end_of : NoOctets → ReadEnd
 end_of no_octets.Ended = Ended
 end_of no_octets.Failed = Device
 end_of no_octets.TooManyTurns = TooManyTurns
+
+-- how many acts came back, by the end: one where nobody receives any more, else none
+abbrev pub came_back : ReadEnd → ℕ
+came_back ActorGone = 1
+came_back _ = 0
+
+-- where nothing ended it none did
+abbrev pub came_back_with : {A : Type 0} → Result A ReadEnd → ℕ
+came_back_with (Ok _) = 0
+came_back_with (Err end) = came_back end
 
 -- what an end tells of the stream
 abbrev pub read_told : ReadEnd → Told

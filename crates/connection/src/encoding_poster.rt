@@ -1,5 +1,5 @@
 //! Events are encoded once for many receivers, before they are posted.
-ghost use Rattle.std.specs.Prelude.{◌≡◌, ◌∷◌, [], MatchResult, false};
+ghost use Rattle.std.specs.Prelude.{◌≡◌, ◌∷◌, ◌++◌, ◌+◌, [], MatchResult, false};
 ghost use Rattle.realm_inbox.specs.Joins.{is_join};
 ghost use Rattle.realm_inbox.specs.Posted.{with_acts};
 
@@ -33,11 +33,21 @@ pub struct EncodingPoster<'a, P> {
 impl<S: Shut, P: Posting<S>> Posting<S> for EncodingPoster<'_, P> {
     ghost posted = { λ e. P.posted e.poster };
 
+    ghost weights = { λ e. P.weights e.poster };
+
+    ghost returned = { λ e. P.returned e.poster };
+
     fn post<R: Wait>(&mut self, rt: &R, act: Act<S>, octets: usize) -> Result<(), Act<S>>
         requires { is_join act ≡ false }
-        ensures { MatchResult result (λ _.
+        ensures posted { MatchResult result (λ _.
             P.posted self.new.poster ≡ with_acts (P.posted self.old.poster) (act ∷ []))
             (λ back. (back ≡ act) × (P.posted self.new.poster ≡ P.posted self.old.poster)) }
+        ensures weighed { MatchResult result
+            (λ _. P.weights self.new.poster ≡ P.weights self.old.poster ++ octets ∷ [])
+            (λ _. P.weights self.new.poster ≡ P.weights self.old.poster) }
+        ensures returned { MatchResult result
+            (λ _. P.returned self.new.poster ≡ P.returned self.old.poster)
+            (λ _. P.returned self.new.poster ≡ P.returned self.old.poster + 1) }
     {
         let own = counted(&mut self.using, self.in_use, self.own, &act);
         let act = encoded(self.alloc, self.in_use, own, act);

@@ -1,5 +1,5 @@
 //! The reader of a connection: it reads octets, and posts what they say.
-ghost use Rattle.std.specs.Prelude.{◌≡◌, ◌≢◌, ◌≤◌, ◌<◌, ◌+◌, ◌∷◌, [], None, Ok, Err, ℕ, List, length, take, IfOk, IfErr, OnOk, OnErr, true, false};
+ghost use Rattle.std.specs.Prelude.{◌≡◌, ◌≢◌, ◌≤◌, ◌<◌, ◌+◌, ◌∷◌, ◌++◌, [], None, Ok, Err, ℕ, List, length, take, IfOk, IfErr, OnOk, OnErr, MatchResult, true, false};
 ghost use Rattle.rawsocket.specs.Frames.{content, contents, fault_of};
 ghost use Rattle.rawsocket.specs.Deframer.{IsShort, completed};
 ghost use Rattle.rawsocket.specs.declared.handshake.Serializer.{Serializer};
@@ -7,7 +7,7 @@ ghost use Rattle.rawsocket.specs.Steps.{ReadSteps, read_meter};
 ghost use Rattle.realm_inbox.specs.Joins.{is_join};
 ghost use Rattle.realm_inbox.specs.Posted.{with_acts};
 ghost use Rattle.connection.specs.Posts.{Says, SaysNothing, is_farewell};
-ghost use Rattle.connection.specs.Reader.{IsPosted, IsAdvance, PostsFront, IsReadUpTo, IsReadBy, ReadsSince, ReadsUntil, Departs, batch, read_told, start, taking};
+ghost use Rattle.connection.specs.Reader.{IsPosted, IsAdvance, PostsFront, IsReadUpTo, IsReadBy, ReadsSince, ReadsUntil, Departs, CountsSince, batch, came_back, came_back_with, read_told, start, taking};
 
 use crate::long_turns::{LONG_MESSAGE, LongTurn};
 use crate::weight::weight_of;
@@ -76,6 +76,10 @@ fn post<R: Wait, S: Shut, P: Posting<S>>(
         (P.posted poster.new ≡ with_acts (P.posted poster.old) (act ∷ [])) }
     ensures back { OnErr result (P.posted poster.new ≡ P.posted poster.old) }
     ensures end { IfErr result (λ e. e ≡ ReadEnd.ActorGone) }
+    ensures weighed { MatchResult result
+        (λ _. P.weights poster.new ≡ P.weights poster.old ++ octets ∷ [])
+        (λ _. P.weights poster.new ≡ P.weights poster.old) }
+    ensures returned { P.returned poster.new ≡ P.returned poster.old + came_back_with result }
 {
     match poster.post(rt, act, octets) {
         Ok(()) => Ok(()),
@@ -117,9 +121,12 @@ fn post_message<R: Wait, S: Shut, P: Posting<S>>(
     payload: &[u8],
     poster: &mut P,
 ) -> Result<(), ReadEnd>
-    ensures { IsPosted serializer
+    ensures posted { IsPosted serializer
         (batch (record { kind = Kind.Message; payload = payload.now } ∷ []) None)
         (P.posted poster.old) (P.posted poster.new) result }
+    ensures counts { CountsSince serializer (P.posted poster.old) (P.posted poster.new)
+        (P.weights poster.old) (P.weights poster.new) }
+    ensures returned { P.returned poster.new ≡ P.returned poster.old + came_back_with result }
 {
     let said = match read_in_turn(rt, alloc, turn, serializer, payload) {
         Ok(said) => said,
@@ -148,9 +155,12 @@ fn post_ping<R: Wait, S: Shut, P: Posting<S>>(
     payload: Octets,
     poster: &mut P,
 ) -> Result<(), ReadEnd>
-    ensures { (s : Serializer) → IsPosted s
+    ensures posted { (s : Serializer) → IsPosted s
         (batch (record { kind = Kind.Ping; payload = payload } ∷ []) None)
         (P.posted poster.old) (P.posted poster.new) result }
+    ensures counts { (s : Serializer) → CountsSince s (P.posted poster.old) (P.posted poster.new)
+        (P.weights poster.old) (P.weights poster.new) }
+    ensures returned { P.returned poster.new ≡ P.returned poster.old + came_back_with result }
 {
     let octets = payload.as_slice().len();
     post(rt, poster, Act::Ping(payload), octets)
@@ -166,8 +176,12 @@ fn post_lying<R: Wait, S: Shut, P: Posting<S>>(
     payload: &[u8],
     poster: &mut P,
 ) -> Result<(), ReadEnd>
-    ensures { IsPosted serializer (batch (record { kind = kind; payload = payload.now } ∷ []) None)
+    ensures posted { IsPosted serializer
+        (batch (record { kind = kind; payload = payload.now } ∷ []) None)
         (P.posted poster.old) (P.posted poster.new) result }
+    ensures counts { CountsSince serializer (P.posted poster.old) (P.posted poster.new)
+        (P.weights poster.old) (P.weights poster.new) }
+    ensures returned { P.returned poster.new ≡ P.returned poster.old + came_back_with result }
 {
     match kind {
         Kind::Message => post_message(rt, alloc, turn, serializer, payload, poster),
@@ -188,8 +202,11 @@ fn post_frame<R: Wait, S: Shut, P: Posting<S>>(
     frame: Frame,
     poster: &mut P,
 ) -> Result<(), ReadEnd>
-    ensures { IsPosted serializer (batch (content frame ∷ []) None) (P.posted poster.old)
+    ensures posted { IsPosted serializer (batch (content frame ∷ []) None) (P.posted poster.old)
         (P.posted poster.new) result }
+    ensures counts { CountsSince serializer (P.posted poster.old) (P.posted poster.new)
+        (P.weights poster.old) (P.weights poster.new) }
+    ensures returned { P.returned poster.new ≡ P.returned poster.old + came_back_with result }
 {
     match frame.kind {
         Kind::Ping => post_ping(rt, Octets::from_vec(frame.payload), poster),
@@ -206,8 +223,11 @@ fn post_completed<R: Wait, S: Shut, P: Posting<S>>(
     frame: Option<Frame>,
     poster: &mut P,
 ) -> Result<(), ReadEnd>
-    ensures { IsPosted serializer (batch (completed frame) None) (P.posted poster.old)
+    ensures posted { IsPosted serializer (batch (completed frame) None) (P.posted poster.old)
         (P.posted poster.new) result }
+    ensures counts { CountsSince serializer (P.posted poster.old) (P.posted poster.new)
+        (P.weights poster.old) (P.weights poster.new) }
+    ensures returned { P.returned poster.new ≡ P.returned poster.old + came_back_with result }
 {
     match frame {
         Some(frame) => post_frame(rt, alloc, turn, serializer, frame, poster),
@@ -221,8 +241,11 @@ fn post_fault<R: Wait, S: Shut, P: Posting<S>>(
     fault: Option<rawsocket::Fault>,
     poster: &mut P,
 ) -> Result<(), ReadEnd>
-    ensures { (s : Serializer) → IsPosted s (batch [] fault) (P.posted poster.old)
+    ensures posted { (s : Serializer) → IsPosted s (batch [] fault) (P.posted poster.old)
         (P.posted poster.new) result }
+    ensures counts { (s : Serializer) → CountsSince s (P.posted poster.old) (P.posted poster.new)
+        (P.weights poster.old) (P.weights poster.new) }
+    ensures returned { P.returned poster.new ≡ P.returned poster.old + came_back_with result }
 {
     let Some(fault) = fault else {
         return Ok(());
@@ -242,8 +265,11 @@ fn post_frames<R: Wait, S: Shut, P: Posting<S>>(
     frames: Vec<Frame>,
     poster: &mut P,
 ) -> Result<(), ReadEnd>
-    ensures { IsPosted serializer (batch (contents frames.items) None) (P.posted poster.old)
+    ensures posted { IsPosted serializer (batch (contents frames.items) None) (P.posted poster.old)
         (P.posted poster.new) result }
+    ensures counts { CountsSince serializer (P.posted poster.old) (P.posted poster.new)
+        (P.weights poster.old) (P.weights poster.new) }
+    ensures returned { P.returned poster.new ≡ P.returned poster.old + came_back_with result }
 {
     let mut left = VecDeque::from_vec(frames);
     'frames: while let Some(frame) = left.pop_front() {
@@ -270,6 +296,9 @@ fn post_whole<'p, R: Wait, S: Shut, P: Posting<S>>(
     ensures ended { IfErr result (λ end. (rest : List ℕ)
         × PostsFront deframer.now.most serializer octets.now rest
         (P.posted poster.old) (P.posted poster.new) (Err end)) }
+    ensures counts { CountsSince serializer (P.posted poster.old) (P.posted poster.new)
+        (P.weights poster.old) (P.weights poster.new) }
+    ensures returned { P.returned poster.new ≡ P.returned poster.old + came_back_with result }
 {
     let mut rest = octets;
     'frames: while let Some((kind, payload, after)) = deframer.next_frame(rest) {
@@ -295,6 +324,9 @@ fn advance<R: Wait, S: Shut, P: Posting<S>>(
         (taking piece.now deframer.new.held)
         (P.posted poster.old) (P.posted poster.new) result }
     ensures most { deframer.new.most ≡ deframer.old.most }
+    ensures counts { CountsSince serializer (P.posted poster.old) (P.posted poster.new)
+        (P.weights poster.old) (P.weights poster.new) }
+    ensures returned { P.returned poster.new ≡ P.returned poster.old + came_back_with result }
 {
     let (frame, rest) = match deframer.resume(alloc, piece) {
         Ok(resumed) => resumed,
@@ -326,6 +358,9 @@ fn begin<R: Wait, S: Shut, P: Posting<S>>(
     ensures advances { IsAdvance (start serializer (contents early.items) deframer.old)
         (taking [] deframer.new.held) (P.posted poster.old) (P.posted poster.new) result }
     ensures most { deframer.new.most ≡ deframer.old.most }
+    ensures counts { CountsSince serializer (P.posted poster.old) (P.posted poster.new)
+        (P.weights poster.old) (P.weights poster.new) }
+    ensures returned { P.returned poster.new ≡ P.returned poster.old + came_back_with result }
 {
     if let Err(end) = post_frames(rt, alloc, turn, serializer, early, poster) {
         return Err(end);
@@ -353,6 +388,9 @@ fn read_on<R: Wait, S: Shut, I: Source, P: Posting<S>>(
         (IsReadUpTo (start serializer (contents early.items) deframer) result) }
     ensures ended { result ≡ ReadEnd.Ended → (I.seen source.new).is_ended ≡ true }
     ensures reads { ReadSteps (I.seen source.old) (I.seen source.new) (read_told result) }
+    ensures counts { CountsSince serializer (P.posted poster.old) (P.posted poster.new)
+        (P.weights poster.old) (P.weights poster.new) }
+    ensures returned { P.returned poster.new ≡ P.returned poster.old + came_back result }
 {
     let mut deframer = deframer;
     let mut turns = Turns::new();
@@ -374,7 +412,11 @@ fn read_on<R: Wait, S: Shut, I: Source, P: Posting<S>>(
 
 // Posts that the client is gone, where nothing that it sent ended it.
 fn leave<R: Wait, S: Shut, P: Posting<S>>(rt: &R, poster: &mut P, end: ReadEnd) -> ReadEnd
-    ensures { Departs end (P.posted poster.old) (P.posted poster.new) result }
+    ensures departs { Departs end (P.posted poster.old) (P.posted poster.new) result }
+    ensures counts { (s : Serializer) → CountsSince s (P.posted poster.old) (P.posted poster.new)
+        (P.weights poster.old) (P.weights poster.new) }
+    ensures returned { P.returned poster.new + came_back end
+        ≡ P.returned poster.old + came_back result }
 {
     match end {
         ReadEnd::Left => return end,
@@ -403,6 +445,9 @@ fn read_up_to<R: Wait, S: Shut, I: Source, P: Posting<S>>(
         (start opened.serializer (contents opened.early.items) opened.deframer) result) }
     ensures ended { result ≡ ReadEnd.Ended → (I.seen source.new).is_ended ≡ true }
     ensures reads { ReadSteps (I.seen source.old) (I.seen source.new) (read_told result) }
+    ensures counts { CountsSince opened.serializer (P.posted poster.old) (P.posted poster.new)
+        (P.weights poster.old) (P.weights poster.new) }
+    ensures returned { P.returned poster.new ≡ P.returned poster.old + came_back result }
 {
     let Ok(mut buffer) = vec![in alloc; 0; PIECE] else {
         return ReadEnd::NoMemory;
@@ -426,6 +471,8 @@ fn read_up_to<R: Wait, S: Shut, I: Source, P: Posting<S>>(
 /// octets, and gives as many posts as it completes frames. Nothing is read or posted after what ends it, but that the client is gone:
 /// what the client ends it by is complete within the last 65,536 octets that were read, and not before them.
 ///
+/// Each message is posted as no fewer octets than it has, and each PING: so an inbox that counts them knows what waits.
+///
 /// A failed read is told by [`ReadEnd::Device`], unless nobody receives any more that the client is gone: then by
 /// [`ReadEnd::ActorGone`].
 pub fn read_posts<R: Wait, S: Shut, I: Source, P: Posting<S>>(
@@ -441,6 +488,9 @@ pub fn read_posts<R: Wait, S: Shut, I: Source, P: Posting<S>>(
     ensures ended { result ≡ ReadEnd.Ended → (I.seen source.new).is_ended ≡ true }
     ensures reads { ReadsUntil (read_meter (I.seen source.old)) (read_meter (I.seen source.new))
         result }
+    ensures counts { CountsSince opened.serializer (P.posted poster.old) (P.posted poster.new)
+        (P.weights poster.old) (P.weights poster.new) }
+    ensures returned { P.returned poster.new ≡ P.returned poster.old + came_back result }
 {
     read_counted(rt, alloc, LongTurn::free(), source, opened, poster, &mut 0)
 }
@@ -461,6 +511,9 @@ pub fn read_counted<R: Wait, S: Shut, I: Source, P: Posting<S>>(
     ensures ended { result ≡ ReadEnd.Ended → (I.seen source.new).is_ended ≡ true }
     ensures reads { ReadsUntil (read_meter (I.seen source.old)) (read_meter (I.seen source.new))
         result }
+    ensures counts { CountsSince opened.serializer (P.posted poster.old) (P.posted poster.new)
+        (P.weights poster.old) (P.weights poster.new) }
+    ensures returned { P.returned poster.new ≡ P.returned poster.old + came_back result }
 {
     let end = read_up_to(rt, alloc, turn, source, opened, poster, octets);
     leave(rt, poster, end)

@@ -33,6 +33,7 @@ use Rattle.crossbeam_utils.proofs.sync.parker.RuledUnparker.TheSendSync as unpar
 use Rattle.chronicle.proofs.SendLemmas.{chronicle_send as book_send}
 use Rattle.chronicle.specs.contracts.chronicle.Chronicle as Chronicle
 use Rattle.chronicle.specs.declared.history.History as recorded
+use Rattle.ghost_state.proofs.SendLemmas.{count_send}
 use Rattle.message_tree.proofs.SendLemmas.{octets_send, text_send}
 use Rattle.message_tree.specs.contracts.owned.Octets as Octets
 use Rattle.outbox_queue.proofs.SendLemmas.{outbox_send, recorded_send}
@@ -200,7 +201,7 @@ module _ (S : RattleType) (shut : Ghosts S.Denot) where
   seat_send s = declared_send (Seat.the_type S shut) (search sendable, (search (crosses, sendable) depth 60, (as_row_send (Arc.the_field Backlog.the_row Global.the_row global.ghosts) shared_send, (search (crosses, sendable) depth 60, (sending_send s, (search (bells_send, crosses, sendable) depth 60, (ticket.the_send _ _ key_send, tt)))))))
 
   pub poster_send : IsSend S → IsSend (Poster.the_row S shut)
-  poster_send s = declared_send (Poster.the_type S shut) (search (crosses, sendable) depth 60, (seat_send s, tt))
+  poster_send s = declared_send (Poster.the_type S shut) (search (crosses, sendable) depth 60, (seat_send s, (search (crosses, sendable) depth 60, (search (count_send, crosses, sendable) depth 60, tt))))
 
   pub door_send : IsSend S → IsSend (Door.the_row S shut)
   door_send s = declared_send (Door.the_type S shut) (sending_send s, (search (bells_send, crosses, sendable) depth 60, (ticket.the_send _ _ key_send, tt)))

@@ -68,6 +68,14 @@ module _ {S : Type 0} where
   abbrev pub posted_by : Poster S → Posted S
   posted_by p = record { inbox = Some (inbox_of_poster p); conn = poster_conn p; said = posted p }
 
+  -- as how many octets each act counted that a poster posted
+  abbrev pub weights_by : Poster S → List ℕ
+  weights_by p = items_of p.weights
+
+  -- how many acts came back to a poster
+  abbrev pub returned_by : Poster S → ℕ
+  returned_by p = p.returned
+
   -- the seat of this number, where nothing was posted yet
   abbrev pub IsNewSeat : Place S → ℕ → Seat S → Type 0
   IsNewSeat place k s = (seat_number s ≡ k) × (posted_at s ≡ []) × (inbox_of_seat s ≡ place)

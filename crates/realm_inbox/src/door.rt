@@ -10,6 +10,7 @@ use crate::ends::{Poster, Seat, Sending, Ticket};
 use crate::letter::{Halt, Post};
 use crate::rule::Stops;
 use crate::transport::Shut;
+use ghost_state::{GhostCount, GhostList};
 use std::alloc::{AllocError, Global};
 use std::sync::Wait;
 use wamp_ids::Conn;
@@ -46,7 +47,12 @@ impl<S: Shut> Door<S> {
         ensures same { MatchResult result (λ p. inbox_of_poster p ≡ inbox_of_door self.now)
             (λ _. ⊥) }
     {
-        Ok(Poster { conn, seat })
+        Ok(Poster {
+            conn,
+            seat,
+            weights: GhostList::new(),
+            returned: GhostCount::new(),
+        })
     }
 
     /// Posts a stop, and waits while the inbox is full. False where the inbox is gone; nothing was posted then.

@@ -1,5 +1,5 @@
 //! The ends of an inbox: seats with their posters, and the receiving end.
-ghost use Rattle.std.specs.Prelude.{◌≡◌, ◌≢◌, ◌≤◌, [], ◌∷◌, ◌++◌, true, IfSome, IfOk, IfErr, MatchOption, MatchResult};
+ghost use Rattle.std.specs.Prelude.{◌≡◌, ◌≢◌, ◌≤◌, [], ◌∷◌, ◌++◌, ◌+◌, true, IfSome, IfOk, IfErr, MatchOption, MatchResult};
 ghost use Rattle.crossbeam_channel.specs.Claims.{view, IsSeatAt};
 ghost use Rattle.crossbeam_channel.specs.Ends.{sends_on, receives_on};
 ghost use Rattle.wamp_ids.specs.Numbers.{seat_of};
@@ -19,7 +19,7 @@ use crate::seat_turns::SeatTurns;
 use crate::transport::Shut;
 use crossbeam_channel::{Pass, RuledReceiver, RuledSender, TryRecvError};
 use crossbeam_utils::sync::Parker;
-use ghost_state::GhostList;
+use ghost_state::{GhostCount, GhostList};
 use std::snapshot::Snapshot;
 use std::sync::{Arc, Wait};
 use wamp_ids::{Conn, seat};
@@ -50,11 +50,14 @@ pub struct Seat<S: Shut> {
 
 /// Posts the acts of one connection at its seat. While it lives the inbox has a sender.
 ///
-/// Contracts see its connection, and what was posted at its seat, also by posters before it.
+/// Contracts see its connection, what was posted at its seat, also by posters before it, as how many octets each act counted that it
+/// posted itself, and how many came back to it.
 #[derive(Drop)]
 pub struct Poster<S: Shut> {
     pub(crate) conn: Conn,
     pub(crate) seat: Seat<S>,
+    pub(crate) weights: GhostList<usize>,
+    pub(crate) returned: GhostCount,
     ghost own: { seat_of conn ≡ seat.number },
 }
 
@@ -350,7 +353,12 @@ impl<S: Shut> Seat<S> {
         if self.number != seat(conn) {
             return Err(self);
         }
-        Ok(Poster { conn, seat: self })
+        Ok(Poster {
+            conn,
+            seat: self,
+            weights: GhostList::new(),
+            returned: GhostCount::new(),
+        })
     }
 
     // Tells what the reader's pass, which is of its inbox, and its own know together.
@@ -427,7 +435,7 @@ impl<S: Shut> Drop for Seat<S> {
 }
 
 impl<S: Shut> Poster<S> {
-    ghost use Rattle.realm_inbox.specs.EndViews.{posted, posted_at, poster_conn, seat_number, home_of_poster, home_of_seat, inbox_of_poster, inbox_of_seat};
+    ghost use Rattle.realm_inbox.specs.EndViews.{posted, posted_at, poster_conn, seat_number, home_of_poster, home_of_seat, inbox_of_poster, inbox_of_seat, weights_by, returned_by};
 
     /// Posts an act of its connection, which was read from so many octets of the client's, or from none. A Join brings an outbox of
     /// this connection, and of the chronicle of its inbox, if one is picked for the outbox.
@@ -451,8 +459,18 @@ impl<S: Shut> Poster<S> {
             (λ back. (back ≡ act) × (posted self.new ≡ posted self.old)) }
         ensures same { (poster_conn self.new ≡ poster_conn self.old)
             × (inbox_of_poster self.new ≡ inbox_of_poster self.old) }
+        ensures weighed { MatchResult result
+            (λ _. weights_by self.new ≡ weights_by self.old ++ octets ∷ [])
+            (λ _. weights_by self.new ≡ weights_by self.old) }
+        ensures returned { MatchResult result (λ _. returned_by self.new ≡ returned_by self.old)
+            (λ _. returned_by self.new ≡ returned_by self.old + 1) }
     {
-        self.seat.post(rt, self.conn, act, octets)
+        let posted = self.seat.post(rt, self.conn, act, octets);
+        match &posted {
+            Ok(()) => self.weights.add(Snapshot::of(&octets)),
+            Err(_) => self.returned.tick(),
+        }
+        posted
     }
 
     /// The connection that it posts for.
@@ -468,7 +486,12 @@ impl<S: Shut> Poster<S> {
         ensures posted { posted_at result ≡ posted self }
         ensures same { inbox_of_seat result ≡ inbox_of_poster self }
     {
-        let Poster { conn: _, seat } = self;
+        let Poster {
+            conn: _,
+            seat,
+            weights: _,
+            returned: _,
+        } = self;
         seat
     }
 }
