@@ -9,15 +9,15 @@ use std::alloc::{AllocError, Global};
 use std::sync::Wait;
 use std::time::Clock;
 
-/// Tells of the session that a WELCOME opens, and of each PONG that is written; and counts what is taken and written, and the octets of an
-/// item that can't be.
+/// Tells of the session that a WELCOME opens; and counts what is taken and written, and the octets of an item that can't be. What it is told it
+/// tells the session's PONGs, which keep it.
 #[derive(Drop)]
 pub struct Herald<'a, R> {
     rt: &'a R,
     alloc: Global,
     plan: &'a Plan,
     fate: &'a Fate,
-    pongs: &'a OwedPongs,
+    pongs: OwedPongs,
     realm: usize,
     serializer: Serializer,
     limit: u32,
@@ -37,7 +37,7 @@ impl<'a, R> Herald<'a, R> {
         alloc: Global,
         plan: &'a Plan,
         fate: &'a Fate,
-        pongs: &'a OwedPongs,
+        pongs: OwedPongs,
         realm: usize,
         serializer: Serializer,
         limit: u32,
@@ -93,7 +93,10 @@ impl<R: Wait + Clock> Herald<'_, R> {
 }
 
 impl<R: Wait + Clock> Watch for Herald<'_, R> {
+    ghost told = { λ h. ⟦<OwedPongs as Watch>⟧.told h.pongs };
+
     fn takes(&mut self, item: &Item) {
+        self.pongs.takes(item);
         if self.taken == 0 {
             if let Item::Welcome(who) = item {
                 self.welcome(who);
@@ -117,6 +120,7 @@ impl<R: Wait + Clock> Watch for Herald<'_, R> {
     }
 
     fn gives_up(&mut self, item: &Item, fault: Fault) {
+        self.pongs.gives_up(item, fault);
         if self.plan.log.is_some() && fault == Fault::TooLongForClient {
             self.octets = octets_in(self.alloc, self.serializer, item);
         }

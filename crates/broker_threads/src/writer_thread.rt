@@ -112,7 +112,7 @@ impl<R: Wait + Clock + Copy, O: Sink + Drop + Send + 'static, S: Shut> Work<R> f
             serializer,
             limit,
         } = self;
-        let mut herald = Herald::new(&rt, alloc, &plan, &fate, &pongs, realm, serializer, limit);
+        let mut herald = Herald::new(&rt, alloc, &plan, &fate, pongs, realm, serializer, limit);
         let (drain, end) = write_watched(
             &rt,
             alloc,
@@ -130,7 +130,7 @@ impl<R: Wait + Clock + Copy, O: Sink + Drop + Send + 'static, S: Shut> Work<R> f
         drain.shows();
         let left = Snapshot::of(&drain);
         let seen = drain.into_newest();
-        drop(pongs);
+        drop(herald);
         Written {
             realm,
             sink: Closed::of(sink),

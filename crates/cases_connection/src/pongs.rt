@@ -7,7 +7,7 @@ ghost use Rattle.cases_connection.specs.Outside.{outside};
 
 use crate::acts::Nowhere;
 use case_text::{Work, line_of, start};
-use connection::{OwedPongs, PongPoster, share_pongs};
+use connection::{OwedPongs, PongPoster, Watch, share_pongs};
 use ghost_state::{GhostCount, GhostList};
 use message_tree::Octets;
 use realm_inbox::{Act, Posting};
@@ -139,7 +139,7 @@ fn posted<R: Wait>(rt: &R, count: &AtomicU64, least: u64) -> u64 {
 }
 
 // Writes so many PONGs of so many octets.
-fn write_pongs(alloc: Global, owed: &OwedPongs, deal: Deal) -> Result<(), AllocError> {
+fn write_pongs(alloc: Global, owed: &mut OwedPongs, deal: Deal) -> Result<(), AllocError> {
     for _ in 0..deal.written {
         owed.writes(&Item::Pong(zeros(alloc, deal.octets)?));
     }
@@ -155,7 +155,7 @@ pub fn hold_back<R: Threads + Wait + Copy + Send + 'static>(
     let Some(deal) = Deal::of(text) else {
         return line_of(alloc, "no five numbers");
     };
-    let (pongs, owed) = share_pongs(alloc)?;
+    let (pongs, mut owed) = share_pongs(alloc)?;
     let count = Arc::new(alloc, AtomicU64::new(0))?;
     let counter = Counter {
         acts: GhostList::new(),
@@ -174,7 +174,7 @@ pub fn hold_back<R: Threads + Wait + Copy + Send + 'static>(
     };
     let thread = start(rt, pinger)?;
     let first = posted(&rt, &count, deal.first);
-    write_pongs(alloc, &owed, deal)?;
+    write_pongs(alloc, &mut owed, deal)?;
     let second = posted(&rt, &count, deal.second);
     drop(owed);
     if !thread.join(&rt) {

@@ -4,3 +4,4 @@ mod DrainProgress
 mod ReaderProgress
 mod WriterProgress
 mod WeightsCounted
+mod WatchProgress

@@ -128,11 +128,6 @@ module _ (client : ClientTerms) where
     written = end_behind end h.octets held_before held (item ∷ []) b.octets h.octets_are b.ends;
   }
 
-  pub then_breaks : (result : Result Unit WriteEnd) (item : Item) (taken later : List Item) (before mid now held_before held : List ℕ) → later ≡ taken ++ item ∷ []
-      → HandsOver (output before held_before) (output mid held) → IfErr result (λ end. BreaksAt client end item (output mid held) now) → IfErr result (λ end. WritesSince taken later before now (EndsFrom client end held_before))
-  then_breaks (Ok u) item taken later before mid now held_before held took h b = tt
-  then_breaks (Err end) item taken later before mid now held_before held took h b = one_breaks end item taken later before mid now held_before held took h b
-
   frames_join : (a b : List Item) → frames_of client.serializer (a ++ b) ≡ frames_of client.serializer a ++ frames_of client.serializer b
   frames_join a b = flat_map-append (octets_of client.serializer) a b
 

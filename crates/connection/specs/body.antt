@@ -1,2 +1,3 @@
 -- What only the bodies and their proofs speak of: nothing here has to be believed.
 pub mod Writer
+pub mod Watch

@@ -16,6 +16,8 @@ mod in_use;
 mod long_turns;
 mod pongs;
 mod reader;
+mod told;
+mod watch;
 mod weight;
 mod writer;
 
@@ -25,4 +27,6 @@ pub use in_use::{InUse, Using};
 pub use long_turns::{LongTurn, LongTurns};
 pub use pongs::{AskedPongs, OwedPongs, PongPoster, share_pongs};
 pub use reader::{ReadEnd, read_counted, read_posts};
-pub use writer::{Watch, WriteEnd, write_items, write_watched};
+pub use told::Told;
+pub use watch::Watch;
+pub use writer::{WriteEnd, write_items, write_watched};

@@ -1,10 +1,13 @@
 //! A client that doesn't take its PONGs is read no further.
 ghost use Rattle.std.specs.Prelude.{◌≡◌, ◌∷◌, ◌++◌, ◌+◌, [], MatchResult, false};
+ghost use Rattle.connection.specs.Watch.{told_to};
 ghost use Rattle.realm_inbox.specs.Joins.{is_join};
 ghost use Rattle.realm_inbox.specs.Posted.{with_acts};
 
+use crate::told::Told;
+use crate::watch::Watch;
 use realm_inbox::{Act, Backlog, Posting, Shut};
-use session::Item;
+use session::{Fault, Item};
 use std::alloc::{AllocError, Global};
 use std::sync::{Arc, Wait};
 
@@ -14,9 +17,11 @@ pub struct AskedPongs {
     waiting: Arc<Backlog>,
 }
 
-/// The same PONGs, as the writer knows them. Once this is dropped the reader waits for none.
+/// The same PONGs, as the writer knows them, which tells what it does with its items. Once this is dropped the reader waits for none.
 pub struct OwedPongs {
     waiting: Arc<Backlog>,
+    // It takes no bytes.
+    told: Told,
 }
 
 /// What the two threads of a connection know of its PONGs: none waits yet.
@@ -28,22 +33,36 @@ pub fn share_pongs(alloc: Global) -> Result<(AskedPongs, OwedPongs), AllocError>
     let asked = AskedPongs {
         waiting: Arc::try_clone(&waiting)?,
     };
-    Ok((asked, OwedPongs { waiting }))
+    let owed = OwedPongs {
+        waiting,
+        told: Told::nothing(),
+    };
+    Ok((asked, owed))
 }
 
-impl OwedPongs {
-    /// The writer has written the item.
-    pub fn writes(&self, item: &Item) {
+impl Watch for OwedPongs {
+    ghost told = { λ p. told_to p.told };
+
+    fn takes(&mut self, item: &Item) {
+        self.told.takes(item);
+    }
+
+    fn writes(&mut self, item: &Item) {
+        self.told.writes(item);
         if let Item::Pong(payload) = item {
             self.waiting.give_back(payload.as_slice().len());
         }
+    }
+
+    fn gives_up(&mut self, item: &Item, fault: Fault) {
+        self.told.gives_up(item, fault);
     }
 }
 
 impl Drop for OwedPongs {
     // A reader that waits goes on: nobody writes PONGs any more.
     fn drop(self) {
-        let Self { waiting } = self;
+        let Self { waiting, told: _ } = self;
         waiting.close();
     }
 }

@@ -5,9 +5,13 @@ ghost use Rattle.rawsocket.specs.Steps.{Steps, WriteSteps, told_by, write_meter}
 ghost use Rattle.outbox_queue.specs.Ends.{TookFull, TookUnvouched, TookWhole};
 ghost use Rattle.outbox_queue.specs.Outbox.{MatchDrained};
 ghost use Rattle.session.specs.LargeFrames.{octets_in};
+ghost use Rattle.connection.specs.Watch.{AreTold, AreToldBy, TellsSince};
 ghost use Rattle.connection.specs.Writer.{IsWrittenBy, WritesSince, IsLater, write_told};
+ghost use Rattle.connection.specs.body.Watch.{GivesUp};
 ghost use Rattle.connection.specs.body.Writer.{IsOfDevice, HandsOver, EndsBetween, EndsWith, AddsFrame, BreaksAt, Passes, EndsFrom, output};
 
+use crate::told::Told;
+use crate::watch::Watch;
 use outbox_queue::{Drain, Drained, Next, Owed, Waited};
 use rawsocket::Serializer;
 use rawsocket::devices::{Sink, Turns, write_all};
@@ -38,33 +42,6 @@ pub enum WriteEnd {
     NoMemory,
     /// The device was written 2^32 times. What is written is as for [`WriteEnd::Device`].
     TooManyTurns,
-}
-
-/// Who is shown what a writer does.
-pub trait Watch {
-    /// The writer took an item. Nothing of it is written yet.
-    fn takes(&mut self, item: &Item);
-
-    /// The frame of the item is handed to the device, or is among less than 65,536 octets that the writer holds back.
-    fn writes(&mut self, item: &Item);
-
-    /// The writer gives up, as it can't make the frame of the item, by this fault. Nothing of it is written.
-    fn gives_up(&mut self, item: &Item, fault: Fault);
-
-    /// The writer has ended. So many octets were handed to the device.
-    fn ends(&mut self, _octets: u64) {}
-}
-
-/// Nobody watches.
-#[derive(Clone, Copy, Drop)]
-struct Unwatched;
-
-impl Watch for Unwatched {
-    fn takes(&mut self, _item: &Item) {}
-
-    fn writes(&mut self, _item: &Item) {}
-
-    fn gives_up(&mut self, _item: &Item, _fault: Fault) {}
 }
 
 /// For whom a writer writes: what the client asked for in its handshake.
@@ -297,6 +274,8 @@ fn add_frame<S: Sink, W: Watch>(
         (output (S.seen sink.new).taken gathered.new.frames.items)) }
     ensures ended { IfErr result (λ e. BreaksAt client e item.now
         (output (S.seen sink.old).taken gathered.old.frames.items) (S.seen sink.new).taken) }
+    ensures silent { OnOk result (W.told watch.new ≡ W.told watch.old) }
+    ensures told { IfErr result (λ e. GivesUp e item.now (W.told watch.old) (W.told watch.new)) }
     ensures steps { Steps (write_meter (S.seen sink.old) gathered.old.turns)
         (write_meter (S.seen sink.new) gathered.new.turns) (told_by write_told result) }
 {
@@ -336,6 +315,10 @@ fn write_next<R: Wait, H: Owed<Item>, S: Sink, W: Watch>(
     ensures ended { IfErr result (λ e. WritesSince drain.old.taken drain.new.taken
         (S.seen sink.old).taken (S.seen sink.new).taken
         (EndsFrom client e gathered.old.frames.items)) }
+    ensures told { OnOk result (TellsSince drain.old.taken drain.new.taken
+        (W.told watch.old) (W.told watch.new) AreTold) }
+    ensures told_all { IfErr result (λ e. TellsSince drain.old.taken drain.new.taken
+        (W.told watch.old) (W.told watch.new) (AreToldBy e)) }
     ensures drain { IsLater H.begins drain.old drain.new }
     ensures stopped { result ≡ Err WriteEnd.Stopped
         → drain.old.empty_finds < drain.new.empty_finds }
@@ -355,11 +338,11 @@ fn write_next<R: Wait, H: Owed<Item>, S: Sink, W: Watch>(
         Err(end) => return Err(end),
     };
     watch.takes(&item);
-    let added = add_frame(sink, client, &item, gathered, watch);
-    if added.is_ok() {
-        watch.writes(&item);
+    if let Err(end) = add_frame(sink, client, &item, gathered, watch) {
+        return Err(end);
     }
-    added
+    watch.writes(&item);
+    Ok(())
 }
 
 /// Takes items and writes their frames, one after another, until the outbox is closed and nothing is left in it, or something fails.
@@ -391,7 +374,7 @@ pub fn write_items<R: Wait, H: Owed<Item>, S: Sink>(
         drain,
         sink,
         ClientTerms { serializer, limit },
-        &mut Unwatched,
+        &mut Told::nothing(),
         Until::Closed,
     )
 }
@@ -411,6 +394,8 @@ pub fn write_watched<R: Wait, H: Owed<Item>, S: Sink, W: Watch>(
     requires { limit ≤ 16777215 }
     ensures written { WritesSince drain.taken result.0.taken (S.seen sink.old).taken
         (S.seen sink.new).taken (IsWrittenBy serializer limit result.1) }
+    ensures told { TellsSince drain.taken result.0.taken (W.told watch.old) (W.told watch.new)
+        (AreToldBy result.1) }
     ensures drain { IsLater H.begins drain result.0 }
     ensures stopped { result.1 ≡ WriteEnd.Stopped → drain.empty_finds < result.0.empty_finds }
     ensures whole { result.1 ≡ WriteEnd.Stopped → TookWhole H.owed H.is_over result.0 }
@@ -444,6 +429,8 @@ fn write_until<R: Wait, H: Owed<Item>, S: Sink, W: Watch>(
     requires { client.limit ≤ 16777215 }
     ensures written { WritesSince drain.taken result.0.taken (S.seen sink.old).taken
         (S.seen sink.new).taken (IsWrittenBy client.serializer client.limit result.1) }
+    ensures told { TellsSince drain.taken result.0.taken (W.told watch.old) (W.told watch.new)
+        (AreToldBy result.1) }
     ensures drain { IsLater H.begins drain result.0 }
     ensures stopped { result.1 ≡ WriteEnd.Stopped → drain.empty_finds < result.0.empty_finds }
     ensures whole { result.1 ≡ WriteEnd.Stopped → until ≡ Until.Whole

@@ -1,6 +1,7 @@
 use Rattle.std.proofs.Common.{◌++◌, Err, Some, ap, ◌∙◌, append-nil, subst, sym}
 use Rattle.session.specs.LargeFrames.{octets_in}
 use Rattle.connection.specs.body.Writer.{EndsWith, output}
+use Rattle.connection.proofs.WatchProgress.{gives_up}
 use Rattle.connection.proofs.WriterProgress.{breaks_at, device_breaks}
 use Rattle.connection.proofs.writer.add_frame.Goals as goal
 
@@ -25,3 +26,8 @@ returns-in-Err-clause-ended g c =
     let now = (g.S.Sink.seen c.give_up.new.sink).taken in
     breaks_at c.args.client c.in-Err.fault c.give_up.result c.args.item.now before now c.args.gathered.now.frames.items
     c.requires.held (λ long. c.in-Err.ensures.long (ap Err long)) (subst (λ h. EndsWith c.in-Err.fault c.give_up.result (output before h) now) c.in-Err.ensures.err c.give_up.ensures.ended)
+
+pub returns-in-Err-clause-told : goal.returns-in-Err-clause-told
+returns-in-Err-clause-told g c =
+    gives_up c.in-Err.fault c.give_up.result c.args.item.now (g.W.Watch.told c.args.watch.now) (g.W.Watch.told c.gives_up.new.self)
+    (output (g.S.Sink.seen c.args.sink.now).taken c.write_unless_large.new.out.items) (g.S.Sink.seen c.give_up.new.sink).taken c.give_up.ensures.ended c.gives_up.ensures
