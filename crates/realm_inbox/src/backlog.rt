@@ -76,10 +76,9 @@ impl Backlog {
     fn wait<R: Wait>(&self, rt: &R) {
         for _ in rt.forever() {
             let heard = self.bell.listen();
-            if self.is_closed.load(Ordering::SeqCst) {
-                return;
-            }
-            if self.waiting.load(Ordering::SeqCst) < RESUMED {
+            let is_closed = self.is_closed.load(Ordering::SeqCst);
+            if is_closed || self.waiting.load(Ordering::SeqCst) < RESUMED {
+                self.bell.leave(Some(heard));
                 return;
             }
             self.bell.wait(rt, heard);
@@ -102,11 +101,13 @@ impl Backlog {
     fn await_given<R: Wait>(&self, rt: &R, posted: u64) -> u64 {
         for _ in rt.forever() {
             let heard = self.bell.listen();
-            if self.is_closed.load(Ordering::SeqCst) {
-                return posted;
-            }
-            let given = self.given.load(Ordering::SeqCst);
+            let given = if self.is_closed.load(Ordering::SeqCst) {
+                posted
+            } else {
+                self.given.load(Ordering::SeqCst)
+            };
             if posted.wrapping_sub(given) <= RESUMED_POSTS {
+                self.bell.leave(Some(heard));
                 return given;
             }
             self.bell.wait(rt, heard);

@@ -57,11 +57,15 @@ pub(crate) fn send<T: Drop, V, P: Protocol<T, V>, M: Outcome<T, V> + Lesson<T, V
     for _ in rt.forever() {
         match sender.try_send_as::<M, R>(rt, pass, message) {
             Ok(()) => {
+                bells.room.leave(heard);
                 bells.wake_receiver();
                 return Ok(());
             }
             Err(TrySendError::Full(back)) => message = back,
-            Err(gone) => return Err(gone.into_inner()),
+            Err(gone) => {
+                bells.room.leave(heard);
+                return Err(gone.into_inner());
+            }
         }
         heard = match heard {
             None => Some(bells.room.listen()),

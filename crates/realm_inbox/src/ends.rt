@@ -280,10 +280,10 @@ impl<S: Shut> Inbox<S> {
         poster.seat.compare(&mut self.pass);
     }
 
-    /// Wakes the posters that wait for room. Who receives several posts by [`Inbox::try_receive`] wakes once, after the last; until
-    /// then they may sleep on. Where nobody waits it is no system call.
+    /// Wakes 16 of the posters that wait for room, those first that have waited longest. Who receives several posts by
+    /// [`Inbox::try_receive`] wakes once, after the last; until then they may sleep on. Where nobody waits it is no system call.
     pub fn wake(&self) {
-        self.turns.ring();
+        self.turns.ring_for_some();
     }
 }
 

@@ -2,18 +2,23 @@
 use std::sync::Wait;
 use std::sync::atomic::{AtomicBool, AtomicU64, Ordering};
 
+/// How many of those who wait are woken at once, while the receiving end has other work: woken together, hundreds would take the
+/// processors from it, and all but the first few would find the inbox full again.
+const WOKEN_AT_ONCE: u64 = 16;
+
 /// Posters that find the inbox full wait at it, and the receiving end rings it once it has made room. A ring that nobody waits for is
-/// no system call; one that many wait for is one.
+/// no system call.
 ///
 /// Nothing is promised of it, as another thread may ring at any time. But no ring is missed: a poster listens, then looks once more
 /// whether the inbox is full, and only then waits. So where it was full at that look, room is made after it, and the ring that
-/// follows is heard. A ring that comes earlier ends the wait at once.
+/// follows is heard. A ring that comes earlier ends the wait at once. Those who have waited longest are woken first, and all before
+/// the receiving end sleeps: so each is woken.
 #[derive(Drop)]
 pub(crate) struct RoomBell {
     // How often it was rung.
     rings: AtomicU64,
-    // Whether somebody has listened since it was last rung.
-    is_awaited: AtomicBool,
+    // How many have listened, and neither waited to the end nor left.
+    listeners: AtomicU64,
     // Whether the receiving end sleeps, or is about to.
     is_asleep: AtomicBool,
 }
@@ -22,34 +27,42 @@ impl RoomBell {
     pub(crate) fn new() -> RoomBell {
         RoomBell {
             rings: AtomicU64::new(0),
-            is_awaited: AtomicBool::new(false),
+            listeners: AtomicU64::new(0),
             is_asleep: AtomicBool::new(false),
         }
     }
 
     /// Announces a wait, and gives the count of rings that it is to begin with.
     ///
-    /// The count is read before the announcement. Read after it, it might hold the ring that took the announcement away: then the
-    /// wait would sleep on, and no later ring would come, as nobody seems to wait.
+    /// The count is read before the announcement. Read after it, it might hold a ring for which the room was taken by others: then
+    /// the wait would sleep on, though it was rung for.
     pub(crate) fn listen(&self) -> u64 {
         let heard = self.rings.load(Ordering::SeqCst);
-        self.is_awaited.store(true, Ordering::SeqCst);
+        self.listeners.fetch_add(1, Ordering::SeqCst);
         heard
+    }
+
+    /// Takes an announcement back, if there was one: there is no wait.
+    pub(crate) fn leave(&self, heard: Option<u64>) {
+        if heard.is_some() {
+            self.listeners.fetch_sub(1, Ordering::SeqCst);
+        }
     }
 
     /// Waits until it was rung after that count. A sleep compares its low 32 bits alone.
     pub(crate) fn wait<R: Wait>(&self, rt: &R, heard: u64) {
         for _ in rt.forever() {
             if self.rings.load(Ordering::SeqCst) != heard {
-                return;
+                break;
             }
             self.rings.park(rt, (heard & 0xffff_ffff) as u32);
         }
+        self.listeners.fetch_sub(1, Ordering::SeqCst);
     }
 
-    /// Whether somebody has listened since it was last rung.
+    /// Whether somebody waits, or is about to.
     pub(crate) fn is_awaited(&self) -> bool {
-        self.is_awaited.load(Ordering::SeqCst)
+        self.listeners.load(Ordering::SeqCst) != 0
     }
 
     /// Says that the receiving end is about to sleep. It has to look once more behind this, and only then sleeps: a post that this
@@ -72,9 +85,21 @@ impl RoomBell {
 
     /// Ends the waits of all who have listened.
     pub(crate) fn ring(&self) {
-        if self.is_awaited.load(Ordering::SeqCst) && self.is_awaited.swap(false, Ordering::SeqCst) {
+        if self.is_awaited() {
             self.rings.fetch_add(1, Ordering::SeqCst);
             self.rings.wake_all();
+        }
+    }
+
+    /// Ends the waits of some who have listened, of those first who have waited longest. The others have to be rung for later.
+    pub(crate) fn ring_for_some(&self) {
+        let listeners = self.listeners.load(Ordering::SeqCst);
+        if listeners == 0 {
+            return;
+        }
+        self.rings.fetch_add(1, Ordering::SeqCst);
+        for _ in 0..listeners.min(WOKEN_AT_ONCE) {
+            self.rings.wake_one();
         }
     }
 }

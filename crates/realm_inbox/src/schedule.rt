@@ -16,8 +16,13 @@ const RARELY: u32 = 4;
 const MOST_OF_TURN: u32 = 64;
 
 /// While posts are given as they come, a seat is billed no more at once than so many times what it took before: a look tells of several
-/// seats' posts then, and of the time in which the system didn't let the thread run.
+/// seats' posts then, and of the time in which the system didn't let the thread run. So it is later, too, of what took less than
+/// [`BY_CHANCE`].
 const MOST_BILLED: u64 = 4;
+
+/// What takes less may have taken it by chance: a page that had to be found, an interrupt. Where hundreds of seats wait, whoever is
+/// billed for it waits until each of the others took as much.
+const BY_CHANCE: u64 = 1_000_000;
 
 /// Or no more than so many nanoseconds for each octet of its post, where they are counted: a search takes as long for a topic.
 const MOST_OF_OCTET: u64 = 64;
@@ -29,7 +34,7 @@ pub(crate) const TOLD_AT_ONCE: u32 = 64;
 /// What a seat took.
 #[derive(Clone, Copy, Drop)]
 struct Share {
-    // Nanoseconds, on top of the floor that there was when it began to take them.
+    // Nanoseconds, on top of the floor that there was when it began to take them, or to wait.
     spent: u64,
     // What it was billed by the last look.
     last: u64,
@@ -39,6 +44,8 @@ struct Share {
     tried: u64,
     // How many of its posts were given and not told.
     untold: u32,
+    // Whether posts of it waited when that was last asked.
+    is_waiting: bool,
 }
 
 /// Which seat is next, where several wait: the one that has taken the least time, counting what its next post will probably take.
@@ -49,8 +56,8 @@ struct Share {
 pub(crate) struct Schedule {
     // Of each place from 0 to 256.
     shares: Vec<Share>,
-    // The least time that a seat is counted: what the one had taken that was billed last. It goes along while nobody waits, too, so
-    // that who was at work all day isn't behind who comes anew.
+    // The least time that a seat is counted that begins to wait: what the one has taken that has taken least of those who wait. While
+    // nobody waits, it is what the one had taken that was billed last: so who was at work all day isn't behind who comes anew.
     floor: u64,
     // Whose post was given last, and how many octets of it are counted.
     place: u64,
@@ -73,6 +80,7 @@ impl Schedule {
             most: 0,
             tried: 0,
             untold: 0,
+            is_waiting: false,
         };
         let shares = vec![in alloc; none; SEATS as usize + 1]?;
         Ok(Schedule {
@@ -106,14 +114,37 @@ impl Schedule {
         }
     }
 
-    /// When a place is due, whose next post is of this kind: by the time that it has taken, and that which the post will probably take.
-    pub(crate) fn due_of(&self, place: u64, kind: PostKind) -> u64 {
+    /// The time that a place has taken, of which posts wait. It doesn't change while they do: so who waits comes to its turn, once each
+    /// of the others took as much.
+    pub(crate) fn start_of(&mut self, place: u64) -> u64 {
+        let floor = self.floor;
+        let Some(share) = self.shares.get_mut(place as usize) else {
+            return u64::MAX;
+        };
+        if !share.is_waiting {
+            share.is_waiting = true;
+            share.spent = share.spent.max(floor);
+        }
+        share.spent
+    }
+
+    /// No post of a place waits.
+    pub(crate) fn sit_out(&mut self, place: u64) {
+        if let Some(share) = self.shares.get_mut(place as usize) {
+            share.is_waiting = false;
+        }
+    }
+
+    /// Nobody who waits has taken less than so much.
+    pub(crate) fn raise_floor(&mut self, least: u64) {
+        self.floor = self.floor.max(least);
+    }
+
+    /// What the next post of a place will probably take, which is of this kind.
+    pub(crate) fn probable(&self, place: u64, kind: PostKind) -> u64 {
         match self.shares.get(place as usize) {
-            Some(share) => {
-                let probable = share.last.max(self.untried(share, kind));
-                share.spent.max(self.floor).saturating_add(probable)
-            }
-            None => u64::MAX,
+            Some(share) => share.last.max(self.untried(share, kind)),
+            None => 0,
         }
     }
 
@@ -195,7 +226,7 @@ impl Schedule {
     pub(crate) fn note_time(&mut self, nanos: u64) -> bool {
         self.unseen = 0;
         if let Some(share) = self.shares.get_mut(self.place as usize) {
-            let billed = if self.is_calm {
+            let billed = if self.is_calm || nanos < BY_CHANCE {
                 nanos.min(
                     share
                         .most
@@ -206,8 +237,11 @@ impl Schedule {
             } else {
                 nanos
             };
-            self.floor = self.floor.max(share.spent);
-            share.spent = self.floor.saturating_add(billed);
+            if self.is_calm {
+                share.spent = share.spent.max(self.floor);
+                self.floor = share.spent;
+            }
+            share.spent = share.spent.saturating_add(billed);
             share.last = billed;
             share.most = billed.max(share.most - share.most / 8);
             self.dearest = billed.max(self.dearest - self.dearest / 8);

@@ -90,18 +90,25 @@ impl<S: Shut> SeatLines<S> {
     }
 
     /// The seat whose turn it is, if somebody waits: 0 where a stop alone does.
-    pub(crate) fn next_place(&self, schedule: &Schedule) -> u64 {
+    pub(crate) fn next_place(&self, schedule: &mut Schedule) -> u64 {
         let mut best = 0;
-        let mut least = u64::MAX;
+        let mut first_due = u64::MAX;
+        let mut least_start = u64::MAX;
         for place in 1..=SEATS {
             let Some(kind) = self.next_kind(place) else {
+                schedule.sit_out(place);
                 continue;
             };
-            let due = schedule.due_of(place, kind);
-            if due < least {
-                least = due;
+            let start = schedule.start_of(place);
+            least_start = least_start.min(start);
+            let due = start.saturating_add(schedule.probable(place, kind));
+            if due < first_due {
+                first_due = due;
                 best = place;
             }
+        }
+        if best != 0 {
+            schedule.raise_floor(least_start);
         }
         best
     }

@@ -24,9 +24,14 @@ pub(crate) struct SeatTurns {
 }
 
 impl SeatTurns {
-    /// Wakes who waits for room.
+    /// Wakes all who wait for room: the receiving end has nothing else to do.
     pub(crate) fn ring(&self) {
         self.room.ring();
+    }
+
+    /// Wakes some who wait for room.
+    pub(crate) fn ring_for_some(&self) {
+        self.room.ring_for_some();
     }
 
     /// Says that the receiving end is about to sleep; or, where it has said so and looked once more, sleeps. Whether it has said so
@@ -58,7 +63,7 @@ impl SeatTurns {
         self.unrung = self.unrung.saturating_add(1);
         if self.unrung >= UNRUNG {
             self.unrung = 0;
-            self.room.ring();
+            self.room.ring_for_some();
         }
     }
 
@@ -101,7 +106,7 @@ impl SeatTurns {
                 return place;
             }
         }
-        let place = lines.next_place(&self.schedule);
+        let place = lines.next_place(&mut self.schedule);
         self.schedule.begin_turn(place);
         place
     }
