@@ -1,0 +1,3 @@
+pub mod Dictionaries
+pub mod Reading
+pub mod Values
