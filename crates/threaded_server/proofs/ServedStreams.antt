@@ -190,34 +190,34 @@ module _ {I O S : Type 0} (see : Sight I O) (offer : Offer) (runs : List (RealmR
   session_as : (conn : ℕ) (before : Stream I O S) (source : Closed I) (back : List (Option (Poster S))) (end : ReadEnd) (written : Written O) → (h : IsServed see offer before source.last.value back end written) → (t : IsTied runs conn before.posters written)
       → IsSession see offer (map realm_of runs) (seated_as conn before source back (course.Served end written)) conn (record { read = end; write = written.end })
   session_as conn before source back end written h t =
-    let a = served_as conn before source.last.value back end written h t in
-    let m = meanwhile before source.last.value back end written h in
-    let writes = h.talks.writes in
-    let begins = h.talks.begins in
-    record {
-      hello = h.session;
-      source = h.opened_source;
-      sink = h.opened_sink;
-      opened = record { opens = h.opens.opens; same = h.opens.same };
-      realm = realm_of t.run;
-      named = map_get realm_of runs h.session.realm t.run (ap (slice_get runs) (sym a.0) ∙ t.at);
-      there = a.0;
-      join = h.talks.joining;
-      joins = record { asks = begins.asks; outbox = begins.outbox ∙ ap (λ (q : TableId). new_outbox q offer.room (poster_conn h.poster) (home_of_poster h.poster)) queue ∙ ap (λ (n : ℕ). new_outbox h.talks.joining.outbox.queue offer.room n (home_of_poster h.poster)) a.1 ∙ ap (new_outbox h.talks.joining.outbox.queue offer.room conn) home };
-      says = subst (λ (acts : List (Act S)). SaysSome see.reading h.session h.talks.joining h.opened_source source.last.value end acts) (sym (acts_as conn before source.last.value back end written h t)) m.says;
-      items = written.drain.value.taken;
-      written = record {
-        octets = writes.written.octets;
-        wrote = writes.written.wrote ∙ ap (λ (o : O). (see.writing o).taken ++ writes.written.octets) begins.writes_to;
-        says = subst (λ (s : Serializer). IsWrittenBy s (min h.session.limit 16777215) written.end written.drain.value.taken writes.written.octets) begins.serializer
-            (subst (λ (n : ℕ). IsWrittenBy h.talks.writer.serializer n written.end written.drain.value.taken writes.written.octets) begins.limit
-            (subst (λ (items : List Item). IsWrittenBy h.talks.writer.serializer h.talks.writer.limit written.end items writes.written.octets) (sym took) writes.written.written));
-        steps = subst (λ (o : O). WriteSteps (see.writing o) (see.writing written.sink.last.value) (write_told written.end)) begins.writes_to writes.steps;
-      };
-      due = subst (λ (c : ℕ). Owes owed t.run.ended.value.chronicle.history c written.drain.value.taken) t.own t.owes;
-      whole = λ stopped. subst (λ (c : ℕ). AreAllOwed t.run.ended.value.chronicle.history c written.drain.value.taken) t.own (t.whole stopped);
-      full = λ found. subst (λ (n : ℕ). n ≤ length written.drain.value.taken) (writes.later.capacity ∙ begins.new.5) (t.full found);
-    }
+      let a = served_as conn before source.last.value back end written h t in
+      let m = meanwhile before source.last.value back end written h in
+      let writes = h.talks.writes in
+      let begins = h.talks.begins in
+      record {
+        hello = h.session;
+        source = h.opened_source;
+        sink = h.opened_sink;
+        opened = record { opens = h.opens.opens; same = h.opens.same };
+        realm = realm_of t.run;
+        named = map_get realm_of runs h.session.realm t.run (ap (slice_get runs) (sym a.0) ∙ t.at);
+        there = a.0;
+        join = h.talks.joining;
+        joins = record { asks = begins.asks; outbox = begins.outbox ∙ ap (λ (q : TableId). new_outbox q offer.room (poster_conn h.poster) (home_of_poster h.poster)) queue ∙ ap (λ (n : ℕ). new_outbox h.talks.joining.outbox.queue offer.room n (home_of_poster h.poster)) a.1 ∙ ap (new_outbox h.talks.joining.outbox.queue offer.room conn) home };
+        says = subst (λ (acts : List (Act S)). SaysSome see.reading h.session h.talks.joining h.opened_source source.last.value end acts) (sym (acts_as conn before source.last.value back end written h t)) m.says;
+        items = written.drain.value.taken;
+        written = record {
+          octets = writes.written.octets;
+          wrote = writes.written.wrote ∙ ap (λ (o : O). (see.writing o).taken ++ writes.written.octets) begins.writes_to;
+          says = subst (λ (s : Serializer). IsWrittenBy s (min h.session.limit 16777215) written.end written.drain.value.taken writes.written.octets) begins.serializer
+              (subst (λ (n : ℕ). IsWrittenBy h.talks.writer.serializer n written.end written.drain.value.taken writes.written.octets) begins.limit
+              (subst (λ (items : List Item). IsWrittenBy h.talks.writer.serializer h.talks.writer.limit written.end items writes.written.octets) (sym took) writes.written.written));
+          steps = subst (λ (o : O). WriteSteps (see.writing o) (see.writing written.sink.last.value) (write_told written.end)) begins.writes_to writes.steps;
+        };
+        due = subst (λ (c : ℕ). Owes owed t.run.ended.value.chronicle.history c written.drain.value.taken) t.own t.owes;
+        whole = λ stopped. subst (λ (c : ℕ). AreAllOwed t.run.ended.value.chronicle.history c written.drain.value.taken) t.own (t.whole stopped);
+        full = λ found. subst (λ (n : ℕ). n ≤ length written.drain.value.taken) (writes.later.capacity ∙ begins.new.5) (t.full found);
+      }
     where
       took : written.drain.value.taken ≡ h.talks.writes.written.items
       took = h.talks.writes.written.took ∙ ap (λ l. l ++ h.talks.writes.written.items) h.talks.begins.new.3
