@@ -129,10 +129,10 @@ of_message-aside (heard.Goodbye reason) = record { input = refl; output = refl }
 of_message-aside _ = record { input = refl; output = refl }
 
 pub of_message-here : (h : Heard) → IsOfHere (of_message h)
-of_message-here (heard.Abort reason) = record { source = refl; sink = refl; end = refl }
-of_message-here (heard.Error kind request reason) = record { source = refl; sink = refl; end = refl }
-of_message-here (heard.Goodbye reason) = record { source = refl; sink = refl; end = refl }
-of_message-here _ = record { source = refl; sink = refl; end = refl }
+of_message-here (heard.Abort reason) = record { other = refl; source = refl; sink = refl; end = refl }
+of_message-here (heard.Error kind request reason) = record { other = refl; source = refl; sink = refl; end = refl }
+of_message-here (heard.Goodbye reason) = record { other = refl; source = refl; sink = refl; end = refl }
+of_message-here _ = record { other = refl; source = refl; sink = refl; end = refl }
 
 -- a fault of the broker tells nothing of the standard input
 pub aside-input : {X : Type 0} (r : Result X Fault) → IfErr r IsOfBroker → told_by input_told r ≡ Fine

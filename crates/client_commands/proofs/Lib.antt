@@ -1,3 +1,4 @@
+pub mod BreakLemmas
 pub mod CauseLemmas
 pub mod ContinuingLemmas
 pub mod ControlsLemmas

@@ -66,6 +66,11 @@ IsOfNoContents fault = is_of_contents fault ≡ false
 abbrev pub is_blamed : Fault → Bool
 is_blamed fault = is_of_message fault || is_of_contents fault
 
+-- a fault of the connection to the broker
+abbrev pub is_connection : Fault → Bool
+is_connection (Connection fault) = true
+is_connection _ = false
+
 -- the broker ended the connection
 abbrev pub is_end : Fault → Bool
 is_end (Connection link.Ended) = true
@@ -135,8 +140,9 @@ pub record IsOfBroker (fault : Fault) : Type 0 where
   pub input : input_told fault ≡ Fine
   pub output : output_told fault ≡ Fine
 
--- a fault that tells nothing of the connection to the broker
+-- a fault that is none of the connection to the broker, and tells nothing of it
 pub record IsOfHere (fault : Fault) : Type 0 where
+  pub other : is_connection fault ≡ false
   pub source : source_told fault ≡ Fine
   pub sink : sink_told fault ≡ Fine
   pub end : IsNoEnd fault

@@ -8,5 +8,6 @@ pub mod Lines
 pub mod Pacing
 pub mod Published
 pub mod Ends
+pub mod Breaks
 pub mod WholeInput
 pub mod Reconnecting

@@ -1,11 +1,12 @@
 //! What is said and heard in a session, with the faults of a command.
-ghost use Rattle.std.specs.Prelude.{◌≡◌, ◌++◌, IfErr, IfOk, OnOk, Ok};
+ghost use Rattle.std.specs.Prelude.{◌≡◌, ◌++◌, Err, IfErr, IfOk, OnOk, Ok};
 ghost use Rattle.rawsocket.specs.Devices.{Takes, TakesBeginning};
 ghost use Rattle.rawsocket.specs.Steps.{Fine, ReadSteps, WriteSteps, told_by};
 ghost use Rattle.session.specs.Opened.{exchanged};
-ghost use Rattle.client_session.specs.Hearing.{HearsNext, ListensNext};
-ghost use Rattle.client_session.specs.Saying.{saying};
+ghost use Rattle.client_session.specs.Hearing.{HearsNext, ListensNext, terms};
+ghost use Rattle.client_session.specs.Saying.{IsCutShort, saying};
 ghost use Rattle.client_commands.specs.Acts.{Continues, standing_of, terms_of};
+ghost use Rattle.client_commands.specs.Breaks.{ByLink};
 ghost use Rattle.client_commands.specs.Faults.{IsNoEnd, IsOfBroker, IsOfHere, IsOfLink, IsOfNoContents, IsOfNoMessage, ReadFailuresTold, TellsEnd, WriteFailuresTold, of_message, sink_told, source_told};
 
 use crate::fault::Fault;
@@ -26,6 +27,9 @@ pub(crate) fn say<O: Sink>(
         (saying link.now.serializer said) }
     ensures unread { told_by source_told result ≡ Fine }
     ensures link { IfErr result IsOfLink }
+    ensures cut { IfErr result (ByLink (IsCutShort
+        (terms link.now.serializer link.now.limit) said (O.seen sink.old).taken
+        (O.seen sink.new).taken)) }
     ensures unblamed { IfErr result IsOfNoMessage }
     ensures carried { IfErr result IsOfNoContents }
     ensures unended { IfErr result IsNoEnd }
@@ -48,6 +52,9 @@ pub(crate) fn hear<I: Source, O: Sink>(
     ensures next { IfOk result (λ heard. HearsNext (terms_of session.old)
         (standing_of session.old (I.seen source.old) (O.seen sink.old))
         (standing_of session.new (I.seen source.new) (O.seen sink.new)) (Ok heard)) }
+    ensures cause { IfErr result (ByLink (λ f. HearsNext (terms_of session.old)
+        (standing_of session.old (I.seen source.old) (O.seen sink.old))
+        (standing_of session.new (I.seen source.new) (O.seen sink.new)) (Err f))) }
     ensures goes_on { Continues (exchanged (I.seen source.old) (O.seen sink.old))
         (exchanged (I.seen source.new) (O.seen sink.new)) }
     ensures unblamed { IfErr result IsOfNoMessage }

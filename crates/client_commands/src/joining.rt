@@ -4,6 +4,7 @@ ghost use Rattle.rawsocket.specs.Steps.{told_by};
 ghost use Rattle.session.specs.Opened.{exchanged};
 ghost use Rattle.client_messages.specs.declared.client_message.ClientMessage.TheVariants.{Hello as HelloSaid};
 ghost use Rattle.client_commands.specs.Acts.{IsTurnedAway, Joins};
+ghost use Rattle.client_commands.specs.Breaks.{ByLink, FailsToJoin};
 ghost use Rattle.client_commands.specs.Faults.{IsOfBroker, IsOfNoContents, ReadFailuresTold, TellsEnd, WriteFailuresTold, is_of_message, sink_told, source_told};
 
 use crate::command::Contact;
@@ -50,6 +51,9 @@ pub(crate) fn join<I: Source, O: Sink>(
         contact.now.serializer contact.now.realm contact.now.authid
         (exchanged (I.seen source.old) (O.seen sink.old))
         (exchanged (I.seen source.new) (O.seen sink.new)) fault) }
+    ensures broke { IfErr result (ByLink (FailsToJoin contact.now.serializer contact.now.realm
+        contact.now.authid (exchanged (I.seen source.old) (O.seen sink.old))
+        (exchanged (I.seen source.new) (O.seen sink.new)))) }
     ensures carried { IfErr result IsOfNoContents }
     ensures gone { IfErr result (TellsEnd (I.seen source.new).is_ended) }
     ensures aside { IfErr result IsOfBroker }

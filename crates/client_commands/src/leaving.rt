@@ -3,8 +3,9 @@ ghost use Rattle.std.specs.Prelude.{◌≡◌, ◌++◌, IfErr, OnOk, true};
 ghost use Rattle.rawsocket.specs.Devices.{Takes, TakesBeginning};
 ghost use Rattle.rawsocket.specs.Steps.{Fine, told_by};
 ghost use Rattle.session.specs.Opened.{exchanged};
-ghost use Rattle.client_session.specs.Saying.{saying};
+ghost use Rattle.client_session.specs.Saying.{IsCutShort, saying};
 ghost use Rattle.client_commands.specs.Acts.{Continues, IsCaused, Leaves, may_come, standing_of, terms_of, writing};
+ghost use Rattle.client_commands.specs.Breaks.{ByLink, FailsToLeave};
 ghost use Rattle.client_commands.specs.Faults.{IsNoEnd, IsOfBroker, IsOfNoContents, ReadFailuresTold, TellsEnd, WriteFailuresTold, is_of_message, sink_told, source_told};
 
 use crate::fault::Fault;
@@ -44,6 +45,9 @@ pub(crate) fn leave<I: Source, O: Sink>(
         (standing_of session.old (I.seen source.old) (O.seen sink.old))
         (saying session.old.line.serializer ClientMessage.Goodbye))
         (exchanged (I.seen source.new) (O.seen sink.new))) }
+    ensures broke { IfErr result (ByLink (FailsToLeave (terms_of session.old)
+        (standing_of session.old (I.seen source.old) (O.seen sink.old))
+        (exchanged (I.seen source.new) (O.seen sink.new)))) }
     ensures carried { IfErr result IsOfNoContents }
     ensures gone { IfErr result (TellsEnd (I.seen source.new).is_ended) }
     ensures aside { IfErr result IsOfBroker }
@@ -55,7 +59,7 @@ pub(crate) fn leave<I: Source, O: Sink>(
     if let Err(fault) = say(alloc, session.link(), sink, ClientMessage::Goodbye) {
         return Err(fault);
     }
-    'messages: for _ in 0..u64::MAX {
+    'messages: for count in 0..u64::MAX {
         let heard = match hear(alloc, session, source, sink) {
             Ok(heard) => heard,
             Err(fault) => return Err(fault),
@@ -84,6 +88,8 @@ pub(crate) fn answer_goodbye<O: Sink>(
     ensures begun { TakesBeginning (O.seen sink.old) (O.seen sink.new)
         (saying session.now.line.serializer ClientMessage.GoodbyeAndOut) }
     ensures closed { is_of_message result ≡ true → result ≡ Fault.Closed reason }
+    ensures cut { ByLink (IsCutShort (terms_of session.now) ClientMessage.GoodbyeAndOut
+        (O.seen sink.old).taken (O.seen sink.new).taken) result }
     ensures carried { IsOfNoContents result }
     ensures unended { IsNoEnd result }
     ensures unread { source_told result ≡ Fine }

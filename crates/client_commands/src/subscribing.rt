@@ -1,12 +1,14 @@
 //! `subscribe`.
-ghost use Rattle.std.specs.Prelude.{◌≡◌, ◌++◌, ◌⊎◌, IfOk, IfErr, OnErr, OnOk, Some, length, true};
+ghost use Rattle.std.specs.Prelude.{◌≡◌, ◌++◌, ◌⊎◌, ℕ, List, IfOk, IfErr, OnErr, OnOk, Ok, Some, length, true};
 ghost use Rattle.rawsocket.specs.Devices.{Takes, TakesBeginning};
 ghost use Rattle.rawsocket.specs.Steps.{Fine, Steps, WriteSteps, told_by, write_meter};
 ghost use Rattle.session.specs.Opened.{exchanged};
 ghost use Rattle.client_messages.specs.declared.client_message.ClientMessage.TheVariants.{Subscribe as SubscribeSaid};
 ghost use Rattle.client_messages.specs.Wishes.{subscribe_options};
-ghost use Rattle.client_messages.specs.declared.heard.Heard.TheVariants.{Subscribed as SubscribedHeard};
+ghost use Rattle.client_messages.specs.declared.heard.Heard.TheVariants.{Goodbye, Subscribed as SubscribedHeard};
+ghost use Rattle.client_session.specs.Hearing.{HearsNext, terms};
 ghost use Rattle.client_commands.specs.Acts.{EndsAfterAsking, Follows, IsCaused, IsSilent, IsTurnedAway, Prints, PrintsAfterAsking, Subscribes, asked, granted_with, is_event, line_for, may_come, note_for, standing_of, terms_of};
+ghost use Rattle.client_commands.specs.Breaks.{AsksPartly, ByLink, GivesOut, LosesLink, TellsAllUntil};
 ghost use Rattle.client_commands.specs.Notes.{IsNoted, noting};
 ghost use Rattle.client_commands.specs.Faults.{IsNoEnd, IsOfBroker, IsOfHere, IsOfMessage, IsOfNoMessage, ReadFailuresTold, TellsEnd, WriteFailuresTold, is_of_message, output_told, sink_told, source_told};
 
@@ -59,6 +61,9 @@ fn ask<O: Sink>(
     ensures asked { OnOk result (Takes (O.seen sink.old) (O.seen sink.new) (asked
         link.now.serializer command.now.wishes command.now.topics.items
         (length command.now.topics.items))) }
+    ensures partly { IfErr result (ByLink (AsksPartly
+        (terms link.now.serializer link.now.limit) command.now.wishes
+        command.now.topics.items (O.seen sink.old).taken (O.seen sink.new).taken)) }
     ensures unblamed { IfErr result IsOfNoMessage }
     ensures unended { IfErr result IsNoEnd }
     ensures unread { told_by source_told result ≡ Fine }
@@ -227,6 +232,21 @@ fn follow<I: Source, O: Sink, P: Sink, N: Sink, T: Timing>(
     ensures cause { IfErr result (IsCaused (terms_of session.old)
         (standing_of session.old (I.seen source.old) (O.seen sink.old))
         (exchanged (I.seen source.new) (O.seen sink.new))) }
+    ensures broke { IfErr result (ByLink (λ f. TellsAllUntil command.now.form
+        command.now.topics.items (terms_of session.old)
+        (standing_of session.old (I.seen source.old) (O.seen sink.old))
+        (P.seen output.old).taken (P.seen output.new).taken (noting (N.seen notes.old))
+        (noting (N.seen notes.new)) listener.old.left listener.new.left
+        (λ heards now. GivesOut (terms_of session.old) heards now
+        (exchanged (I.seen source.new) (O.seen sink.new)) f))) }
+    ensures closed { IfErr result (λ fault. (reason : List ℕ) → fault ≡ Fault.Closed reason
+        → TellsAllUntil command.now.form command.now.topics.items (terms_of session.old)
+        (standing_of session.old (I.seen source.old) (O.seen sink.old))
+        (P.seen output.old).taken (P.seen output.new).taken (noting (N.seen notes.old))
+        (noting (N.seen notes.new)) listener.old.left listener.new.left
+        (λ heards now. HearsNext (terms_of session.old) now
+        (standing_of session.new (I.seen source.new) (O.seen sink.new))
+        (Ok (Goodbye reason)))) }
     ensures gone { IfErr result (TellsEnd (I.seen source.new).is_ended) }
     ensures reads { ReadFailuresTold (I.seen source.old) (I.seen source.new)
         (told_by source_told result) }
@@ -237,7 +257,7 @@ fn follow<I: Source, O: Sink, P: Sink, N: Sink, T: Timing>(
 {
     let mut granted = Vec::new(alloc);
     let mut turns = Turns::new();
-    'messages: for _ in 0..u64::MAX {
+    'messages: for count in 0..u64::MAX {
         listener.settle(&command.topics, &granted, timing);
         if listener.is_done() {
             return Ok(());
@@ -317,6 +337,11 @@ pub fn subscribe<I: Source, O: Sink, P: Sink, N: Sink, T: Timing>(
         command.now.wishes command.now.topics.items
         (exchanged (I.seen source.old) (O.seen sink.old))
         (exchanged (I.seen source.new) (O.seen sink.new)) fault) }
+    ensures broke { IfErr result (ByLink (LosesLink command.now
+        (exchanged (I.seen source.old) (O.seen sink.old))
+        (exchanged (I.seen source.new) (O.seen sink.new)) (P.seen output.old).taken
+        (P.seen output.new).taken (noting (N.seen notes.old)) (noting (N.seen notes.new))
+        listener.old.left listener.new.left)) }
     ensures gone { IfErr result (TellsEnd (I.seen source.new).is_ended) }
     ensures reads { ReadFailuresTold (I.seen source.old) (I.seen source.new)
         (told_by source_told result) }

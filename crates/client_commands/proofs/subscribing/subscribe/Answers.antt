@@ -7,6 +7,7 @@ use Rattle.client_session.specs.Hearing.{Terms}
 use Rattle.client_session.specs.Saying.{saying}
 use Rattle.client_commands.specs.Acts.{EndsByMessage, Leaves, standing_of, terms_of, writing}
 use Rattle.client_commands.specs.Notes.{noting}
+use Rattle.client_commands.proofs.BreakLemmas.{lost-asking, lost-closing, lost-following, lost-joining, lost-leaving}
 use Rattle.client_commands.proofs.CauseLemmas.{closed-of, ends-after, ends-later}
 use Rattle.client_commands.proofs.ContinuingLemmas.{continues-begun, continues-still}
 use Rattle.client_commands.proofs.ListeningLemmas.{asked-all, printed-after}
@@ -90,6 +91,35 @@ returns-in-Ok-follow-clause-cause g c =
     }))))
     c.leave.ensures.cause
 
+pub returns-in-Err-clause-broke : goal.returns-in-Err-clause-broke
+returns-in-Err-clause-broke g c =
+    lost-joining c.args.command.now (exchanged (g.I.Source.seen c.args.source.now) (g.O.Sink.seen c.args.sink.now)) (exchanged (g.I.Source.seen c.join.new.source) (g.O.Sink.seen c.join.new.sink))
+    (g.P.Sink.seen c.args.output.now).taken (noting (g.N.Sink.seen c.args.notes.now)) c.args.listener.now.left c.in-Err.fault c.in-Err.ensures.broke
+
+pub returns-in-Err-ask-clause-broke : goal.returns-in-Err-ask-clause-broke
+returns-in-Err-ask-clause-broke g c =
+    lost-asking c.args.command.now (exchanged (g.I.Source.seen c.args.source.now) (g.O.Sink.seen c.args.sink.now)) (exchanged (g.I.Source.seen c.join.new.source) (g.O.Sink.seen c.ask.new.sink))
+    (g.P.Sink.seen c.args.output.now).taken (noting (g.N.Sink.seen c.args.notes.now)) c.args.listener.now.left c.in-Err-ask.fault c.in-Ok.session c.link.result.now (g.I.Source.seen c.join.new.source).given (g.O.Sink.seen c.join.new.sink).taken
+    c.in-Ok.ensures.joined c.link.ensures refl c.in-Err-ask.ensures.partly
+
+pub returns-in-Err-Closed-clause-broke : goal.returns-in-Err-Closed-clause-broke
+returns-in-Err-Closed-clause-broke g c =
+    let after = standing_of c.follow.new.session (g.I.Source.seen c.follow.new.source) (g.O.Sink.seen c.follow.new.sink) in
+    lost-closing c.args.command.now (exchanged (g.I.Source.seen c.args.source.now) (g.O.Sink.seen c.args.sink.now)) (exchanged (g.I.Source.seen c.follow.new.source) (g.O.Sink.seen c.answer_goodbye.new.sink)) (g.P.Sink.seen c.args.output.now).taken (g.P.Sink.seen c.follow.new.output).taken
+    (noting (g.N.Sink.seen c.args.notes.now)) (noting (g.N.Sink.seen c.follow.new.notes)) c.args.listener.now.left c.follow.new.listener.left c.answer_goodbye.result c.in-Ok.session c.link.result.now.serializer (g.I.Source.seen c.join.new.source).given (g.O.Sink.seen c.join.new.sink).taken (g.O.Sink.seen c.ask.new.sink).taken
+    c.in-Err-Closed.reason after (terms_of c.follow.new.session) c.in-Ok.ensures.joined (ap (λ l. l.serializer) c.link.ensures) c.in_default.ensures.asked
+    (c.in-Err-Closed.ensures.closed c.in-Err-Closed.reason (cc (c.in-Err-Closed.field-0-is, c.in-Err-Closed.reason-is))) c.follow.ensures.terms refl c.answer_goodbye.ensures.cut
+
+pub returns-in-Ok-follow-clause-broke : goal.returns-in-Ok-follow-clause-broke
+returns-in-Ok-follow-clause-broke g c =
+    let heard = standing_of c.follow.new.session (g.I.Source.seen c.follow.new.source) (g.O.Sink.seen c.follow.new.sink) in
+    IfErr-weaker c.leave.result _ _
+    (λ fault broke. lost-leaving c.args.command.now (exchanged (g.I.Source.seen c.args.source.now) (g.O.Sink.seen c.args.sink.now)) (exchanged (g.I.Source.seen c.leave.new.source) (g.O.Sink.seen c.leave.new.sink)) (g.P.Sink.seen c.args.output.now).taken (g.P.Sink.seen c.follow.new.output).taken
+    (noting (g.N.Sink.seen c.args.notes.now)) (noting (g.N.Sink.seen c.follow.new.notes)) c.args.listener.now.left c.follow.new.listener.left fault c.in-Ok.session c.link.result.now.serializer (g.I.Source.seen c.join.new.source).given (g.O.Sink.seen c.join.new.sink).taken (g.O.Sink.seen c.ask.new.sink).taken
+    heard (terms_of c.follow.new.session) c.in-Ok.ensures.joined (ap (λ l. l.serializer) c.link.ensures) c.in_default.ensures.asked
+    c.in-Ok-follow.ensures.follows c.in-Ok-follow.ensures.done c.follow.ensures.terms broke)
+    c.leave.ensures.broke
+
 pub returns : goal.returns
 returns g c =
     let command = c.args.command.now in
@@ -105,6 +135,9 @@ returns g c =
       cause = λ is. inr (ends-after command.contact.serializer c.link.result.now.serializer command.contact.realm command.contact.authid command.wishes command.topics.items (exchanged (g.I.Source.seen c.args.source.now) (g.O.Sink.seen c.args.sink.now))
           (exchanged (g.I.Source.seen c.follow.new.source) (g.O.Sink.seen c.follow.new.sink)) c.in-Ok.session (g.I.Source.seen c.join.new.source).given (g.O.Sink.seen c.join.new.sink).taken (g.O.Sink.seen c.ask.new.sink).taken c.in-Err-follow.fault
           c.in-Ok.ensures.joined (ap (λ l. l.serializer) c.link.ensures) c.in_default.ensures.asked (inl (c.in-Err-follow.ensures.cause is)));
+      broke = lost-following command (exchanged (g.I.Source.seen c.args.source.now) (g.O.Sink.seen c.args.sink.now)) (exchanged (g.I.Source.seen c.follow.new.source) (g.O.Sink.seen c.follow.new.sink)) (g.P.Sink.seen c.args.output.now).taken (g.P.Sink.seen c.follow.new.output).taken
+          (noting (g.N.Sink.seen c.args.notes.now)) (noting (g.N.Sink.seen c.follow.new.notes)) c.args.listener.now.left c.follow.new.listener.left c.in-Err-follow.fault c.in-Ok.session c.link.result.now.serializer (g.I.Source.seen c.join.new.source).given (g.O.Sink.seen c.join.new.sink).taken (g.O.Sink.seen c.ask.new.sink).taken
+          c.in-Ok.ensures.joined (ap (λ l. l.serializer) c.link.ensures) c.in_default.ensures.asked c.in-Err-follow.ensures.broke;
       done = tt;
       gone = c.in-Err-follow.ensures.gone;
       reads = omega (arith, c.in-Ok.ensures.reads, c.in-Err-follow.ensures.reads);
