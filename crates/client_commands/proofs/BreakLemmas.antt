@@ -1,6 +1,7 @@
 -- Why a link gives out.
 use Rattle.std.proofs.Common.{◌≡◌, ◌≢◌, ◌+◌, ◌<◌, ◌++◌, ◌∙◌, ℕ, List, [], ◌∷◌, get_or, length, take, true, false, Ok, Err, Some, arith, ap, append-nil, inl, inr, refl, subst, sym}
 use Rattle.std.specs.Prelude.{◌⊎◌}
+use Rattle.std.proofs.Math.Seq.{take-nil}
 use Rattle.std.specs.declared.option.Option.{Option}
 use Rattle.rawsocket.specs.Devices.{GrowsByBeginning}
 use Rattle.rawsocket.specs.declared.handshake.Serializer.{Serializer}
@@ -154,7 +155,7 @@ goodbye-heard h f reason why is = goodbye-is h reason (sym (why (ap (λ x. is_of
 pub goodbye-unprinted : (form : LineForm) (topics : List (List ℕ)) (grants : List Granted) (h : Heard) (reason mid now : List ℕ) → h ≡ heard.Goodbye reason → GrowsByBeginning mid now (line_for form topics grants h) → now ≡ mid
 goodbye-unprinted form topics grants h reason mid now is begun =
     let nothing : GrowsByBeginning mid now [] = subst (λ x. GrowsByBeginning mid now (line_for form topics grants x)) is begun in
-    nothing.2 ∙ append-nil mid
+    nothing.2 ∙ ap (λ xs. mid ++ xs) (take-nil nothing.0) ∙ append-nil mid
 
 -- no session is joined, and nothing is told
 pub lost-joining : (command : SubscribeCommand) (before last : Exchange) (lines : List ℕ) (notes : Noting) (left : Option ℕ) (fault : Fault)
