@@ -1,5 +1,4 @@
-pub mod BreakLemmas
-pub mod CauseLemmas
+pub mod StopLemmas
 pub mod ContinuingLemmas
 pub mod ControlsLemmas
 pub mod EndsLemmas

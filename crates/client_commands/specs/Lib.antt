@@ -7,7 +7,7 @@ pub mod Acts
 pub mod Lines
 pub mod Pacing
 pub mod Published
+pub mod Stops
 pub mod Ends
-pub mod Breaks
 pub mod WholeInput
 pub mod Reconnecting

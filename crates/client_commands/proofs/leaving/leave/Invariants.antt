@@ -1,4 +1,4 @@
-use Rattle.std.proofs.Common.{◌≡◌, List, length}
+use Rattle.std.proofs.Common.{◌≡◌, List}
 use Rattle.client_messages.specs.declared.client_message.ClientMessage.TheVariants.{Goodbye}
 use Rattle.client_messages.specs.declared.heard.Heard.{Heard}
 use Rattle.session.specs.Opened.{exchanged}
@@ -9,7 +9,6 @@ use Rattle.client_commands.proofs.leaving.leave.Given as goal
 abbrev pub invariant-messages : goal.invariant-messages
 invariant-messages g l = record {
   passed : List Heard;
-  count_is : length passed ≡ l.count;
   harmless : MayCome passed;
   listens : Listens (terms_of l.fn.session) (writing (standing_of l.fn.session (g.I.Source.seen l.fn.source) (g.O.Sink.seen l.fn.sink)) (saying l.fn.session.line.serializer Goodbye)) (standing_of l.session (g.I.Source.seen l.source) (g.O.Sink.seen l.sink)) passed;
   goes_on : Continues (exchanged (g.I.Source.seen l.fn.source) (g.O.Sink.seen l.fn.sink)) (exchanged (g.I.Source.seen l.source) (g.O.Sink.seen l.sink));

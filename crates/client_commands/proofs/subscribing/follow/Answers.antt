@@ -1,21 +1,17 @@
-use Rattle.std.proofs.Common.{[], ◌≡◌, ◌∷◌, ◌++◌, ◌∙◌, Ok, ap, append-nil, arith, inr, refl, rules, subst, sym}
-use Rattle.std.proofs.lemmas.Bool.Decides.{nat_tests}
+use Rattle.std.proofs.Common.{[], ◌∷◌, ◌++◌, ◌∙◌, ap, append-nil, arith, inr, refl, rules, subst, sym}
 use Rattle.rawsocket.proofs.Lemmas.{all_turns, then_steps}
 use Rattle.session.specs.Opened.{exchanged}
-use Rattle.client_messages.specs.declared.heard.Heard.TheVariants.{Goodbye}
-use Rattle.client_session.specs.Hearing.{HearsNext, Terms}
 use Rattle.client_commands.specs.Acts.{IsCountedOff, events, granted_with, is_subscribed, line_for, noted, standing_of, terms_of}
 use Rattle.client_commands.specs.Notes.{IsNoted, Noting, noting}
-use Rattle.client_commands.proofs.BreakLemmas.{by-no-link, gives-out, goodbye-heard, goodbye-unprinted, not-closed, tells-out, tells-until}
-use Rattle.client_commands.proofs.CauseLemmas.{ends-by}
+use Rattle.client_commands.proofs.FaultLemmas.{runs-out, runs-out-here}
 use Rattle.client_commands.proofs.ListeningLemmas.{counted-more, counted-none, listens-more, printed-more, printed-partly}
 use Rattle.client_commands.proofs.NotingLemmas.{noted-more, none-noted}
+use Rattle.client_commands.proofs.StopLemmas.{stops-at, tells-out, tells-until, tells-until-taken}
 use Rattle.client_commands.proofs.subscribing.follow.Goals as goal
 
 pub messages-init : goal.messages-init
 messages-init g c = record {
   heards = [];
-  count_is = refl;
   harmless = tt;
   listens = refl;
   lines = sym (append-nil (g.P.Sink.seen c.args.output.now).taken);
@@ -31,7 +27,6 @@ messages-init g c = record {
 pub messages-preserved : goal.messages-preserved
 messages-preserved g c = record {
   heards = c.in-Ok.heard ∷ c.messages.invariant.heards;
-  count_is = omega (arith, c.messages.invariant.count_is);
   harmless = (c.in-Ok-take.ensures.harmless, c.messages.invariant.harmless);
   listens =
       listens-more (terms_of c.args.session.now) (terms_of c.messages.session)
@@ -76,62 +71,45 @@ returns-in-Err-take-clause-prints g c = record {
   };
 }
 
-pub returns-in-Err-take-clause-cause : goal.returns-in-Err-take-clause-cause
-returns-in-Err-take-clause-cause g c =
-    λ is. ends-by (terms_of c.args.session.now) (terms_of c.messages.session) (standing_of c.args.session.now (g.I.Source.seen c.args.source.now) (g.O.Sink.seen c.args.sink.now))
-    (standing_of c.messages.session (g.I.Source.seen c.messages.source) (g.O.Sink.seen c.messages.sink))
-    (standing_of c.hear.new.session (g.I.Source.seen c.hear.new.source) (g.O.Sink.seen c.hear.new.sink)) c.messages.invariant.heards c.in-Ok.heard c.in-Err-take.fault
-    c.messages.invariant.terms c.messages.invariant.listens c.in-Ok.ensures.next (c.in-Err-take.ensures.blamed is)
-
-pub returns-in-Err-clause-broke : goal.returns-in-Err-clause-broke
-returns-in-Err-clause-broke g c =
+pub returns-in-Err-clause-stops : goal.returns-in-Err-clause-stops
+returns-in-Err-clause-stops g c =
     let command = c.args.command.now in
     let t = terms_of c.args.session.now in
     let mid = standing_of c.messages.session (g.I.Source.seen c.messages.source) (g.O.Sink.seen c.messages.sink) in
     let after = standing_of c.hear.new.session (g.I.Source.seen c.hear.new.source) (g.O.Sink.seen c.hear.new.sink) in
-    tells-until command.form command.topics.items t (standing_of c.args.session.now (g.I.Source.seen c.args.source.now) (g.O.Sink.seen c.args.sink.now)) mid
-    (exchanged (g.I.Source.seen c.hear.new.source) (g.O.Sink.seen c.hear.new.sink)) (g.P.Sink.seen c.args.output.now).taken (g.P.Sink.seen c.messages.output).taken (noting (g.N.Sink.seen c.args.notes.now))
-    (noting (g.N.Sink.seen c.messages.notes)) c.args.listener.now.left c.settle.new.self.left c.messages.invariant.heards c.in-Err.fault c.messages.invariant.harmless c.messages.invariant.listens
-    c.messages.invariant.lines c.messages.invariant.notes_are
+    tells-until command.form command.topics.items t (standing_of c.args.session.now (g.I.Source.seen c.args.source.now) (g.O.Sink.seen c.args.sink.now))
+    (g.P.Sink.seen c.args.output.now).taken (g.P.Sink.seen c.messages.output).taken (noting (g.N.Sink.seen c.args.notes.now)) (noting (g.N.Sink.seen c.messages.notes))
+    c.args.listener.now.left c.settle.new.self.left mid (exchanged (g.I.Source.seen c.hear.new.source) (g.O.Sink.seen c.hear.new.sink)) c.messages.invariant.heards c.in-Err.fault
+    c.messages.invariant.harmless c.messages.invariant.listens c.messages.invariant.lines c.messages.invariant.notes_are
+    (subst (λ x. IsCountedOff c.args.listener.now.left x (events c.messages.invariant.heards)) (sym c.settle.ensures.left) c.messages.invariant.counted) c.in-Err.ensures.aside.output
+    (stops-at t (terms_of c.messages.session) mid after c.in-Err.fault c.messages.invariant.terms c.in-Err.ensures.stops)
+
+pub returns-in-Err-clause-turns : goal.returns-in-Err-clause-turns
+returns-in-Err-clause-turns g c =
+    runs-out (g.I.Source.seen c.messages.source) (g.I.Source.seen c.hear.new.source) (g.O.Sink.seen c.messages.sink) (g.O.Sink.seen c.hear.new.sink) c.in-Err.fault c.in-Err.ensures.reads c.in-Err.ensures.writes
+
+pub returns-in-Err-take-clause-stops : goal.returns-in-Err-take-clause-stops
+returns-in-Err-take-clause-stops g c =
+    let command = c.args.command.now in
+    let t = terms_of c.args.session.now in
+    let mid = standing_of c.messages.session (g.I.Source.seen c.messages.source) (g.O.Sink.seen c.messages.sink) in
+    let after = standing_of c.hear.new.session (g.I.Source.seen c.hear.new.source) (g.O.Sink.seen c.hear.new.sink) in
+    tells-until-taken command.form command.topics.items t (standing_of c.args.session.now (g.I.Source.seen c.args.source.now) (g.O.Sink.seen c.args.sink.now))
+    (g.P.Sink.seen c.args.output.now).taken (g.P.Sink.seen c.take.new.output).taken (noting (g.N.Sink.seen c.args.notes.now)) (noting (g.N.Sink.seen c.take.new.notes))
+    c.args.listener.now.left c.settle.new.self.left (terms_of c.messages.session) mid after c.messages.invariant.heards c.in-Ok.heard c.messages.granted.items (g.P.Sink.seen c.messages.output).taken c.in-Err-take.fault
+    c.messages.invariant.terms c.in-Ok.ensures.next c.messages.invariant.harmless c.messages.invariant.listens c.messages.invariant.lines
+    (subst (λ (n : Noting). IsNoted (noted command.topics.items c.messages.invariant.heards) (noting (g.N.Sink.seen c.args.notes.now)) n) (sym c.in-Err-take.ensures.silent) c.messages.invariant.notes_are)
     (subst (λ x. IsCountedOff c.args.listener.now.left x (events c.messages.invariant.heards)) (sym c.settle.ensures.left) c.messages.invariant.counted)
-    (gives-out t (terms_of c.messages.session) mid after c.messages.invariant.heards c.in-Err.fault c.messages.invariant.terms c.in-Err.ensures.cause)
+    c.messages.invariant.granted_are c.in-Err-take.ensures.begun c.in-Err-take.ensures.untold.other c.in-Err-take.ensures.unprinted c.in-Err-take.ensures.blamed
 
-pub returns-in-Err-clause-closed : goal.returns-in-Err-clause-closed
-returns-in-Err-clause-closed g c = λ reason is. not-closed c.in-Err.fault reason c.in-Err.ensures.unblamed is
+pub returns-in-Err-take-clause-turns : goal.returns-in-Err-take-clause-turns
+returns-in-Err-take-clause-turns g c = runs-out-here (g.I.Source.seen c.hear.new.source) (g.O.Sink.seen c.hear.new.sink) c.in-Err-take.fault c.in-Err-take.ensures.untold.other
 
-pub returns-in-Err-take-clause-broke : goal.returns-in-Err-take-clause-broke
-returns-in-Err-take-clause-broke g c = by-no-link _ c.in-Err-take.fault c.in-Err-take.ensures.untold.other
-
-pub returns-in-Err-take-clause-closed : goal.returns-in-Err-take-clause-closed
-returns-in-Err-take-clause-closed g c =
+pub returns-clause-stops : goal.returns-clause-stops
+returns-clause-stops g c =
     let command = c.args.command.now in
-    let t = terms_of c.args.session.now in
-    let mid = standing_of c.messages.session (g.I.Source.seen c.messages.source) (g.O.Sink.seen c.messages.sink) in
-    let after = standing_of c.hear.new.session (g.I.Source.seen c.hear.new.source) (g.O.Sink.seen c.hear.new.sink) in
-    λ reason is.
-    let goodbye : c.in-Ok.heard ≡ Goodbye reason = goodbye-heard c.in-Ok.heard c.in-Err-take.fault reason c.in-Err-take.ensures.blamed is in
-    record {
-      heards = c.messages.invariant.heards;
-      harmless = c.messages.invariant.harmless;
-      now = mid;
-      listens = c.messages.invariant.listens;
-      lines_are =
-          goodbye-unprinted command.form command.topics.items c.messages.granted.items c.in-Ok.heard reason (g.P.Sink.seen c.messages.output).taken (g.P.Sink.seen c.take.new.output).taken goodbye c.in-Err-take.ensures.begun
-          ∙ c.messages.invariant.lines;
-      noted_are =
-          subst (λ (n : Noting). IsNoted (noted command.topics.items c.messages.invariant.heards) (noting (g.N.Sink.seen c.args.notes.now)) n)
-          (sym c.in-Err-take.ensures.silent) c.messages.invariant.notes_are;
-      counted = subst (λ x. IsCountedOff c.args.listener.now.left x (events c.messages.invariant.heards)) (sym c.settle.ensures.left) c.messages.invariant.counted;
-      next = subst (λ h. HearsNext t mid after (Ok h)) goodbye (subst (λ (x : Terms). HearsNext x mid after (Ok c.in-Ok.heard)) c.messages.invariant.terms c.in-Ok.ensures.next);
-    }
-
--- NOT CHECKED: written before any check showed the names of this goal
-pub returns-clause-broke : goal.returns-clause-broke
-returns-clause-broke g c =
-    let command = c.args.command.now in
-    let over : c.messages.count ≡ 18446744073709551615 = grind (arith, nat_tests) in
     tells-out command.form command.topics.items (terms_of c.args.session.now) (standing_of c.args.session.now (g.I.Source.seen c.args.source.now) (g.O.Sink.seen c.args.sink.now))
-    (standing_of c.messages.session (g.I.Source.seen c.messages.source) (g.O.Sink.seen c.messages.sink)) (g.P.Sink.seen c.args.output.now).taken (g.P.Sink.seen c.messages.output).taken
-    (noting (g.N.Sink.seen c.args.notes.now)) (noting (g.N.Sink.seen c.messages.notes)) c.args.listener.now.left c.messages.listener.left _ c.messages.invariant.heards
-    c.messages.invariant.harmless c.messages.invariant.listens c.messages.invariant.lines c.messages.invariant.notes_are c.messages.invariant.counted (search rules)
-    (c.messages.invariant.count_is ∙ over)
+    (g.P.Sink.seen c.args.output.now).taken (g.P.Sink.seen c.messages.output).taken (noting (g.N.Sink.seen c.args.notes.now)) (noting (g.N.Sink.seen c.messages.notes))
+    c.args.listener.now.left _ (standing_of c.messages.session (g.I.Source.seen c.messages.source) (g.O.Sink.seen c.messages.sink)) (exchanged (g.I.Source.seen c.messages.source) (g.O.Sink.seen c.messages.sink))
+    c.messages.invariant.heards c.messages.invariant.harmless c.messages.invariant.listens c.messages.invariant.notes_are
+    (subst (λ x. IsCountedOff c.args.listener.now.left x (events c.messages.invariant.heards)) (sym c.settle-2.ensures.left) c.messages.invariant.counted)

@@ -1,4 +1,4 @@
-use Rattle.std.proofs.Common.{◌≡◌, ◌++◌, List, length}
+use Rattle.std.proofs.Common.{◌≡◌, ◌++◌, List}
 use Rattle.rawsocket.specs.Steps.{Fine, Steps, write_meter}
 use Rattle.client_messages.specs.declared.heard.Heard.{Heard}
 use Rattle.client_commands.specs.Acts.{IsCountedOff, Listens, MayCome, events, granted, noted, printed, standing_of, terms_of}
@@ -8,7 +8,6 @@ use Rattle.client_commands.proofs.subscribing.follow.Given as goal
 abbrev pub invariant-messages : goal.invariant-messages
 invariant-messages g l = record {
   heards : List Heard;
-  count_is : length heards ≡ l.count;
   harmless : MayCome heards;
   listens : Listens (terms_of l.fn.session) (standing_of l.fn.session (g.I.Source.seen l.fn.source) (g.O.Sink.seen l.fn.sink)) (standing_of l.session (g.I.Source.seen l.source) (g.O.Sink.seen l.sink)) heards;
   lines : (g.P.Sink.seen l.output).taken ≡ (g.P.Sink.seen l.fn.output).taken ++ printed l.command.form l.command.topics.items heards;
