@@ -190,12 +190,12 @@ module _ (command : PublishCommand) (before : Exchange) (session : Welcomed) (gi
       → EndsPublishing command before last given_before given_now over fault
   closing u now last reason (Closed told) joins e ends answered =
       ends-publishing u now last (Closed told) joins e (subst (λ r. EndsInAll command (terms_of session) (standing session given taken) now given_before given_now over (Closed r)) (sym answered.0) ends) answered.1
-  closing u now last reason _ joins e ends answered = record {
+  closing u now last reason fault joins e ends answered = record {
     joined = exchange given taken;
     session = session;
     joins = joins;
     now = now;
-    ends = inr (inl (reason, ends, subst (λ (t : Terms). ByLink (IsUnsaid t GoodbyeAndOut (exchange_of now) last) _) e answered));
+    ends = inr (inl (reason, ends, subst (λ (t : Terms). ByLink (IsUnsaid t GoodbyeAndOut (exchange_of now) last) fault) e answered));
   }
 
   -- as it answered the broker's GOODBYE

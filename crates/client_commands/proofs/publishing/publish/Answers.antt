@@ -91,4 +91,4 @@ returns-clause-ends g c =
     let published = standing_of c.publish_all.new.session (g.I.Source.seen c.publish_all.new.source) (g.O.Sink.seen c.publish_all.new.sink) in
     λ is. inr (ends-at-once c.args.command.now (exchanged (g.I.Source.seen c.args.source.now) (g.O.Sink.seen c.args.sink.now))
     c.in-Ok.session (g.I.Source.seen c.join.new.source).given (g.O.Sink.seen c.join.new.sink).taken (g.J.Source.seen c.args.input.now).given (g.J.Source.seen c.publish_all.new.input).given (g.J.Source.seen c.publish_all.new.input).is_ended
-    (terms_of c.publish_all.new.session) published c.in-Err-publish_all.fault (λ number is. c.in_default-fault.not-BadLine number is) (λ reason is. c.in_default-fault.not-Closed reason is) c.in-Ok.ensures.joined c.publish_all.ensures.terms (c.in-Err-publish_all.ensures.ends is))
+    (terms_of c.publish_all.new.session) published c.in-Err-publish_all.fault (λ number is. c.in_default.not-BadLine number is) (λ reason is. c.in_default.not-Closed reason is) c.in-Ok.ensures.joined c.publish_all.ensures.terms (c.in-Err-publish_all.ensures.ends is))
