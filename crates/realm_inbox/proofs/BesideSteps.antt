@@ -8,7 +8,7 @@ use Rattle.crossbeam_channel.specs.Fifo.{Pops, Forks, Merges, Learns, Held}
 use Rattle.realm_inbox.specs.declared.act.Act as the
 use Rattle.realm_inbox.specs.declared.letter.Post.{Post}
 use Rattle.realm_inbox.specs.declared.rule.InboxView.{InboxView}
-use Rattle.realm_inbox.specs.declared.rule.InboxView.TheVariants.{Reader, Seat, Both}
+use Rattle.realm_inbox.specs.declared.rule.InboxView.TheVariants.{Seat, Both}
 use Rattle.realm_inbox.specs.Seats.{at_seat}
 use Rattle.realm_inbox.specs.InTurn.{nobody, beside, without_seat, seat_in, AgreesWith, Receipt, Keeps}
 use Rattle.realm_inbox.specs.Ends.{home_in, posted_in, received_in, number_in, reads_any, posts_any}

@@ -7,6 +7,7 @@ ghost use Rattle.wamp_ids.specs.Numbers.{seat_of};
 ghost use Rattle.realm_inbox.specs.Seats.{IsNext, IsHomed, at_seat};
 ghost use Rattle.realm_inbox.specs.SeatLines.{waiting};
 ghost use Rattle.realm_inbox.specs.InTurn.{Receipt};
+ghost use Rattle.realm_inbox.specs.Unchanged.{IsSamePoster};
 ghost use Rattle.realm_inbox.specs.Ends.{place_of as place_in, posted_in, received_in, number_in, reads_any, posts_any};
 
 use crate::ends::{Inbox, Poster, Receiving, Seat, Sending, Ticket};
@@ -22,8 +23,8 @@ impl<S: Shut> Inbox<S> {
     ghost use Rattle.realm_inbox.specs.EndViews.{received, capacity, posted, poster_conn, home_of, inbox_of, inbox_of_poster};
 
     /// A post of any seat, as [`Inbox::try_receive`] gives it. `None` once nothing is left of the poster's seat: the channel was
-    /// empty at one moment of the call, and nothing of the seat waited in its line. So all that was posted there was received of it,
-    /// and will have been until the poster posts again. The two are of one inbox, and the poster doesn't change.
+    /// empty at one moment of the call, and nothing of the seat waited in its line. So all that was posted there was received of it. The
+    /// two are of one inbox, and the poster doesn't change.
     pub fn receive_beside<R: Wait>(&mut self, rt: &R, poster: &mut Poster<S>) -> Option<Post<S>>
         requires inbox { inbox_of self.old ≡ inbox_of_poster poster.old }
         ensures given { MatchOption result (received self.new ≡ received self.old)
@@ -32,9 +33,7 @@ impl<S: Shut> Inbox<S> {
         ensures home { IfSome result (λ p. IsHomed (home_of self.old) p) }
         ensures all { IfNone result
             (at_seat (seat_of (poster_conn poster.new)) (received self.new) ≡ posted poster.new) }
-        ensures poster { (poster_conn poster.new ≡ poster_conn poster.old)
-            × (posted poster.new ≡ posted poster.old)
-            × (inbox_of_poster poster.new ≡ inbox_of_poster poster.old) }
+        ensures poster { IsSamePoster poster.old poster.new }
         ensures same { (inbox_of self.new ≡ inbox_of self.old)
             × (capacity self.new ≡ capacity self.old) }
     {
@@ -52,9 +51,7 @@ impl<S: Shut> Inbox<S> {
         requires inbox { inbox_of self.old ≡ inbox_of_poster poster.old }
         ensures all { at_seat (seat_of (poster_conn poster.new)) (received self.new) ≡ posted poster.new }
         ensures more { IsPrefix (received self.old) (received self.new) }
-        ensures poster { (poster_conn poster.new ≡ poster_conn poster.old)
-            × (posted poster.new ≡ posted poster.old)
-            × (inbox_of_poster poster.new ≡ inbox_of_poster poster.old) }
+        ensures poster { IsSamePoster poster.old poster.new }
         ensures same { (inbox_of self.new ≡ inbox_of self.old)
             × (capacity self.new ≡ capacity self.old) }
     {
@@ -96,9 +93,7 @@ impl<S: Shut> Inbox<S> {
         ensures home { IfSome result (λ p. IsHomed (home_of self.old) p) }
         ensures all { IfNone result
             (at_seat (seat_of (poster_conn poster.new)) (received self.new) ≡ posted poster.new) }
-        ensures poster { (poster_conn poster.new ≡ poster_conn poster.old)
-            × (posted poster.new ≡ posted poster.old)
-            × (inbox_of_poster poster.new ≡ inbox_of_poster poster.old) }
+        ensures poster { IsSamePoster poster.old poster.new }
         ensures same { (inbox_of self.new ≡ inbox_of self.old)
             × (capacity self.new ≡ capacity self.old) }
     {
