@@ -138,12 +138,11 @@ module _ {S : Type 0} where
   cuts_on posts cutting.Cuts.none all = (of.CutsOn.none, all)
   cuts_on posts {old = old} {new = new} (cutting.Cuts.one_more {mid = mid} {e = e} c word so_far sound least cut is went) all =
       let before = cuts_on posts so_far all in
-      let full = filled posts mid.history mid.rows c before.1 sound least in
-      (
+      let full = filled posts mid.history mid.rows c before.1 sound least in (
         ⊎_elim
-        (λ (one : e ≡ entry.Cut c (Some word)). subst (λ l. CutsOn posts old.history l) (sym (is ∙ ap (λ e. mid.history ▷ e) one)) (of.CutsOn.one_more c (Some word) before.0 full))
-        (λ (two : e ≡ entry.Cut c None). subst (λ l. CutsOn posts old.history l) (sym (is ∙ ap (λ e. mid.history ▷ e) two)) (of.CutsOn.one_more c None before.0 full))
-        cut,
+            (λ (one : e ≡ entry.Cut c (Some word)). subst (λ l. CutsOn posts old.history l) (sym (is ∙ ap (λ e. mid.history ▷ e) one)) (of.CutsOn.one_more c (Some word) before.0 full))
+            (λ (two : e ≡ entry.Cut c None). subst (λ l. CutsOn posts old.history l) (sym (is ∙ ap (λ e. mid.history ▷ e) two)) (of.CutsOn.one_more c None before.0 full))
+            cut,
         all_went posts mid.rows new.rows went before.1,
       )
 
@@ -212,12 +211,11 @@ module _ {S : Type 0} where
   lost_on posts l (handling.Loses.nothing_drawn dead) kept all = (of.HandlesOne.lost l kept dead, all)
   lost_on posts l {old = old} {new = new} (handling.Loses.cut lost word drawn e marked few is marks accepted words) kept all =
       let c = conn_of_letter l in
-      let on = accepted_on posts (record { history = old.history; rows = marked }) (standing_in new) e drawn accepted (all_marked posts old.rows marked c marks all) in
-      (
+      let on = accepted_on posts (record { history = old.history; rows = marked }) (standing_in new) e drawn accepted (all_marked posts old.rows marked c marks all) in (
         ⊎_elim
-        (λ (one : e ≡ entry.Cut c (Some word)). of.HandlesOne.cut l (Some word) kept (subst (λ f. CutsOn posts (old.history ▷ f) new.history) one on.0))
-        (λ (two : e ≡ entry.Cut c None). of.HandlesOne.cut l None kept (subst (λ f. CutsOn posts (old.history ▷ f) new.history) two on.0))
-        is,
+            (λ (one : e ≡ entry.Cut c (Some word)). of.HandlesOne.cut l (Some word) kept (subst (λ f. CutsOn posts (old.history ▷ f) new.history) one on.0))
+            (λ (two : e ≡ entry.Cut c None). of.HandlesOne.cut l None kept (subst (λ f. CutsOn posts (old.history ▷ f) new.history) two on.0))
+            is,
         on.1,
       )
 
@@ -227,15 +225,13 @@ module _ {S : Type 0} where
       let a = h.does.acts in
       let now = posts ++ Act l ∷ [] in
       let brought = all_brought now l (length posts) (act_of_letter l) old.rows a.rows (get_last posts (Act l)) refl a.brought all in
-      let on = accepted_on now (record { history = old.history; rows = a.rows }) (record { history = new.history; rows = h.does.ends }) (entry_of (conn_of_letter l) (act_of_letter l) a.word) a.drawn a.accepted brought in
-      (
+      let on = accepted_on now (record { history = old.history; rows = a.rows }) (record { history = new.history; rows = h.does.ends }) (entry_of (conn_of_letter l) (act_of_letter l) a.word) a.drawn a.accepted brought in (
         of.HandlesOne.entered l a.word (false_from_ne_true (is_dropped old.history (conn_of_letter l) (act_of_letter l)) (λ is. let clash : Applied ≡ Dropped = h.dropped is in absurd (cc))) on.0,
         unmarked now h.does.ends new.rows h.does.unmarked on.1,
       )
   act_on posts Dropped l old new h all =
       let a = h.does.acts in
-      let now = posts ++ Act l ∷ [] in
-      (
+      let now = posts ++ Act l ∷ [] in (
         subst (λ k. HandlesOne now old.history (Act l) k) (sym a.0.0) (of.HandlesOne.dropped l a.1),
         unmarked now h.does.ends new.rows h.does.unmarked (subst (λ rows. AllKnown now rows) (sym a.0.1) all),
       )

@@ -66,7 +66,7 @@ module _ {I O S : Type 0} (see : Sight I O) (offer : Offer) (realms : List (Real
   session_goes_on s conn ends h = (
     begins_on (see.reading s.lent.0).given (see.reading h.source).given (see.reading s.back.source).given (begins_more (see.reading s.lent.0).given (see.reading h.source).given h.opened.opens.octets h.opened.opens.read) (by_talk h.says),
     begins_on (see.writing s.lent.1).taken (see.writing h.sink).taken (see.writing s.back.sink).taken (begins_more (see.writing s.lent.1).taken (see.writing h.sink).taken h.opened.opens.written h.opened.opens.wrote)
-    (begins_more (see.writing h.sink).taken (see.writing s.back.sink).taken h.written.octets h.written.wrote),
+        (begins_more (see.writing h.sink).taken (see.writing s.back.sink).taken h.written.octets h.written.wrote),
   )
     where
       by_talk : SaysSome see.reading h.hello h.join h.source s.back.source ends.read s.posted → IsPrefix (see.reading h.source).given (see.reading s.back.source).given

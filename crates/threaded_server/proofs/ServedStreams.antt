@@ -12,7 +12,6 @@ use Rattle.std.proofs.lemmas.Option.{none-some, same_Some}
 use Rattle.std.specs.Arc.{arc_value}
 use Rattle.std.specs.List.{flat_map}
 use Rattle.std.specs.Option.{option_flatten}
-use Rattle.atomic_table.specs.Seated.{TableId}
 use Rattle.broker_threads.specs.Courses.{fate_of, sink_of}
 use Rattle.broker_threads.specs.Streams.{GoesBy, IsServed, KeepsNames, Offer, Sight, Stream, stream}
 use Rattle.broker_threads.specs.Talks.{Converses, StandsStill, passage, start_of}
@@ -149,6 +148,9 @@ module _ {I O S : Type 0} (see : Sight I O) (offer : Offer) (runs : List (RealmR
   meanwhile : (before : Stream I O S) (source : I) (back : List (Option (Poster S))) (end : ReadEnd) (written : Written O) (h : IsServed see offer before source back end written) → Meanwhile before source back end written h
   meanwhile before source back end written h = by_talk h.talks.converses
     where
+      of : Act S → ℕ × Act S
+      of act = (poster_conn h.poster, act)
+
       still : StandsStill (passage h.opened_source h.poster) (passage source h.left) → (end ≡ ActorGone) ⊎ (end ≡ NoMemory) → Meanwhile before source back end written h
       still none why = record {
         acts = [];
@@ -157,7 +159,7 @@ module _ {I O S : Type 0} (see : Sight I O) (offer : Offer) (runs : List (RealmR
       }
 
       by_talk : Converses see.reading (start_of h.session) h.talks.joining (passage h.opened_source h.poster) (passage source h.left) end ⊎ (StandsStill (passage h.opened_source h.poster) (passage source h.left) × (end ≡ NoMemory)) → Meanwhile before source back end written h
-      by_talk (inl (inl r)) = let of : Act S → ℕ × Act S = λ act. (poster_conn h.poster, act) in record {
+      by_talk (inl (inl r)) = record {
         acts = Join h.talks.joining ∷ r.posted.acts;
         since = since_more (posted h.poster) (posted h.left) (map of (Join h.talks.joining ∷ r.posted.acts)) (ap (λ p. p.said) r.posted.posted ∙ append_assoc (posted h.poster) (map of (Join h.talks.joining ∷ [])) (map of r.posted.acts));
         says = inl (record { octets = r.posted.octets; acts = r.posted.acts; read = r.posted.read; posted_are = refl; says = r.posted.holds; ended = r.ended; steps = r.reads });
@@ -184,40 +186,40 @@ module _ {I O S : Type 0} (see : Sight I O) (offer : Offer) (runs : List (RealmR
   acts_as conn before source back end written h t =
       let a = served_as conn before source back end written h t in
       let m = meanwhile before source back end written h in
-      let there : acts_between (option_flatten (slice_get before.posters h.session.realm)) (option_flatten (slice_get back h.session.realm)) ≡ acts_between (Some h.poster) (Some h.left) = λ i. acts_between (option_flatten (a.2 i)) (option_flatten (a.3 i)) in
-      ap (λ n. acts_between (option_flatten (slice_get before.posters n)) (option_flatten (slice_get back n))) a.0 ∙ there ∙ ap (map (λ (x : ℕ × Act S). x.1)) m.since ∙ again (poster_conn h.poster) m.acts
+      ap (λ i. acts_between (option_flatten (slice_get before.posters i)) (option_flatten (slice_get back i))) a.0 ∙ (λ i. acts_between (option_flatten (a.2 i)) (option_flatten (a.3 i)))
+      ∙ ap (map (λ (x : ℕ × Act S). x.1)) m.since ∙ again (poster_conn h.poster) m.acts
 
   session_as : (conn : ℕ) (before : Stream I O S) (source : Closed I) (back : List (Option (Poster S))) (end : ReadEnd) (written : Written O) → (h : IsServed see offer before source.last.value back end written) → (t : IsTied runs conn before.posters written)
       → IsSession see offer (map realm_of runs) (seated_as conn before source back (course.Served end written)) conn (record { read = end; write = written.end })
   session_as conn before source back end written h t =
-    let a = served_as conn before source.last.value back end written h t in
-    let m = meanwhile before source.last.value back end written h in
-    let writes = h.talks.writes in
-    let begins = h.talks.begins in
-    record {
-      hello = h.session;
-      source = h.opened_source;
-      sink = h.opened_sink;
-      opened = record { opens = h.opens.opens; same = h.opens.same };
-      realm = realm_of t.run;
-      named = map_get realm_of runs h.session.realm t.run (ap (slice_get runs) (sym a.0) ∙ t.at);
-      there = a.0;
-      join = h.talks.joining;
-      joins = record { asks = begins.asks; outbox = begins.outbox ∙ ap (λ (q : TableId). new_outbox q offer.room (poster_conn h.poster) (home_of_poster h.poster)) queue ∙ ap (λ (n : ℕ). new_outbox h.talks.joining.outbox.queue offer.room n (home_of_poster h.poster)) a.1 ∙ ap (new_outbox h.talks.joining.outbox.queue offer.room conn) home };
-      says = subst (λ (acts : List (Act S)). SaysSome see.reading h.session h.talks.joining h.opened_source source.last.value end acts) (sym (acts_as conn before source.last.value back end written h t)) m.says;
-      items = written.drain.value.taken;
-      written = record {
-        octets = writes.written.octets;
-        wrote = writes.written.wrote ∙ ap (λ (o : O). (see.writing o).taken ++ writes.written.octets) begins.writes_to;
-        says = subst (λ (s : Serializer). IsWrittenBy s (min h.session.limit 16777215) written.end written.drain.value.taken writes.written.octets) begins.serializer
-            (subst (λ (n : ℕ). IsWrittenBy h.talks.writer.serializer n written.end written.drain.value.taken writes.written.octets) begins.limit
-            (subst (λ (items : List Item). IsWrittenBy h.talks.writer.serializer h.talks.writer.limit written.end items writes.written.octets) (sym took) writes.written.written));
-        steps = subst (λ (o : O). WriteSteps (see.writing o) (see.writing written.sink.last.value) (write_told written.end)) begins.writes_to writes.steps;
-      };
-      due = subst (λ (c : ℕ). Owes owed t.run.ended.value.chronicle.history c written.drain.value.taken) t.own t.owes;
-      whole = λ stopped. subst (λ (c : ℕ). AreAllOwed t.run.ended.value.chronicle.history c written.drain.value.taken) t.own (t.whole stopped);
-      full = λ found. subst (λ (n : ℕ). n ≤ length written.drain.value.taken) (writes.later.capacity ∙ begins.new.5) (t.full found);
-    }
+      let a = served_as conn before source.last.value back end written h t in
+      let m = meanwhile before source.last.value back end written h in
+      let writes = h.talks.writes in
+      let begins = h.talks.begins in
+      record {
+        hello = h.session;
+        source = h.opened_source;
+        sink = h.opened_sink;
+        opened = record { opens = h.opens.opens; same = h.opens.same };
+        realm = realm_of t.run;
+        named = map_get realm_of runs h.session.realm t.run (ap (slice_get runs) (sym a.0) ∙ t.at);
+        there = a.0;
+        join = h.talks.joining;
+        joins = record { asks = begins.asks; outbox = begins.outbox ∙ (λ i. new_outbox (queue i) offer.room (a.1 i) (home i)) };
+        says = subst (λ (acts : List (Act S)). SaysSome see.reading h.session h.talks.joining h.opened_source source.last.value end acts) (sym (acts_as conn before source.last.value back end written h t)) m.says;
+        items = written.drain.value.taken;
+        written = record {
+          octets = writes.written.octets;
+          wrote = writes.written.wrote ∙ ap (λ (o : O). (see.writing o).taken ++ writes.written.octets) begins.writes_to;
+          says = subst (λ (s : Serializer). IsWrittenBy s (min h.session.limit 16777215) written.end written.drain.value.taken writes.written.octets) begins.serializer
+              (subst (λ (n : ℕ). IsWrittenBy h.talks.writer.serializer n written.end written.drain.value.taken writes.written.octets) begins.limit
+              (subst (λ (items : List Item). IsWrittenBy h.talks.writer.serializer h.talks.writer.limit written.end items writes.written.octets) (sym took) writes.written.written));
+          steps = subst (λ (o : O). WriteSteps (see.writing o) (see.writing written.sink.last.value) (write_told written.end)) begins.writes_to writes.steps;
+        };
+        due = subst (λ (c : ℕ). Owes owed t.run.ended.value.chronicle.history c written.drain.value.taken) t.own t.owes;
+        whole = λ stopped. subst (λ (c : ℕ). AreAllOwed t.run.ended.value.chronicle.history c written.drain.value.taken) t.own (t.whole stopped);
+        full = λ found. subst (λ (n : ℕ). n ≤ length written.drain.value.taken) (writes.later.capacity ∙ begins.new.5) (t.full found);
+      }
     where
       took : written.drain.value.taken ≡ h.talks.writes.written.items
       took = h.talks.writes.written.took ∙ ap (λ l. l ++ h.talks.writes.written.items) h.talks.begins.new.3
@@ -257,11 +259,10 @@ module _ {I O S : Type 0} (see : Sight I O) (offer : Offer) (runs : List (RealmR
       by_place (inl here) =
           let a = served_as conn before source.last.value back end written h t in
           let m = meanwhile before source.last.value back end written h in
-          let there : posts_between number (option_flatten (slice_get before.posters h.session.realm)) (option_flatten (slice_get back h.session.realm)) ≡ posts_between number (Some h.poster) (Some h.left) = λ i. posts_between number (option_flatten (a.2 i)) (option_flatten (a.3 i)) in
           ap (λ b. if b && seat_of conn == number then map (λ act. (conn, act)) (acts_in before.posters back (course.Served end written)) else []) (eq-eqb written.realm realm (a.0 ∙ here))
           ∙ ap (λ l. if seat_of conn == number then l else []) (ap (map (λ (act : Act S). (conn, act))) (acts_as conn before source.last.value back end written h t) ∙ ap (λ (n : ℕ). map (λ act. (n, act)) m.acts) (sym a.1) ∙ sym m.since)
           ∙ ap (λ (n : ℕ). if seat_of n == number then since (posted h.poster) (posted h.left) else []) (sym a.1)
-          ∙ sym there
+          ∙ sym (λ i. posts_between number (option_flatten (a.2 i)) (option_flatten (a.3 i)))
           ∙ ap (λ n. posts_between number (option_flatten (slice_get before.posters n)) (option_flatten (slice_get back n))) here
       by_place (inr other) =
           let a = served_as conn before source.last.value back end written h t in
