@@ -37,14 +37,15 @@ use Rattle.realm_inbox.specs.declared.act.Act.TheVariants.{Join}
 use Rattle.realm_inbox.specs.declared.ends.Poster.{Poster}
 use Rattle.threaded_server.proofs.Places.{get_of_map, get_other, get_set, map_get, same_or_other}
 use Rattle.threaded_server.proofs.RunHistories.{realm_made, realm_of}
-use Rattle.threaded_server.specs.Conns.{AscendAtSeats, conn_of, conns_of}
+use Rattle.threaded_server.specs.Conns.{conn_of, conns_of}
 use Rattle.threaded_server.specs.Histories.{IsRealm, Realm}
 use Rattle.threaded_server.specs.Lending.{Lending, returned}
-use Rattle.threaded_server.specs.Overs.{Found, FoundNoSeat, Went, after_of, before_of}
+use Rattle.threaded_server.specs.Overs.{Found, Went, after_of, before_of}
 use Rattle.threaded_server.specs.Posts.{OnlyPosted, posts_at, posts_between, posts_of, since}
 use Rattle.threaded_server.specs.Served.{IsFate, IsSession, LentStream, ReceivedFirst, Served, posts_by}
-use Rattle.threaded_server.specs.Sessions.{SaysSome}
-use Rattle.threaded_server.specs.Ties.{AreAllOwed, CourseTied, IsRun, IsTied, OverTied}
+use Rattle.threaded_server.specs.SeatRules.{AscendAtSeats, FoundNoSeat}
+use Rattle.threaded_server.specs.Sessions.{AreAllOwed, SaysSome}
+use Rattle.threaded_server.specs.Ties.{CourseTied, IsRun, IsTied, OverTied}
 use Rattle.threaded_server.specs.body.Served.{ServedInParts}
 use Rattle.threaded_server.specs.declared.answer.Answer.{Answer}
 use Rattle.threaded_server.specs.declared.over.Over.{Over}
