@@ -87,8 +87,11 @@ impl Log {
 
     // Adds an act, where there is room.
     fn add(&mut self, act: Act<Nowhere>) -> Result<(), Act<Nowhere>>
-        ensures { MatchResult result (λ _. self.new.acts.items ≡ self.old.acts.items ++ act ∷ [])
+        ensures added { MatchResult result
+            (λ _. self.new.acts.items ≡ self.old.acts.items ++ act ∷ [])
             (λ back. (back ≡ act) × (self.new.acts.items ≡ self.old.acts.items)) }
+        ensures same { (self.new.weights ≡ self.old.weights)
+            × (self.new.returned ≡ self.old.returned) }
     {
         if self.acts.len() >= self.room {
             return Err(act);

@@ -1,29 +1,20 @@
 -- How publishing ends by a fault.
 use Rattle.std.proofs.Common.{◌≡◌, ◌+◌, ◌++◌, ◌∙◌, ℕ, Bool, true, false, List, [], ◌∷◌, ◌<◌, append-nil, Result, Ok, Err, ap, inl, inr, refl, subst, sym, append_assoc}
-use Rattle.std.specs.Prelude.{◌||◌, IfErr, OnOk, length}
+use Rattle.std.specs.Prelude.{◌≢◌, OnOk, length}
 use Rattle.session.specs.Opened.{Exchange, exchange}
-use Rattle.client_messages.specs.declared.client_message.ClientMessage.TheVariants.{Goodbye as GoodbyeSaid}
+use Rattle.client_messages.specs.declared.client_message.ClientMessage.TheVariants.{GoodbyeAndOut}
 use Rattle.client_session.specs.Hearing.{Ear, Terms}
-use Rattle.client_session.specs.Saying.{saying}
 use Rattle.client_session.specs.Sessions.{Welcomed}
-use Rattle.client_commands.specs.Acts.{Continues, EndsByMessage, Joins, exchange_of, standing, terms_of, writing}
-use Rattle.client_commands.specs.Ends.{AreFirstLines, EndsAtLine, EndsInAll, EndsInLines, EndsPublishing, HearsUnawaited, IsOver, IsUnanswered, IsWhole}
-use Rattle.client_commands.specs.Faults.{IsOfNoContents, is_blamed, is_of_contents, is_of_message}
+use Rattle.client_commands.specs.Acts.{Joins, exchange_of, standing, terms_of}
+use Rattle.client_commands.specs.Ends.{AreFirstLines, ClosesAfter, EndsAtLine, EndsInAll, EndsInLines, EndsPublishing, IsOver, IsUnanswered, IsWhole}
 use Rattle.client_commands.specs.Lines.{ended}
 use Rattle.client_commands.specs.Pacing.{AllAnswered, IsPaced}
 use Rattle.client_commands.specs.Published.{IsPublishedOf}
+use Rattle.client_commands.specs.Stops.{ByLink, FailsToLeave, IsAnswered, IsUnsaid, Stops}
 use Rattle.client_commands.specs.declared.command.PublishCommand.{PublishCommand}
 use Rattle.client_commands.specs.declared.fault.Fault.{Fault}
-use Rattle.client_commands.specs.declared.fault.Fault.TheVariants.{BadLine}
+use Rattle.client_commands.specs.declared.fault.Fault.TheVariants.{BadLine, Closed}
 use Rattle.client_commands.proofs.PublishingLemmas.{all-counted}
-
-first-of : (a b : Bool) → b ≡ false → (a || b) ≡ true → a ≡ true
-first-of true b none is = refl
-first-of false b none is = absurd (cc)
-
--- what is to be published doesn't give it, so a message does
-pub by-message : (fault : Fault) → IsOfNoContents fault → is_blamed fault ≡ true → is_of_message fault ≡ true
-by-message fault none is = first-of (is_of_message fault) (is_of_contents fault) none is
 
 -- octets of a piece, up to a place in what is left of it and behind that
 pub cut-at : (input piece done left front back : List ℕ) → piece ≡ done ++ left → left ≡ front ++ back → input ++ piece ≡ ((input ++ done) ++ front) ++ back
@@ -35,14 +26,14 @@ module _ (command : PublishCommand) (t : Terms) (before : Ear) where
   at-line : (now : Ear) (input behind octets rest : List ℕ) (count answered : ℕ) (last : Ear) (over : Bool) (fault : Fault) → octets ≡ input ++ behind → IsWhole over rest behind
       → (p : IsPublishedOf command t before last input rest count answered) → EndsAtLine command t before now p.lines rest fault → EndsInLines command t before now octets over fault
   at-line now input behind octets rest count answered last over fault split whole p ends = elim ends [
-    | inl stops ↦ inl (record {
+    | inl fails ↦ inl (record {
       lines = p.lines;
       line = rest;
       behind = behind;
       split = split ∙ ap (λ xs. xs ++ behind) p.split ∙ append_assoc (ended p.lines) rest behind;
       clean = (p.rest_clean, p.lines_clean);
       whole = whole;
-      stops = stops;
+      fails = fails;
     })
     | inr unanswered ↦ inr (inl (record {
       lines = p.lines;
@@ -95,13 +86,13 @@ module _ (command : PublishCommand) (t : Terms) (before : Ear) where
     split = p.split ∙ ap (λ xs. ended p.lines ++ xs) (sym (append-nil rest));
     clean = (p.rest_clean, p.lines_clean);
     whole = inr (refl, inr long);
-    stops = record {
+    fails = inl (record {
       number = is ∙ ap (λ n. BadLine (n + 1)) p.counted;
       bad = inl long;
       answered = answered;
       publishes = p.publishes;
       all = all-counted command.wishes.acknowledge answered count (length p.lines) all p.counted;
-    };
+    });
   })
 
   -- a whole line stays so, whether or not the input is over
@@ -133,7 +124,7 @@ module _ (command : PublishCommand) (t : Terms) (before : Ear) where
       split = bad.split;
       clean = bad.clean;
       whole = whole-however over bad.line bad.behind bad.whole;
-      stops = bad.stops;
+      fails = bad.fails;
     })
     | inr rest ↦ elim rest [
       | inl answer ↦ inr (inl (record {
@@ -154,17 +145,17 @@ module _ (command : PublishCommand) (t : Terms) (before : Ear) where
       ends-however now (input ++ piece) over fault (subst (λ x. EndsInLines command x before now (input ++ piece) false fault) e
       (ends before input (subst (λ x. IsPublishedOf command x before mid input rest count answered) (sym e) p)))
 
-  -- a message ends it that nothing waits for
+  -- a message ends it that nothing waits for, or the link gives none
   pub ends-interrupted : (u : Terms) (mid now : Ear) (input rest : List ℕ) (count answered : ℕ) (over : Bool) (fault : Fault) → u ≡ t → AllAnswered command.wishes.acknowledge count answered
-      → HearsUnawaited u mid now fault → IsPublishedOf command t before mid input rest count answered → EndsInLines command t before now input over fault
-  ends-interrupted u mid now input rest count answered over fault e all heard p = inr (inr (record {
+      → Stops u mid now fault → IsPublishedOf command t before mid input rest count answered → EndsInLines command t before now input over fault
+  ends-interrupted u mid now input rest count answered over fault e all stops p = inr (inr (record {
     rest = rest;
     count = count;
     answered = answered;
     last = mid;
     publishes = p;
     all = all;
-    unawaited = subst (λ x. HearsUnawaited x mid now fault) e heard;
+    stops = subst (λ (x : Terms). Stops x mid now fault) e stops;
   }))
 
   -- the last line ends it
@@ -176,31 +167,64 @@ module _ (command : PublishCommand) (t : Terms) (before : Ear) where
       (subst (λ x. EndsInLines command x before now input true fault) e
       (ends before input (subst (λ x. IsPublishedOf command x before mid input rest count answered) (sym e) p)))
 
--- what follows of a fault from two things that hold of it
-pub both-err : {X : Type 0} (r : Result X Fault) (P Q R : Fault → Type 0) → ((f : Fault) → P f → Q f → R f) → IfErr r P → IfErr r Q → IfErr r R
-both-err (Ok x) P Q R w p q = tt
-both-err (Err f) P Q R w p q = w f p q
-
--- and of what ends well
+-- what follows of what ends well from two things that hold then
 pub both-ok : {X : Type 0} (r : Result X Fault) (P Q R : Type 0) → (P → Q → R) → OnOk r P → OnOk r Q → OnOk r R
 both-ok (Ok x) P Q R w p q = w p q
 both-ok (Err f) P Q R w p q = tt
 
 module _ (command : PublishCommand) (before : Exchange) (session : Welcomed) (given taken given_before given_now : List ℕ) (over : Bool) where
   -- while it published
-  pub ends-publishing : (now : Ear) (last : Exchange) (fault : Fault) → Joins command.contact.serializer command.contact.realm command.contact.authid before (exchange given taken) session
-      → EndsInAll command (terms_of session) (standing session given taken) now given_before given_now over fault → Continues (exchange_of now) last
+  pub ends-publishing : (u : Terms) (now : Ear) (last : Exchange) (fault : Fault) → Joins command.contact.serializer command.contact.realm command.contact.authid before (exchange given taken) session → u ≡ terms_of session
+      → EndsInAll command (terms_of session) (standing session given taken) now given_before given_now over fault → ClosesAfter u now last fault
       → EndsPublishing command before last given_before given_now over fault
-  ends-publishing now last fault joins ends since = record { joined = exchange given taken; session = session; joins = joins; now = now; ends = inl (ends, since) }
-
-  -- behind GOODBYE
-  pub ends-leaving : (u : Terms) (now : Ear) (last : Exchange) (fault : Fault) → Joins command.contact.serializer command.contact.realm command.contact.authid before (exchange given taken) session → u ≡ terms_of session
-      → IsOver command (terms_of session) (standing session given taken) now given_before given_now over → EndsByMessage u (writing now (saying u.serializer GoodbyeSaid)) last fault
-      → EndsPublishing command before last given_before given_now over fault
-  ends-leaving u now last fault joins e out ends = record {
+  ends-publishing u now last fault joins e ends closes = record {
     joined = exchange given taken;
     session = session;
     joins = joins;
     now = now;
-    ends = inr (out, subst (λ (t : Terms). EndsByMessage t (writing now (saying t.serializer GoodbyeSaid)) last fault) e ends);
+    ends = inl (ends, subst (λ (t : Terms). ClosesAfter t now last fault) e closes);
+  }
+
+  closing : (u : Terms) (now : Ear) (last : Exchange) (reason : List ℕ) (fault : Fault) → Joins command.contact.serializer command.contact.realm command.contact.authid before (exchange given taken) session → u ≡ terms_of session
+      → EndsInAll command (terms_of session) (standing session given taken) now given_before given_now over (Closed reason) → IsAnswered u reason (exchange_of now) last fault
+      → EndsPublishing command before last given_before given_now over fault
+  closing u now last reason (Closed told) joins e ends answered =
+      ends-publishing u now last (Closed told) joins e (subst (λ r. EndsInAll command (terms_of session) (standing session given taken) now given_before given_now over (Closed r)) (sym answered.0) ends) answered.1
+  closing u now last reason fault joins e ends answered = record {
+    joined = exchange given taken;
+    session = session;
+    joins = joins;
+    now = now;
+    ends = inr (inl (reason, ends, subst (λ (t : Terms). ByLink (IsUnsaid t GoodbyeAndOut (exchange_of now) last) fault) e answered));
+  }
+
+  -- as it answered the broker's GOODBYE
+  pub ends-closing : (u : Terms) (now : Ear) (last : Exchange) (reason : List ℕ) (closed fault : Fault) → closed ≡ Closed reason
+      → Joins command.contact.serializer command.contact.realm command.contact.authid before (exchange given taken) session → u ≡ terms_of session
+      → EndsInAll command (terms_of session) (standing session given taken) now given_before given_now over closed → IsAnswered u reason (exchange_of now) last fault
+      → EndsPublishing command before last given_before given_now over fault
+  ends-closing u now last reason closed fault is joins e ends answered =
+      closing u now last reason fault joins e (subst (λ f. EndsInAll command (terms_of session) (standing session given taken) now given_before given_now over f) is ends) answered
+
+  goes-no-further : (u : Terms) (now : Ear) (last : Exchange) (fault : Fault) → ((number : ℕ) → fault ≢ BadLine number) → ((reason : List ℕ) → fault ≢ Closed reason) → exchange_of now ≡ last → ClosesAfter u now last fault
+  goes-no-further u now last (BadLine number) good unclosed same = absurd (good number refl)
+  goes-no-further u now last (Closed reason) good unclosed same = absurd (unclosed reason refl)
+  goes-no-further u now last _ good unclosed same = same
+
+  -- or nothing more was said and heard
+  pub ends-at-once : (u : Terms) (now : Ear) (fault : Fault) → ((number : ℕ) → fault ≢ BadLine number) → ((reason : List ℕ) → fault ≢ Closed reason)
+      → Joins command.contact.serializer command.contact.realm command.contact.authid before (exchange given taken) session → u ≡ terms_of session
+      → EndsInAll command (terms_of session) (standing session given taken) now given_before given_now over fault → EndsPublishing command before (exchange_of now) given_before given_now over fault
+  ends-at-once u now fault good unclosed joins e ends = ends-publishing u now (exchange_of now) fault joins e ends (goes-no-further u now (exchange_of now) fault good unclosed refl)
+
+  -- or as it left
+  pub ends-leaving : (u : Terms) (now : Ear) (last : Exchange) (fault : Fault) → Joins command.contact.serializer command.contact.realm command.contact.authid before (exchange given taken) session → u ≡ terms_of session
+      → IsOver command (terms_of session) (standing session given taken) now given_before given_now over → FailsToLeave u now last fault
+      → EndsPublishing command before last given_before given_now over fault
+  ends-leaving u now last fault joins e out fails = record {
+    joined = exchange given taken;
+    session = session;
+    joins = joins;
+    now = now;
+    ends = inr (inr (out, subst (λ (t : Terms). FailsToLeave t now last fault) e fails));
   }

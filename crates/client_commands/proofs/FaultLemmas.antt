@@ -1,7 +1,8 @@
 -- What faults tell of devices.
-use Rattle.std.proofs.Common.{◌≡◌, ◌+◌, refl, sym, ap, subst, ℕ, Bool, true, List, Result, Ok, Err}
+use Rattle.std.proofs.Common.{◌≡◌, ◌+◌, arith, refl, sym, ap, subst, ℕ, Bool, true, false, List, Result, Ok, Err}
 use Rattle.std.specs.Prelude.{IfErr}
-use Rattle.rawsocket.specs.Steps.{Fine, Meter, Told, WholeSteps, failures_told, told_by}
+use Rattle.rawsocket.specs.Devices.{Reading, Writing}
+use Rattle.rawsocket.specs.Steps.{Fine, Meter, ReadSteps, Told, WholeSteps, WriteSteps, failures_told, told_by}
 use Rattle.client_messages.specs.declared.client_message.ClientMessage.{ClientMessage}
 use Rattle.client_messages.specs.declared.heard.Heard.{Heard}
 use Rattle.client_messages.specs.declared.heard.Heard.TheVariants as heard
@@ -10,14 +11,14 @@ use Rattle.client_session.specs.Hearing.{Terms}
 use Rattle.client_session.specs.Saying.{IsCutShort}
 use Rattle.client_session.specs.Sessions.{opening_read_told, opening_write_told, session_read_told, session_write_told}
 use Rattle.client_session.specs.declared.fault.Fault as link_faults
-use Rattle.client_session.specs.declared.fault.Fault.TheVariants.{NoMemory, Ended, ReadFault, TooManyReads}
+use Rattle.client_session.specs.declared.fault.Fault.TheVariants.{NoMemory, Ended, ReadFault, TooManyReads, TooManyWrites}
 use Rattle.client_session.specs.declared.welcomed.NoSession.{NoSession}
 use Rattle.client_session.specs.declared.welcomed.NoSession.TheVariants as no_session
 use Rattle.client_session.specs.declared.welcomed.Unheard.{Unheard}
 use Rattle.client_session.specs.declared.welcomed.Unheard.TheVariants as unheard
 use Rattle.client_commands.specs.declared.fault.Fault.{Fault}
 use Rattle.client_commands.specs.declared.fault.Fault.TheVariants as command
-use Rattle.client_commands.specs.Faults.{IsNoEnd, IsOfBroker, IsOfHere, IsOfLink, IsOfNoContents, TellsEnd, input_told, is_passing, of_hearing, of_link, of_message, of_opening, output_told, sink_told, source_told}
+use Rattle.client_commands.specs.Faults.{IsNoEnd, IsOfBroker, IsOfHere, RunsOut, TellsEnd, input_told, is_connection, is_passing, of_hearing, of_link, of_message, of_opening, output_told, sink_told, source_told}
 
 -- a fault of the link tells of it what it tells as a fault of a command
 pub of_link-read : (f : link_faults.Fault) → source_told (of_link f) ≡ read_told f
@@ -40,30 +41,6 @@ of_opening-aside (no_session.Failed fault) = of_link-aside fault
 pub of_hearing-aside : (f : Unheard) → IsOfBroker (of_hearing f)
 of_hearing-aside unheard.ForeignEvent = record { input = refl; output = refl }
 of_hearing-aside (unheard.Failed fault) = of_link-aside fault
-
-pub of_link-is : (f : link_faults.Fault) → IsOfLink (of_link f)
-of_link-is NoMemory = tt
-of_link-is _ = tt
-
--- nor does it tell of what is to be published
-pub of_link-carried : (f : link_faults.Fault) → IsOfNoContents (of_link f)
-of_link-carried NoMemory = refl
-of_link-carried _ = refl
-
-pub of_opening-carried : (f : NoSession) → IsOfNoContents (of_opening f)
-of_opening-carried (no_session.Aborted reason) = refl
-of_opening-carried no_session.Unexpected = refl
-of_opening-carried (no_session.Failed fault) = of_link-carried fault
-
-pub of_hearing-carried : (f : Unheard) → IsOfNoContents (of_hearing f)
-of_hearing-carried unheard.ForeignEvent = refl
-of_hearing-carried (unheard.Failed fault) = of_link-carried fault
-
-pub of_message-carried : (h : Heard) → IsOfNoContents (of_message h)
-of_message-carried (heard.Abort reason) = refl
-of_message-carried (heard.Error kind request reason) = refl
-of_message-carried (heard.Goodbye reason) = refl
-of_message-carried _ = refl
 
 -- the end of the stream is told as the link tells it
 pub of_link-end : (f : link_faults.Fault) (ended : Bool) → (f ≡ Ended → ended ≡ true) → TellsEnd ended (of_link f)
@@ -129,10 +106,10 @@ of_message-aside (heard.Goodbye reason) = record { input = refl; output = refl }
 of_message-aside _ = record { input = refl; output = refl }
 
 pub of_message-here : (h : Heard) → IsOfHere (of_message h)
-of_message-here (heard.Abort reason) = record { source = refl; sink = refl; end = refl }
-of_message-here (heard.Error kind request reason) = record { source = refl; sink = refl; end = refl }
-of_message-here (heard.Goodbye reason) = record { source = refl; sink = refl; end = refl }
-of_message-here _ = record { source = refl; sink = refl; end = refl }
+of_message-here (heard.Abort reason) = record { other = refl; source = refl; sink = refl; end = refl }
+of_message-here (heard.Error kind request reason) = record { other = refl; source = refl; sink = refl; end = refl }
+of_message-here (heard.Goodbye reason) = record { other = refl; source = refl; sink = refl; end = refl }
+of_message-here _ = record { other = refl; source = refl; sink = refl; end = refl }
 
 -- a fault of the broker tells nothing of the standard input
 pub aside-input : {X : Type 0} (r : Result X Fault) → IfErr r IsOfBroker → told_by input_told r ≡ Fine
@@ -148,3 +125,20 @@ aside-output (Err fault) is = is.output
 pub passing-fine : (f : Fault) → is_passing f ≡ true → failures_told (output_told f) ≡ 0
 passing-fine command.WriteFault is = absurd (cc)
 passing-fine _ is = refl
+
+-- a call that tells that it had no turn left had 2 ^ 32
+pub runs-out : (read source : Reading) (wrote sink : Writing) (fault : Fault) → ReadSteps read source (source_told fault) → WriteSteps wrote sink (sink_told fault) → RunsOut source sink fault
+runs-out read source wrote sink (command.Connection TooManyReads) r w = omega (arith, r.steps.calls, r.steps.turns)
+runs-out read source wrote sink (command.Connection TooManyWrites) r w = omega (arith, w.steps.calls, w.steps.turns)
+runs-out read source wrote sink _ r w = tt
+
+-- and so where nothing is read
+pub runs-out-writing : (source : Reading) (wrote sink : Writing) (fault : Fault) → source_told fault ≡ Fine → WriteSteps wrote sink (sink_told fault) → RunsOut source sink fault
+runs-out-writing source wrote sink (command.Connection TooManyReads) unread w = absurd (cc unread)
+runs-out-writing source wrote sink (command.Connection TooManyWrites) unread w = omega (arith, w.steps.calls, w.steps.turns)
+runs-out-writing source wrote sink _ unread w = tt
+
+-- what is none of the link tells nothing of it
+pub runs-out-here : (source : Reading) (sink : Writing) (fault : Fault) → is_connection fault ≡ false → RunsOut source sink fault
+runs-out-here source sink (command.Connection fault) here = absurd (cc here)
+runs-out-here source sink _ here = tt

@@ -1,4 +1,4 @@
-pub mod CauseLemmas
+pub mod StopLemmas
 pub mod ContinuingLemmas
 pub mod ControlsLemmas
 pub mod EndsLemmas

@@ -15,7 +15,6 @@ use Rattle.client_session.specs.Hearing.{Ear, HearsNext, Terms, ear, heard_at, t
 use Rattle.client_session.specs.Saying.{saying}
 use Rattle.client_session.specs.Sessions.{HearsLast, Welcomed, is_answer}
 use Rattle.client_commands.specs.EventLine.{event_line}
-use Rattle.client_commands.specs.Faults.{is_of_message, of_message}
 use Rattle.client_commands.specs.Notes.{IsNoted, Noting, note_of}
 use Rattle.client_commands.specs.declared.command.LineForm.{LineForm}
 use Rattle.client_commands.specs.declared.fault.Fault.{Fault}
@@ -79,26 +78,6 @@ pub record IsTurnedAway (s : Serializer) (realm : List ℕ) (authid : Option (Li
   pub heard : Heard
   pub hears : HearsLast (terms s limit) (ear [] [] linked.given (linked.taken ++ saying s (Hello realm authid))) now.given now.taken (Ok heard)
   pub why : TurnsAway heard fault
-
--- a message is heard, perhaps behind others, and a command ends by it
-pub record EndsByMessage (t : Terms) (before : Ear) (last : Exchange) (fault : Fault) : Type 0 where
-  pub heards : List Heard
-  pub heard : Heard
-  pub now : Ear
-  pub listens : Listens t before now (heard ∷ heards)
-  pub since : Continues (exchange_of now) last
-  pub why : fault ≡ of_message heard
-
--- where a message gave the fault, it was heard
-abbrev pub IsCaused : Terms → Ear → Exchange → Fault → Type 0
-IsCaused t before last fault = is_of_message fault ≡ true → EndsByMessage t before last fault
-
--- it is heard after GOODBYE was said
-pub record EndsLeaving (t : Terms) (before : Ear) (last : Exchange) (fault : Fault) : Type 0 where
-  pub heards : List Heard
-  pub mid : Ear
-  pub listens : Listens t before mid heards
-  pub ends : EndsByMessage t (writing mid (saying t.serializer GoodbyeSaid)) last fault
 
 -- whether nothing is amiss where it comes: an event, or a subscription that is given
 abbrev pub may_come : Heard → Bool
@@ -251,10 +230,3 @@ pub record IsSilent (lines_before lines : List ℕ) (notes_before notes : Noting
   pub unnoted : notes ≡ notes_before
   pub uncounted : listener.left ≡ left
   pub unsubscribed : listener.is_subscribed ≡ false
-
--- the message by which `subscribe` ends that had asked
-pub record EndsAfterAsking (s : Serializer) (realm : List ℕ) (authid : Option (List ℕ)) (wishes : SubscribeWishes) (topics : List (List ℕ)) (before last : Exchange) (fault : Fault) : Type 0 where
-  pub t : Terms
-  pub asking : Ear
-  pub asks : Asks s realm authid wishes topics before asking t
-  pub ends : EndsByMessage t asking last fault ⊎ EndsLeaving t asking last fault

@@ -1,5 +1,5 @@
 -- What the faults of a command tell of each device.
-use Rattle.std.specs.Prelude.{◌≡◌, ◌==◌, ◌+◌, ◌||◌, ⊤, Bool, true, false}
+use Rattle.std.specs.Prelude.{◌≡◌, ◌==◌, ◌≤◌, ◌+◌, ⊤, Bool, true, false}
 use Rattle.rawsocket.specs.Devices.{Reading, Writing}
 use Rattle.rawsocket.specs.Steps.{Told, Fine, Failed, NoTurn, failures_told}
 use Rattle.client_session.specs.Faults.{read_told, write_told}
@@ -48,23 +48,17 @@ is_of_message _ = false
 abbrev pub IsOfNoMessage : Fault → Type 0
 IsOfNoMessage fault = is_of_message fault ≡ false
 
--- where a message gave the fault, it is this one
-abbrev pub IsOfMessage : Heard → Fault → Type 0
-IsOfMessage heard fault = is_of_message fault ≡ true → fault ≡ of_message heard
-
--- a fault that only what is to be published gives
-abbrev pub is_of_contents : Fault → Bool
-is_of_contents Usage = true
-is_of_contents (BadLine number) = true
-is_of_contents _ = false
-
--- a fault that it doesn't give
-abbrev pub IsOfNoContents : Fault → Type 0
-IsOfNoContents fault = is_of_contents fault ≡ false
-
--- a fault that a message of the broker gives, or what is to be published
+-- a fault that the broker gives, or what is to be published: it is none of memory, and none that the standard input gives
 abbrev pub is_blamed : Fault → Bool
-is_blamed fault = is_of_message fault || is_of_contents fault
+is_blamed NoMemory = false
+is_blamed ReadFault = false
+is_blamed TooManyTurns = false
+is_blamed _ = true
+
+-- a fault of the connection to the broker
+abbrev pub is_connection : Fault → Bool
+is_connection (Connection fault) = true
+is_connection _ = false
 
 -- the broker ended the connection
 abbrev pub is_end : Fault → Bool
@@ -78,6 +72,12 @@ IsNoEnd fault = is_end fault ≡ false
 -- where it tells it, the stream told its end
 abbrev pub TellsEnd : Bool → Fault → Type 0
 TellsEnd ended fault = is_end fault ≡ true → ended ≡ true
+
+-- where it tells that a call had no turn left, the stream was read, or written, 2 ^ 32 times
+abbrev pub RunsOut : Reading → Writing → Fault → Type 0
+RunsOut source sink (Connection link.TooManyReads) = 4294967296 ≤ source.calls
+RunsOut source sink (Connection link.TooManyWrites) = 4294967296 ≤ sink.calls
+RunsOut source sink _ = ⊤
 
 -- a link broke, or the broker had no seat left: another connection may do better
 abbrev pub is_lost : link_faults.Fault → Bool
@@ -124,19 +124,14 @@ ReadFailuresTold before now told = now.failures ≡ before.failures + failures_t
 abbrev pub WriteFailuresTold : Writing → Writing → Told → Type 0
 WriteFailuresTold before now told = now.failures ≡ before.failures + failures_told told
 
--- want of memory, or a fault of the link
-abbrev pub IsOfLink : Fault → Type 0
-IsOfLink NoMemory = ⊤
-IsOfLink (Connection fault) = ⊤
-IsOfLink _ = ⊥
-
 -- a fault that tells nothing of the standard input and output
 pub record IsOfBroker (fault : Fault) : Type 0 where
   pub input : input_told fault ≡ Fine
   pub output : output_told fault ≡ Fine
 
--- a fault that tells nothing of the connection to the broker
+-- a fault that is none of the connection to the broker, and tells nothing of it
 pub record IsOfHere (fault : Fault) : Type 0 where
+  pub other : is_connection fault ≡ false
   pub source : source_told fault ≡ Fine
   pub sink : sink_told fault ≡ Fine
   pub end : IsNoEnd fault

@@ -7,6 +7,7 @@ pub mod Acts
 pub mod Lines
 pub mod Pacing
 pub mod Published
+pub mod Stops
 pub mod Ends
 pub mod WholeInput
 pub mod Reconnecting

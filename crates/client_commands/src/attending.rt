@@ -1,10 +1,10 @@
 //! The broker while nothing is there to be published.
-ghost use Rattle.std.specs.Prelude.{◌≡◌, IfErr, OnOk, true};
+ghost use Rattle.std.specs.Prelude.{◌≡◌, IfErr, OnOk};
 ghost use Rattle.rawsocket.specs.Steps.{told_by};
 ghost use Rattle.client_session.specs.Hearing.{HearsNoneYet};
 ghost use Rattle.client_commands.specs.Acts.{standing_of, terms_of};
-ghost use Rattle.client_commands.specs.Ends.{HearsUnawaited};
-ghost use Rattle.client_commands.specs.Faults.{IsOfBroker, IsOfNoContents, ReadFailuresTold, TellsEnd, WriteFailuresTold, is_of_message, sink_told, source_told};
+ghost use Rattle.client_commands.specs.Stops.{Stops};
+ghost use Rattle.client_commands.specs.Faults.{IsOfBroker, ReadFailuresTold, TellsEnd, WriteFailuresTold, sink_told, source_told};
 
 use crate::fault::Fault;
 use crate::hearing::{fault_of, listen};
@@ -25,11 +25,9 @@ pub(crate) fn attend<I: Source, O: Sink, T: Timing>(
     ensures attended { OnOk result (HearsNoneYet (terms_of session.old)
         (standing_of session.old (I.seen source.old) (O.seen sink.old))
         (standing_of session.new (I.seen source.new) (O.seen sink.new))) }
-    ensures unawaited { IfErr result (λ fault. is_of_message fault ≡ true → HearsUnawaited
-        (terms_of session.old)
+    ensures stops { IfErr result (Stops (terms_of session.old)
         (standing_of session.old (I.seen source.old) (O.seen sink.old))
-        (standing_of session.new (I.seen source.new) (O.seen sink.new)) fault) }
-    ensures carried { IfErr result IsOfNoContents }
+        (standing_of session.new (I.seen source.new) (O.seen sink.new))) }
     ensures gone { IfErr result (TellsEnd (I.seen source.new).is_ended) }
     ensures terms { terms_of session.new ≡ terms_of session.old }
     ensures aside { IfErr result IsOfBroker }
@@ -50,5 +48,6 @@ pub(crate) fn attend<I: Source, O: Sink, T: Timing>(
             Err(fault) => return Err(fault),
         }
     }
-    Err(Fault::Connection(client_session::Fault::TooManyReads))
+    // No number is left to count a further look by.
+    Err(Fault::NoMemory)
 }

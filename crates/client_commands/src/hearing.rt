@@ -1,12 +1,13 @@
 //! What is said and heard in a session, with the faults of a command.
-ghost use Rattle.std.specs.Prelude.{◌≡◌, ◌++◌, IfErr, IfOk, OnOk, Ok};
+ghost use Rattle.std.specs.Prelude.{◌≡◌, ◌++◌, ℕ, List, IfErr, IfOk, OnOk, Ok};
 ghost use Rattle.rawsocket.specs.Devices.{Takes, TakesBeginning};
 ghost use Rattle.rawsocket.specs.Steps.{Fine, ReadSteps, WriteSteps, told_by};
-ghost use Rattle.session.specs.Opened.{exchanged};
-ghost use Rattle.client_session.specs.Hearing.{HearsNext, ListensNext};
+ghost use Rattle.session.specs.Opened.{exchange, exchanged};
+ghost use Rattle.client_session.specs.Hearing.{HearsNext, ListensNext, terms};
 ghost use Rattle.client_session.specs.Saying.{saying};
 ghost use Rattle.client_commands.specs.Acts.{Continues, standing_of, terms_of};
-ghost use Rattle.client_commands.specs.Faults.{IsNoEnd, IsOfBroker, IsOfHere, IsOfLink, IsOfNoContents, IsOfNoMessage, ReadFailuresTold, TellsEnd, WriteFailuresTold, of_message, sink_told, source_told};
+ghost use Rattle.client_commands.specs.Stops.{ByLink, IsUnsaid, Stops};
+ghost use Rattle.client_commands.specs.Faults.{IsNoEnd, IsOfBroker, IsOfHere, IsOfNoMessage, ReadFailuresTold, TellsEnd, WriteFailuresTold, of_message, sink_told, source_told};
 
 use crate::fault::Fault;
 use client_session::{ClientMessage, ClientSession, Heard, Link};
@@ -25,9 +26,9 @@ pub(crate) fn say<O: Sink>(
     ensures begun { TakesBeginning (O.seen sink.old) (O.seen sink.new)
         (saying link.now.serializer said) }
     ensures unread { told_by source_told result ≡ Fine }
-    ensures link { IfErr result IsOfLink }
-    ensures unblamed { IfErr result IsOfNoMessage }
-    ensures carried { IfErr result IsOfNoContents }
+    ensures unsaid { IfErr result (λ fault. (given : List ℕ) → ByLink (IsUnsaid
+        (terms link.now.serializer link.now.limit) said (exchange given (O.seen sink.old).taken)
+        (exchange given (O.seen sink.new).taken)) fault) }
     ensures unended { IfErr result IsNoEnd }
     ensures aside { IfErr result IsOfBroker }
     ensures writes { WriteSteps (O.seen sink.old) (O.seen sink.new) (told_by sink_told result) }
@@ -48,10 +49,12 @@ pub(crate) fn hear<I: Source, O: Sink>(
     ensures next { IfOk result (λ heard. HearsNext (terms_of session.old)
         (standing_of session.old (I.seen source.old) (O.seen sink.old))
         (standing_of session.new (I.seen source.new) (O.seen sink.new)) (Ok heard)) }
+    ensures stops { IfErr result (Stops (terms_of session.old)
+        (standing_of session.old (I.seen source.old) (O.seen sink.old))
+        (standing_of session.new (I.seen source.new) (O.seen sink.new))) }
     ensures goes_on { Continues (exchanged (I.seen source.old) (O.seen sink.old))
         (exchanged (I.seen source.new) (O.seen sink.new)) }
     ensures unblamed { IfErr result IsOfNoMessage }
-    ensures carried { IfErr result IsOfNoContents }
     ensures gone { IfErr result (TellsEnd (I.seen source.new).is_ended) }
     ensures aside { IfErr result IsOfBroker }
     ensures terms { terms_of session.new ≡ terms_of session.old }
@@ -74,8 +77,9 @@ pub(crate) fn listen<I: Source, O: Sink>(
     ensures next { IfOk result (λ heard. ListensNext (terms_of session.old)
         (standing_of session.old (I.seen source.old) (O.seen sink.old))
         (standing_of session.new (I.seen source.new) (O.seen sink.new)) (Ok heard)) }
-    ensures unblamed { IfErr result IsOfNoMessage }
-    ensures carried { IfErr result IsOfNoContents }
+    ensures stops { IfErr result (Stops (terms_of session.old)
+        (standing_of session.old (I.seen source.old) (O.seen sink.old))
+        (standing_of session.new (I.seen source.new) (O.seen sink.new))) }
     ensures gone { IfErr result (TellsEnd (I.seen source.new).is_ended) }
     ensures aside { IfErr result IsOfBroker }
     ensures terms { terms_of session.new ≡ terms_of session.old }
@@ -93,7 +97,6 @@ pub(crate) fn listen<I: Source, O: Sink>(
 /// Why a message that nothing waits for ends a command.
 pub(crate) fn fault_of(heard: Heard) -> Fault
     ensures why { result ≡ of_message heard }
-    ensures carried { IsOfNoContents result }
     ensures of_broker { IsOfBroker result }
     ensures of_here { IsOfHere result }
 {

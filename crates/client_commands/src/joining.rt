@@ -1,10 +1,11 @@
 //! The way into a session.
-ghost use Rattle.std.specs.Prelude.{◌≡◌, IfErr, IfOk, true};
+ghost use Rattle.std.specs.Prelude.{◌≡◌, IfErr, IfOk};
 ghost use Rattle.rawsocket.specs.Steps.{told_by};
 ghost use Rattle.session.specs.Opened.{exchanged};
 ghost use Rattle.client_messages.specs.declared.client_message.ClientMessage.TheVariants.{Hello as HelloSaid};
-ghost use Rattle.client_commands.specs.Acts.{IsTurnedAway, Joins};
-ghost use Rattle.client_commands.specs.Faults.{IsOfBroker, IsOfNoContents, ReadFailuresTold, TellsEnd, WriteFailuresTold, is_of_message, sink_told, source_told};
+ghost use Rattle.client_commands.specs.Acts.{Joins};
+ghost use Rattle.client_commands.specs.Stops.{FailsToJoin};
+ghost use Rattle.client_commands.specs.Faults.{IsOfBroker, ReadFailuresTold, RunsOut, TellsEnd, WriteFailuresTold, sink_told, source_told};
 
 use crate::command::Contact;
 use crate::fault::Fault;
@@ -46,12 +47,11 @@ pub(crate) fn join<I: Source, O: Sink>(
     ensures joined { IfOk result (λ session. Joins contact.now.serializer contact.now.realm
         contact.now.authid (exchanged (I.seen source.old) (O.seen sink.old))
         (exchanged (I.seen source.new) (O.seen sink.new)) session) }
-    ensures cause { IfErr result (λ fault. is_of_message fault ≡ true → IsTurnedAway
-        contact.now.serializer contact.now.realm contact.now.authid
-        (exchanged (I.seen source.old) (O.seen sink.old))
-        (exchanged (I.seen source.new) (O.seen sink.new)) fault) }
-    ensures carried { IfErr result IsOfNoContents }
+    ensures fails { IfErr result (FailsToJoin contact.now.serializer contact.now.realm
+        contact.now.authid (exchanged (I.seen source.old) (O.seen sink.old))
+        (exchanged (I.seen source.new) (O.seen sink.new))) }
     ensures gone { IfErr result (TellsEnd (I.seen source.new).is_ended) }
+    ensures turns { IfErr result (RunsOut (I.seen source.new) (O.seen sink.new)) }
     ensures aside { IfErr result IsOfBroker }
     ensures reads { ReadFailuresTold (I.seen source.old) (I.seen source.new)
         (told_by source_told result) }

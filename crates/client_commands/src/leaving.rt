@@ -1,11 +1,12 @@
 //! The way out of a session.
-ghost use Rattle.std.specs.Prelude.{◌≡◌, ◌++◌, IfErr, OnOk, true};
-ghost use Rattle.rawsocket.specs.Devices.{Takes, TakesBeginning};
+ghost use Rattle.std.specs.Prelude.{◌≡◌, ◌++◌, ℕ, List, IfErr, OnOk};
+ghost use Rattle.rawsocket.specs.Devices.{Reading, TakesBeginning};
 ghost use Rattle.rawsocket.specs.Steps.{Fine, told_by};
-ghost use Rattle.session.specs.Opened.{exchanged};
+ghost use Rattle.session.specs.Opened.{exchange, exchanged};
 ghost use Rattle.client_session.specs.Saying.{saying};
-ghost use Rattle.client_commands.specs.Acts.{Continues, IsCaused, Leaves, may_come, standing_of, terms_of, writing};
-ghost use Rattle.client_commands.specs.Faults.{IsNoEnd, IsOfBroker, IsOfNoContents, ReadFailuresTold, TellsEnd, WriteFailuresTold, is_of_message, sink_told, source_told};
+ghost use Rattle.client_commands.specs.Acts.{Continues, Leaves, may_come, standing_of, terms_of};
+ghost use Rattle.client_commands.specs.Stops.{FailsToLeave, IsAnswered};
+ghost use Rattle.client_commands.specs.Faults.{IsNoEnd, IsOfBroker, ReadFailuresTold, RunsOut, TellsEnd, WriteFailuresTold, sink_told, source_told};
 
 use crate::fault::Fault;
 use crate::hearing::{fault_of, hear, say};
@@ -40,12 +41,11 @@ pub(crate) fn leave<I: Source, O: Sink>(
         (standing_of session.new (I.seen source.new) (O.seen sink.new))) }
     ensures goes_on { Continues (exchanged (I.seen source.old) (O.seen sink.old))
         (exchanged (I.seen source.new) (O.seen sink.new)) }
-    ensures cause { IfErr result (IsCaused (terms_of session.old) (writing
+    ensures fails { IfErr result (FailsToLeave (terms_of session.old)
         (standing_of session.old (I.seen source.old) (O.seen sink.old))
-        (saying session.old.line.serializer ClientMessage.Goodbye))
         (exchanged (I.seen source.new) (O.seen sink.new))) }
-    ensures carried { IfErr result IsOfNoContents }
     ensures gone { IfErr result (TellsEnd (I.seen source.new).is_ended) }
+    ensures turns { IfErr result (RunsOut (I.seen source.new) (O.seen sink.new)) }
     ensures aside { IfErr result IsOfBroker }
     ensures reads { ReadFailuresTold (I.seen source.old) (I.seen source.new)
         (told_by source_told result) }
@@ -69,7 +69,8 @@ pub(crate) fn leave<I: Source, O: Sink>(
             }
         }
     }
-    Err(Fault::Connection(client_session::Fault::TooManyReads))
+    // No number is left to count a further message by.
+    Err(Fault::NoMemory)
 }
 
 /// Answers the broker that closed the session for this reason, and gives the fault by which a command ends.
@@ -79,12 +80,11 @@ pub(crate) fn answer_goodbye<O: Sink>(
     sink: &mut O,
     reason: Text,
 ) -> Fault
-    ensures answered { result ≡ Fault.Closed reason → Takes (O.seen sink.old) (O.seen sink.new)
-        (saying session.now.line.serializer ClientMessage.GoodbyeAndOut) }
+    ensures answered { (given : List ℕ) → IsAnswered (terms_of session.now) reason
+        (exchange given (O.seen sink.old).taken) (exchange given (O.seen sink.new).taken) result }
     ensures begun { TakesBeginning (O.seen sink.old) (O.seen sink.new)
         (saying session.now.line.serializer ClientMessage.GoodbyeAndOut) }
-    ensures closed { is_of_message result ≡ true → result ≡ Fault.Closed reason }
-    ensures carried { IsOfNoContents result }
+    ensures turns { (source : Reading) → RunsOut source (O.seen sink.new) result }
     ensures unended { IsNoEnd result }
     ensures unread { source_told result ≡ Fine }
     ensures aside { IsOfBroker result }

@@ -3,9 +3,9 @@ ghost use Rattle.std.specs.Prelude.{◌≡◌, ◌≢◌, ◌<◌, ◌≤◌, �
 ghost use Rattle.rawsocket.specs.Steps.{told_by};
 ghost use Rattle.client_messages.specs.declared.heard.Heard.TheVariants.{Published as PublishedHeard};
 ghost use Rattle.client_commands.specs.Acts.{standing_of, terms_of};
-ghost use Rattle.client_commands.specs.Ends.{EndsAtLine, HearsAnother, IsBadLine, IsUnanswered};
+ghost use Rattle.client_commands.specs.Ends.{EndsAtLine, GetsNoAnswer, IsBadLine, IsUnanswered};
 ghost use Rattle.client_commands.specs.Pacing.{IsAcknowledged, IsOfLine, IsPaced, WherePaced, publication};
-ghost use Rattle.client_commands.specs.Faults.{IsOfBroker, IsOfHere, IsOfNoContents, ReadFailuresTold, TellsEnd, WriteFailuresTold, is_blamed, is_of_message, sink_told, source_told};
+ghost use Rattle.client_commands.specs.Faults.{IsOfBroker, IsOfHere, ReadFailuresTold, TellsEnd, WriteFailuresTold, is_blamed, sink_told, source_told};
 
 use crate::command::PublishCommand;
 use crate::fault::Fault;
@@ -32,11 +32,10 @@ pub(crate) fn hear_answer<I: Source, O: Sink>(
     ensures published { OnOk result (IsAcknowledged (terms_of session.old) request
         (standing_of session.old (I.seen source.old) (O.seen sink.old))
         (standing_of session.new (I.seen source.new) (O.seen sink.new))) }
-    ensures another { IfErr result (λ fault. is_of_message fault ≡ true → HearsAnother
+    ensures another { IfErr result (λ fault. is_blamed fault ≡ true → GetsNoAnswer
         (terms_of session.old) request
         (standing_of session.old (I.seen source.old) (O.seen sink.old))
         (standing_of session.new (I.seen source.new) (O.seen sink.new)) fault) }
-    ensures carried { IfErr result IsOfNoContents }
     ensures gone { IfErr result (TellsEnd (I.seen source.new).is_ended) }
     ensures terms { terms_of session.new ≡ terms_of session.old }
     ensures aside { IfErr result IsOfBroker }
@@ -87,7 +86,7 @@ pub(crate) fn hear_answers<I: Source, O: Sink, T: Timing>(
         progress.new.answered)) }
     ensures few { OnOk result (command.now.wishes.acknowledge ≡ true →
         progress.new.count ≤ progress.new.answered + most) }
-    ensures ends { IfErr result (λ fault. is_of_message fault ≡ true →
+    ensures ends { IfErr result (λ fault. is_blamed fault ≡ true →
         WherePaced command.now (terms_of session.old)
         (standing_of session.old (I.seen source.old) (O.seen sink.old)) progress.old
         (λ before lines. IsUnanswered command.now (terms_of session.old) before
@@ -95,7 +94,6 @@ pub(crate) fn hear_answers<I: Source, O: Sink, T: Timing>(
         fault)) }
     ensures rest { progress.new.rest.items ≡ progress.old.rest.items }
     ensures count { progress.new.count ≡ progress.old.count }
-    ensures carried { IfErr result IsOfNoContents }
     ensures gone { IfErr result (TellsEnd (I.seen source.new).is_ended) }
     ensures terms { terms_of session.new ≡ terms_of session.old }
     ensures aside { IfErr result IsOfBroker }

@@ -2,11 +2,12 @@
 ghost use Rattle.std.specs.Prelude.{◌≡◌, ◌⊎◌, ◌<◌, ◌++◌, ℕ, List, [], IfErr, OnOk, Some, false, length, true};
 ghost use Rattle.rawsocket.specs.Steps.{ReadSteps, failures_told, told_by};
 ghost use Rattle.session.specs.Opened.{exchanged};
-ghost use Rattle.client_commands.specs.Acts.{IsTurnedAway, standing_of, terms_of};
-ghost use Rattle.client_commands.specs.Ends.{EndsInAll, EndsInInput, EndsInLines, EndsInWords, EndsPublishing, IsUnacknowledged};
+ghost use Rattle.client_commands.specs.Acts.{standing_of, terms_of};
+ghost use Rattle.client_commands.specs.Ends.{EndsInAll, EndsInInput, EndsInLines, EndsInWords, EndsPublishing, IsUnacknowledged, IsUnpublished};
 ghost use Rattle.client_commands.specs.Pacing.{AllAnswered, IsPublished};
 ghost use Rattle.client_commands.specs.Published.{IsPublishedOf, IsReadToEnd, Publishes, PublishesAll, PublishesInput, WherePublished};
-ghost use Rattle.client_commands.specs.Faults.{IsOfBroker, IsOfNoContents, ReadFailuresTold, TellsEnd, WriteFailuresTold, input_told, is_blamed, is_of_message, output_told, sink_told, source_told};
+ghost use Rattle.client_commands.specs.Stops.{FailsToJoin};
+ghost use Rattle.client_commands.specs.Faults.{IsOfBroker, ReadFailuresTold, RunsOut, TellsEnd, WriteFailuresTold, input_told, is_blamed, output_told, sink_told, source_told};
 
 use crate::attending::attend;
 use crate::command::{Arguments, PublishCommand};
@@ -245,11 +246,13 @@ fn publish_as<I: Source, O: Sink>(
     ensures published { OnOk result (IsPublished command.now (terms_of session.old) request args
         (standing_of session.old (I.seen source.old) (O.seen sink.old))
         (standing_of session.new (I.seen source.new) (O.seen sink.new))) }
-    ensures unacknowledged { IfErr result (λ fault. is_of_message fault ≡ true →
-        IsUnacknowledged command.now (terms_of session.old) request args
+    ensures ends { IfErr result (λ fault. is_blamed fault ≡ true →
+        IsUnpublished command.now (terms_of session.old) request args
+        (standing_of session.old (I.seen source.old) (O.seen sink.old))
+        (standing_of session.new (I.seen source.new) (O.seen sink.new)) fault
+        ⊎ IsUnacknowledged command.now (terms_of session.old) request args
         (standing_of session.old (I.seen source.old) (O.seen sink.old))
         (standing_of session.new (I.seen source.new) (O.seen sink.new)) fault) }
-    ensures carried { IfErr result IsOfNoContents }
     ensures gone { IfErr result (TellsEnd (I.seen source.new).is_ended) }
     ensures terms { terms_of session.new ≡ terms_of session.old }
     ensures aside { IfErr result IsOfBroker }
@@ -369,10 +372,11 @@ pub fn publish<I: Source, O: Sink, J: Source, T: Timing>(
         (exchanged (I.seen source.new) (O.seen sink.new)) (J.seen input.old).given
         (J.seen input.new).given) }
     ensures ended { OnOk result (IsReadToEnd command.now.arguments (J.seen input.new).is_ended) }
-    ensures cause { IfErr result (λ fault. is_blamed fault ≡ true → IsTurnedAway
+    ensures ends { IfErr result (λ fault. is_blamed fault ≡ true → (FailsToJoin
         command.now.contact.serializer command.now.contact.realm command.now.contact.authid
         (exchanged (I.seen source.old) (O.seen sink.old))
-        (exchanged (I.seen source.new) (O.seen sink.new)) fault ⊎ EndsPublishing command.now
+        (exchanged (I.seen source.new) (O.seen sink.new)) fault
+        × RunsOut (I.seen source.new) (O.seen sink.new) fault) ⊎ EndsPublishing command.now
         (exchanged (I.seen source.old) (O.seen sink.old))
         (exchanged (I.seen source.new) (O.seen sink.new)) (J.seen input.old).given
         (J.seen input.new).given (J.seen input.new).is_ended fault) }
@@ -388,13 +392,16 @@ pub fn publish<I: Source, O: Sink, J: Source, T: Timing>(
         Ok(session) => session,
         Err(fault) => return Err(fault),
     };
-    match publish_all(alloc, command, &mut session, source, sink, input, timing) {
-        Ok(()) => leave(alloc, &mut session, source, sink),
-        Err(Fault::BadLine(line)) => match leave(alloc, &mut session, source, sink) {
+    let fault = match publish_all(alloc, command, &mut session, source, sink, input, timing) {
+        Ok(()) => return leave(alloc, &mut session, source, sink),
+        Err(fault) => fault,
+    };
+    match fault {
+        Fault::BadLine(line) => match leave(alloc, &mut session, source, sink) {
             Ok(()) => Err(Fault::BadLine(line)),
-            Err(fault) => Err(fault),
+            Err(other) => Err(other),
         },
-        Err(Fault::Closed(reason)) => Err(answer_goodbye(alloc, &session, sink, reason)),
-        Err(fault) => Err(fault),
+        Fault::Closed(reason) => Err(answer_goodbye(alloc, &session, sink, reason)),
+        other => Err(other),
     }
 }

@@ -1,14 +1,16 @@
 //! `subscribe`.
-ghost use Rattle.std.specs.Prelude.{◌≡◌, ◌++◌, ◌⊎◌, IfOk, IfErr, OnErr, OnOk, Some, length, true};
-ghost use Rattle.rawsocket.specs.Devices.{Takes, TakesBeginning};
+ghost use Rattle.std.specs.Prelude.{◌≡◌, ◌≢◌, ◌++◌, ◌⊎◌, ℕ, List, IfOk, IfErr, OnErr, OnOk, Some, length, true};
+ghost use Rattle.rawsocket.specs.Devices.{Reading, Takes, TakesBeginning};
 ghost use Rattle.rawsocket.specs.Steps.{Fine, Steps, WriteSteps, told_by, write_meter};
-ghost use Rattle.session.specs.Opened.{exchanged};
+ghost use Rattle.session.specs.Opened.{exchange, exchanged};
 ghost use Rattle.client_messages.specs.declared.client_message.ClientMessage.TheVariants.{Subscribe as SubscribeSaid};
 ghost use Rattle.client_messages.specs.Wishes.{subscribe_options};
 ghost use Rattle.client_messages.specs.declared.heard.Heard.TheVariants.{Subscribed as SubscribedHeard};
-ghost use Rattle.client_commands.specs.Acts.{EndsAfterAsking, Follows, IsCaused, IsSilent, IsTurnedAway, Prints, PrintsAfterAsking, Subscribes, asked, granted_with, is_event, line_for, may_come, note_for, standing_of, terms_of};
+ghost use Rattle.client_session.specs.Hearing.{terms};
+ghost use Rattle.client_commands.specs.Acts.{Follows, IsSilent, Prints, PrintsAfterAsking, Subscribes, asked, granted_with, is_event, line_for, may_come, note_for, standing_of, terms_of};
+ghost use Rattle.client_commands.specs.Stops.{EndsSubscribing, GivesFault, IsUnasked, StopsFollowing, TellsAllUntil};
 ghost use Rattle.client_commands.specs.Notes.{IsNoted, noting};
-ghost use Rattle.client_commands.specs.Faults.{IsNoEnd, IsOfBroker, IsOfHere, IsOfMessage, IsOfNoMessage, ReadFailuresTold, TellsEnd, WriteFailuresTold, is_of_message, output_told, sink_told, source_told};
+ghost use Rattle.client_commands.specs.Faults.{IsNoEnd, IsOfBroker, IsOfHere, ReadFailuresTold, RunsOut, TellsEnd, WriteFailuresTold, output_told, sink_told, source_told};
 
 use crate::command::{LineForm, SubscribeCommand};
 use crate::event_lines::event_line;
@@ -59,8 +61,13 @@ fn ask<O: Sink>(
     ensures asked { OnOk result (Takes (O.seen sink.old) (O.seen sink.new) (asked
         link.now.serializer command.now.wishes command.now.topics.items
         (length command.now.topics.items))) }
-    ensures unblamed { IfErr result IsOfNoMessage }
+    ensures unasked { IfErr result (λ fault. (given : List ℕ) → IsUnasked
+        (terms link.now.serializer link.now.limit) command.now.wishes command.now.topics.items
+        (exchange given (O.seen sink.old).taken) (exchange given (O.seen sink.new).taken)
+        fault) }
     ensures unended { IfErr result IsNoEnd }
+    ensures turns { IfErr result (λ fault. (source : Reading)
+        → RunsOut source (O.seen sink.new) fault) }
     ensures unread { told_by source_told result ≡ Fine }
     ensures aside { told_by output_told result ≡ Fine }
     ensures writes { WriteFailuresTold (O.seen sink.old) (O.seen sink.new)
@@ -85,7 +92,7 @@ fn ask<O: Sink>(
 fn print<P: Sink>(output: &mut P, line: &[u8], turns: &mut Turns) -> Result<(), Fault>
     ensures printed { OnOk result (Takes (P.seen output.old) (P.seen output.new) line.now) }
     ensures begun { TakesBeginning (P.seen output.old) (P.seen output.new) line.now }
-    ensures unblamed { IfErr result IsOfNoMessage }
+    ensures output { IfErr result (λ fault. output_told fault ≢ Fine) }
     ensures untold { IfErr result IsOfHere }
     ensures writes { Steps (write_meter (P.seen output.old) turns.old)
         (write_meter (P.seen output.new) turns.new) (told_by output_told result) }
@@ -117,7 +124,7 @@ fn take_grant<N: Sink>(
         (noting (N.seen notes.new))) }
     ensures untold { OnErr result (noting (N.seen notes.new) ≡
         noting (N.seen notes.old)) }
-    ensures blamed { IfErr result (IsOfMessage (SubscribedHeard request subscription)) }
+    ensures blamed { IfErr result (GivesFault (SubscribedHeard request subscription)) }
     ensures here { IfErr result IsOfHere }
     ensures aside { IfErr result IsOfBroker }
 {
@@ -160,7 +167,9 @@ fn take<P: Sink, N: Sink>(
     ensures harmless { OnOk result (may_come heard ≡ true) }
     ensures begun { TakesBeginning (P.seen output.old) (P.seen output.new)
         (line_for form topics.now.items granted.old.items heard) }
-    ensures blamed { IfErr result (IsOfMessage heard) }
+    ensures blamed { IfErr result (λ fault. output_told fault ≡ Fine → GivesFault heard fault) }
+    ensures unprinted { IfErr result (λ fault. output_told fault ≡ Fine
+        → (P.seen output.new).taken ≡ (P.seen output.old).taken) }
     ensures untold { IfErr result IsOfHere }
     ensures writes { Steps (write_meter (P.seen output.old) turns.old)
         (write_meter (P.seen output.new) turns.new) (told_by output_told result) }
@@ -224,10 +233,15 @@ fn follow<I: Source, O: Sink, P: Sink, N: Sink, T: Timing>(
         (exchanged (I.seen source.new) (O.seen sink.new)) (P.seen output.old).taken
         (P.seen output.new).taken (noting (N.seen notes.old))
         (noting (N.seen notes.new)) listener.old.left listener.new }
-    ensures cause { IfErr result (IsCaused (terms_of session.old)
-        (standing_of session.old (I.seen source.old) (O.seen sink.old))
-        (exchanged (I.seen source.new) (O.seen sink.new))) }
+    ensures stops { IfErr result (λ fault. TellsAllUntil command.now.form
+        command.now.topics.items (terms_of session.old)
+        (standing_of session.old (I.seen source.old) (O.seen sink.old)) (P.seen output.old).taken
+        (noting (N.seen notes.old)) (noting (N.seen notes.new)) listener.old.left
+        listener.new.left (StopsFollowing command.now.form command.now.topics.items
+        (terms_of session.old) (P.seen output.new).taken
+        (exchanged (I.seen source.new) (O.seen sink.new)) fault)) }
     ensures gone { IfErr result (TellsEnd (I.seen source.new).is_ended) }
+    ensures turns { IfErr result (RunsOut (I.seen source.new) (O.seen sink.new)) }
     ensures reads { ReadFailuresTold (I.seen source.old) (I.seen source.new)
         (told_by source_told result) }
     ensures writes { WriteFailuresTold (O.seen sink.old) (O.seen sink.new)
@@ -262,7 +276,8 @@ fn follow<I: Source, O: Sink, P: Sink, N: Sink, T: Timing>(
         listener.count_off(event);
     }
     listener.settle(&command.topics, &granted, timing);
-    Err(Fault::Connection(client_session::Fault::TooManyReads))
+    // No number is left to count a further message by.
+    Err(Fault::NoMemory)
 }
 
 /// Joins the realm, subscribes to the topics, and prints a line for each event as it comes, as [`crate::event_line`] spells it, until
@@ -309,15 +324,13 @@ pub fn subscribe<I: Source, O: Sink, P: Sink, N: Sink, T: Timing>(
         (P.seen output.new).taken (noting (N.seen notes.old)) (noting (N.seen notes.new))
         listener.old.left listener.new }
     ensures done { OnOk result (listener.new.left ≡ Some 0) }
-    ensures cause { IfErr result (λ fault. is_of_message fault ≡ true → IsTurnedAway
-        command.now.contact.serializer command.now.contact.realm command.now.contact.authid
+    ensures ends { IfErr result (EndsSubscribing command.now
         (exchanged (I.seen source.old) (O.seen sink.old))
-        (exchanged (I.seen source.new) (O.seen sink.new)) fault ⊎ EndsAfterAsking
-        command.now.contact.serializer command.now.contact.realm command.now.contact.authid
-        command.now.wishes command.now.topics.items
-        (exchanged (I.seen source.old) (O.seen sink.old))
-        (exchanged (I.seen source.new) (O.seen sink.new)) fault) }
+        (exchanged (I.seen source.new) (O.seen sink.new)) (P.seen output.old).taken
+        (P.seen output.new).taken (noting (N.seen notes.old)) (noting (N.seen notes.new))
+        listener.old.left listener.new.left) }
     ensures gone { IfErr result (TellsEnd (I.seen source.new).is_ended) }
+    ensures turns { IfErr result (RunsOut (I.seen source.new) (O.seen sink.new)) }
     ensures reads { ReadFailuresTold (I.seen source.old) (I.seen source.new)
         (told_by source_told result) }
     ensures writes { WriteFailuresTold (O.seen sink.old) (O.seen sink.new)
@@ -334,7 +347,7 @@ pub fn subscribe<I: Source, O: Sink, P: Sink, N: Sink, T: Timing>(
         return Err(fault);
     }
     timing.expects(true);
-    match follow(
+    let fault = match follow(
         alloc,
         command,
         listener,
@@ -347,9 +360,12 @@ pub fn subscribe<I: Source, O: Sink, P: Sink, N: Sink, T: Timing>(
     ) {
         Ok(()) => {
             timing.expects(true);
-            leave(alloc, &mut session, source, sink)
+            return leave(alloc, &mut session, source, sink);
         }
-        Err(Fault::Closed(reason)) => Err(answer_goodbye(alloc, &session, sink, reason)),
-        Err(fault) => Err(fault),
+        Err(fault) => fault,
+    };
+    match fault {
+        Fault::Closed(reason) => Err(answer_goodbye(alloc, &session, sink, reason)),
+        other => Err(other),
     }
 }

@@ -1,7 +1,8 @@
 //! Which subscription is of which topic.
 ghost use Rattle.std.specs.Prelude.{◌≡◌, ◌≤◌, IfErr, IfOk, IfSome, OnOk, Some, length, true};
 ghost use Rattle.client_commands.specs.Acts.{granted_with, request_of, topic_at, topic_told};
-ghost use Rattle.client_commands.specs.Faults.{IsOfBroker, IsOfHere, IsOfMessage};
+ghost use Rattle.client_commands.specs.Faults.{IsOfBroker, IsOfHere};
+ghost use Rattle.client_commands.specs.Stops.{GivesFault};
 ghost use Rattle.client_messages.specs.declared.heard.Heard.TheVariants.{Subscribed as SubscribedHeard};
 
 use crate::fault::Fault;
@@ -41,7 +42,7 @@ pub(crate) fn grant<'a>(
         ≡ granted_with granted.old.items (SubscribedHeard request subscription)) }
     ensures topic { IfOk result (λ topic.
         topic.now ≡ topic_at topics.now.items (Some request)) }
-    ensures blamed { IfErr result (IsOfMessage (SubscribedHeard request subscription)) }
+    ensures blamed { IfErr result (GivesFault (SubscribedHeard request subscription)) }
     ensures here { IfErr result IsOfHere }
     ensures aside { IfErr result IsOfBroker }
 {

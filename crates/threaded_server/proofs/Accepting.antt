@@ -4,7 +4,8 @@ use Rattle.threaded_server.proofs.AcceptLoop.{GoneOn, came_on, ends_failed, ends
 use Rattle.threaded_server.proofs.Moving.{moves_none, moves_on}
 use Rattle.threaded_server.specs.Lending.{Lending}
 use Rattle.threaded_server.specs.Overs.{Books, Moves}
-use Rattle.threaded_server.specs.Served.{LentUntil, came_in}
+use Rattle.threaded_server.specs.Answers.{came_in}
+use Rattle.threaded_server.specs.body.Served.{LentUntil}
 use Rattle.threaded_server.specs.declared.answer.Answer.{Answer}
 use Rattle.threaded_server.specs.declared.answer.Answer.TheVariants.{Came, Stopped, Failed}
 use Rattle.broker_config.specs.declared.fault.Fault.TheVariants.{NoMemory, ListenFault}

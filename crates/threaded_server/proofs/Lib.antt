@@ -1,7 +1,7 @@
 pub mod AcceptLoop
 pub mod Accepting
 pub mod Finding
-pub mod GoingOn
+pub mod KeptNames
 pub mod Balance
 pub mod Moving
 pub mod Naming
@@ -17,3 +17,7 @@ pub mod SeatSteps
 pub mod ServeSteps
 pub mod TableSteps
 pub mod TableStanding
+pub mod CutSessions
+pub mod RunHistories
+pub mod ServedStreams
+pub mod OwnStreams

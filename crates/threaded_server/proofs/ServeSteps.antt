@@ -1,19 +1,21 @@
 -- What the accepting thread does, step by step.
 use Rattle.std.proofs.Common.{◌≡◌, ◌≢◌, ◌+◌, ◌<◌, ℕ, List, [], ◌∷◌, ◌++◌, All, Result, Err, length, get_or, refl, sym, ap, ◌∙◌, subst, append-nil, arith}
-use Rattle.std.proofs.Math.Logic.{∥∥₁_map}
+use Rattle.std.proofs.Math.Logic.{∥∥₁_elim, ∥∥₁_map}
 use Rattle.std.proofs.lemmas.List.Elements.{All-nil}
 use Rattle.std.proofs.lemmas.List.Sorted.{IsPermutation-refl}
 use Rattle.std.proofs.lemmas.Option.{none-some}
 use Rattle.realm.specs.Grants.{Grants}
 use Rattle.threaded_server.proofs.Accepting.{Accepting, one_came, one_failed}
-use Rattle.threaded_server.proofs.GoingOn.{over_goes_on}
+use Rattle.threaded_server.proofs.KeptNames.{over_keeps_names}
 use Rattle.threaded_server.proofs.Moving.{moves_on}
-use Rattle.threaded_server.specs.Answers.{EndsBy}
+use Rattle.threaded_server.proofs.ServedStreams.{told}
+use Rattle.threaded_server.specs.Answers.{EndsBy, came_in}
 use Rattle.threaded_server.specs.Conns.{AscendAtSeats, conns_of}
 use Rattle.threaded_server.specs.Lending.{Lending}
 use Rattle.threaded_server.specs.Overs.{AllWent, Books, Moves, Went, after_of, before_of}
 use Rattle.threaded_server.specs.Posts.{OnlyPosted}
-use Rattle.threaded_server.specs.Served.{LentUntil, Served, came_in}
+use Rattle.threaded_server.specs.Served.{Served}
+use Rattle.threaded_server.specs.body.Served.{LentUntil, ServedInParts}
 use Rattle.broker_threads.specs.Streams.{KeepsNames, Offer, Sight}
 use Rattle.threaded_server.specs.Ties.{IsRun, OverTied}
 use Rattle.threaded_server.specs.declared.answer.Answer.{Answer}
@@ -52,9 +54,9 @@ module _ {I O S : Type 0} where
       let whole = moves_on (came_in h.serves.given) 0 was lending returned had has left h.moves m in
       let lent : left.lent ≡ whole.more = whole.lent_here ∙ ap (λ l. l ++ whole.more) none in
       let over : left.over ≡ whole.over = whole.over_here ∙ ap (λ l. l ++ whole.over) nobody in
-      ∥∥₁_map all (λ each.
+      ∥∥₁_elim all squash₁ (λ each.
       let gone : AllWent see offer whole.more whole.over = subst (λ (l : List (I × O)). AllWent see offer l whole.over) lent (subst (λ o. AllWent see offer left.lent o) over (subst (λ (n : Offer). AllWent see n left.lent left.over) same each)) in
-      record {
+      told see offer grants before closed was returned (record {
         given = h.serves.given;
         lent = whole.more;
         streams = whole.over;
@@ -65,16 +67,16 @@ module _ {I O S : Type 0} where
         lent_are = whole.lent;
         returned_are = whole.returned;
         went = gone;
-        own = λ i d within. ∥∥₁_map (gone.went i d within) (λ w. (over_goes_on see offer (get_or whole.over i d) w).same);
+        own = λ i d within. ∥∥₁_map (gone.went i d within) (over_keeps_names see offer (get_or whole.over i d));
         runs = runs;
         all_ran = λ asked. count (λ (refused : result ≡ Err NoMemory). asked (subst (λ (r : Result Unit Fault). EndsBy r h.serves.given) refused h.serves.ends));
         each_ran = subst (λ (g : Grants). All (λ run. IsRun g run) runs) alike each_ran;
         ascend = subst (λ (o : List (Over I O S)). AscendAtSeats (conns_of o)) over ascend;
         only_posted = subst (λ (o : List (Over I O S)). ∥ OnlyPosted runs o ∥₁) over only;
         tied = subst (λ o. ∥ All (λ x. OverTied runs x) o ∥₁) over tied;
-      })
+      }))
 
-  nothing : (see : Sight I O) (offer : Offer) (grants : Grants) (before : List Answer) (was : Lending I O) → Served S see offer grants before before was was
+  nothing : (see : Sight I O) (offer : Offer) (grants : Grants) (before : List Answer) (was : Lending I O) → ServedInParts S see offer grants before before was was
   nothing see offer grants before was = record {
     given = [];
     lent = [];
@@ -97,4 +99,4 @@ module _ {I O S : Type 0} where
 
   -- nothing was accepted
   pub nothing_served : (see : Sight I O) (offer : Offer) (grants : Grants) (before : List Answer) (was : Lending I O) → ∥ Served S see offer grants before before was was ∥₁
-  nothing_served see offer grants before was = ∣ nothing see offer grants before was ∣₁
+  nothing_served see offer grants before was = told see offer grants before before was was (nothing see offer grants before was)

@@ -14,6 +14,13 @@ module _ {T : Type 0} where
   answer_of accepted.Stop = Stopped
   answer_of accepted.Failed = Failed
 
+-- how many streams came, by what accepting answered
+abbrev pub came_in : List Answer → ℕ
+came_in [] = 0
+came_in (Came ∷ more) = came_in more + 1
+came_in (Stopped ∷ more) = came_in more
+came_in (Failed ∷ more) = came_in more
+
 -- how many failures in a row stand at the end of answers, where so many came before them
 abbrev pub in_a_row : ℕ → List Answer → ℕ
 in_a_row before [] = before

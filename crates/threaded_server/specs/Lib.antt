@@ -1,3 +1,6 @@
+pub mod Served
+pub mod Sessions
+pub mod Histories
 pub mod Answers
 pub mod Conns
 pub mod Lending
@@ -9,10 +12,10 @@ pub mod Posts
 pub mod Realms
 pub mod Roster
 pub mod Seating
-pub mod Served
 pub mod Slots
 pub mod Starting
 pub mod Table
 pub mod Ties
 pub mod TrailCode
 pub mod Seats
+pub mod body

@@ -3,11 +3,9 @@ use Rattle.std.specs.Prelude.{◌≡◌, ◌⊎◌, ℕ, List, Some, slice_get}
 use mathlib.Core.List.{IsPrefix}
 use Rattle.realm.specs.Grants.{Grants}
 use Rattle.threaded_server.specs.Lending.{Lending, Returned}
-use Rattle.threaded_server.specs.Overs.{after_of, before_of}
-use Rattle.threaded_server.specs.Served.{Served}
+use Rattle.threaded_server.specs.Served.{LentStream, Served}
 use Rattle.broker_threads.specs.Streams.{KeepsNames, Offer, Sight}
 use Rattle.threaded_server.specs.declared.answer.Answer.{Answer}
-use Rattle.threaded_server.specs.declared.over.Over.{Over}
 
 -- a stream comes back under its name, and what it gave and took before begins what it gave and took after
 pub record GoesOn {I O : Type 0} (see : Sight I O) (before : I × O) (after : Returned I O) : Type 0 where
@@ -27,16 +25,16 @@ HaveOwnNames {I} {O} see lent = (i j : ℕ) (a b : I × O) → slice_get lent i 
 module _ (I O S : Type 0) where
   -- each stream that a broker served goes on
   abbrev pub StreamsGoOn : Type 0
-  StreamsGoOn = (see : Sight I O) (offer : Offer) (grants : Grants) (before now : List Answer) (was lending : Lending I O) (served : Served S see offer grants before now was lending) (i : ℕ) (over : Over I O S)
-      → slice_get served.streams i ≡ Some over → ∥ GoesOn see (before_of over) (after_of over) ∥₁
+  StreamsGoOn = (see : Sight I O) (offer : Offer) (grants : Grants) (before now : List Answer) (was lending : Lending I O) (served : Served S see offer grants before now was lending) (i : ℕ) (s : LentStream I O S)
+      → slice_get served.streams i ≡ Some s → GoesOn see s.lent s.back
 
   -- and none comes back in place of another, which took other octets before
   abbrev pub StreamsAreOwn : Type 0
-  StreamsAreOwn = (see : Sight I O) (offer : Offer) (grants : Grants) (before now : List Answer) (was lending : Lending I O) (served : Served S see offer grants before now was lending) (i : ℕ) (over : Over I O S) (other : I × O)
-      → slice_get served.streams i ≡ Some over → Differ (see.writing (before_of over).1).taken (see.writing other.1).taken → IsPrefix (see.writing other.1).taken (see.writing (after_of over).sink).taken → ⊥
+  StreamsAreOwn = (see : Sight I O) (offer : Offer) (grants : Grants) (before now : List Answer) (was lending : Lending I O) (served : Served S see offer grants before now was lending) (i : ℕ) (s : LentStream I O S) (other : I × O)
+      → slice_get served.streams i ≡ Some s → Differ (see.writing s.lent.1).taken (see.writing other.1).taken → IsPrefix (see.writing other.1).taken (see.writing s.back.sink).taken → ⊥
 
   -- nor in place of another of another name: where no two of those that were lent have one name, what came back of a name is what was lent under it
   abbrev pub NamesAreOwn : Type 0
-  NamesAreOwn = (see : Sight I O) (offer : Offer) (grants : Grants) (before now : List Answer) (was lending : Lending I O) (served : Served S see offer grants before now was lending) → HaveOwnNames see served.lent → (i j : ℕ) (over : Over I O S) (other : I × O)
-      → slice_get served.streams i ≡ Some over → slice_get served.lent j ≡ Some other
-      → ((see.reading (after_of over).source).name ≡ (see.reading other.0).name) ⊎ ((see.writing (after_of over).sink).name ≡ (see.writing other.1).name) → ∥ before_of over ≡ other ∥₁
+  NamesAreOwn = (see : Sight I O) (offer : Offer) (grants : Grants) (before now : List Answer) (was lending : Lending I O) (served : Served S see offer grants before now was lending) → HaveOwnNames see served.lent → (i j : ℕ) (s : LentStream I O S) (other : I × O)
+      → slice_get served.streams i ≡ Some s → slice_get served.lent j ≡ Some other
+      → ((see.reading s.back.source).name ≡ (see.reading other.0).name) ⊎ ((see.writing s.back.sink).name ≡ (see.writing other.1).name) → s.lent ≡ other

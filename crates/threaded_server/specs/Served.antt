@@ -1,58 +1,102 @@
--- What a broker served.
-use Rattle.std.specs.Prelude.{◌≡◌, ◌≢◌, ◌+◌, ℕ, List, [], ◌∷◌, ◌++◌, Result, All, length, map}
+-- What a broker served: what became of each stream that it was lent, and of each of its realms.
+use Rattle.std.specs.Prelude.{◌≡◌, ◌≢◌, ◌≤◌, ◌<◌, ◌+◌, ◌==◌, ◌&&◌, ℕ, List, [], ◌++◌, Option, None, Some, All, IsPermutation, if◌then◌else◌, length, map, option_to_list, slice_get}
+use Rattle.std.specs.List.{flat_map}
+use mathlib.Core.List.{IsPrefix}
+use Rattle.broker_threads.specs.Streams.{IsNotOpened, IsOpened, KeepsNames, Offer, Sight}
+use Rattle.broker_threads.specs.declared.stream_fate.SessionEnds.{SessionEnds}
+use Rattle.broker_threads.specs.declared.stream_fate.StreamFate.{StreamFate}
+use Rattle.broker_threads.specs.declared.stream_fate.StreamFate.TheVariants as fate
+use Rattle.connection.specs.declared.writer.WriteEnd.TheVariants.{Full, Stopped}
+use Rattle.outbox_queue.specs.Ends.{Owes}
 use Rattle.realm.specs.Grants.{Grants}
-use Rattle.threaded_server.specs.Answers.{Serves}
-use Rattle.threaded_server.specs.Conns.{AscendAtSeats, conns_of}
-use Rattle.threaded_server.specs.Lending.{Lending}
-use Rattle.threaded_server.specs.Overs.{AllWent, Books, Moves, after_of, before_of}
-use Rattle.threaded_server.specs.Posts.{OnlyPosted}
-use Rattle.broker_threads.specs.Streams.{KeepsNames, Offer, Sight}
-use Rattle.threaded_server.specs.Ties.{IsRun, OverTied}
+use Rattle.realm.specs.Yield.{owed}
+use Rattle.realm_inbox.specs.Seats.{at_seat}
+use Rattle.realm_inbox.specs.declared.act.Act.{Act}
+use Rattle.realm_inbox.specs.declared.joining.Joining.{Joining}
+use Rattle.session.specs.Opened.{Session}
+use Rattle.threaded_server.specs.Answers.{came_in}
+use Rattle.threaded_server.specs.Conns.{AscendAtSeats}
+use Rattle.threaded_server.specs.Histories.{IsRealm, Realm}
+use Rattle.threaded_server.specs.Lending.{Lending, Returned}
+use Rattle.threaded_server.specs.Overs.{FoundNoSeat, IsTurnedAway}
+use Rattle.threaded_server.specs.Sessions.{IsWritten, Joins, SaysSome, halves}
+use Rattle.threaded_server.specs.Ties.{AreAllOwed}
 use Rattle.threaded_server.specs.declared.answer.Answer.{Answer}
-use Rattle.threaded_server.specs.declared.answer.Answer.TheVariants.{Came, Stopped, Failed}
-use Rattle.broker_config.specs.declared.fault.Fault.{Fault}
-use Rattle.threaded_server.specs.declared.over.Over.{Over}
-use Rattle.threaded_server.specs.declared.realm_run.RealmRun.{RealmRun}
+use Rattle.wamp_ids.specs.Numbers.{seat_of}
+use Rattle.wamp_messages.specs.declared.item.Item.{Item}
 
--- how many streams came, by what accepting answered
-abbrev pub came_in : List Answer → ℕ
-came_in [] = 0
-came_in (Came ∷ more) = came_in more + 1
-came_in (Stopped ∷ more) = came_in more
-came_in (Failed ∷ more) = came_in more
+-- a stream that a broker was lent: its two halves as they were then, and as they came back, with what its acceptor is told of it; the number of its connection, if it had a seat; and
+-- what it posted, in the realm at this place
+pub record LentStream (I O S : Type 0) : Type 0 where
+  pub lent : I × O
+  pub back : Returned I O
+  pub conn : Option ℕ
+  pub realm : ℕ
+  pub posted : List (Act S)
+
+module _ {I O S : Type 0} (see : Sight I O) (offer : Offer) (realms : List (Realm S)) where
+  -- over a stream a session was served, as the connection of this number, until its reader and its writer ended so
+  pub record IsSession (s : LentStream I O S) (conn : ℕ) (ends : SessionEnds) : Type 0 where
+    -- what its octets up to HELLO ask for; the answer was written, and its halves were these then
+    pub hello : Session
+    pub source : I
+    pub sink : O
+    pub opened : IsOpened see offer (halves S s.lent) source sink hello
+    -- the realm that its HELLO names, in which it posted
+    pub realm : Realm S
+    pub named : slice_get realms hello.realm ≡ Some realm
+    pub there : s.realm ≡ hello.realm
+    -- it posted its Join, and what its further octets say
+    pub join : Joining S
+    pub joins : Joins hello offer.room conn realm.chronicle join
+    pub says : SaysSome see.reading hello join source s.back.source ends.read s.posted
+    -- the items that its writer took, which were written
+    pub items : List Item
+    pub written : IsWritten see.writing hello sink s.back.sink ends.write items
+    -- They begin what the realm's one history owes the connection. Where the writer stopped they are all of that; where its outbox was found full, they are as many as that holds, or more
+    pub due : Owes owed realm.history conn items
+    pub whole : ends.write ≡ Stopped → AreAllOwed realm.history conn items
+    pub full : ends.write ≡ Full → offer.room ≤ length items
+
+  -- what became of a stream is what its acceptor is told of it
+  abbrev pub IsFate : LentStream I O S → StreamFate → Type 0
+  IsFate s fate.NoSeat = IsTurnedAway see s.lent (s.back.source, s.back.sink) × (s.conn ≡ None) × (s.posted ≡ [])
+  IsFate s fate.NoMemory = ((s.back.source, s.back.sink) ≡ s.lent) × (s.posted ≡ [])
+  IsFate s (fate.NotOpened fault) = IsNotOpened see offer (halves S s.lent) s.back.source s.back.sink fault × (s.conn ≢ None) × (s.posted ≡ [])
+  IsFate s fate.OpenedAlone = ((hello : Session) × IsOpened see offer (halves S s.lent) s.back.source s.back.sink hello) × (s.conn ≢ None) × (s.posted ≡ [])
+  IsFate s (fate.Served ends) = (conn : ℕ) × (s.conn ≡ Some conn) × IsSession s conn ends
 
 module _ {I O S : Type 0} where
-  -- the broker accepted until it was told to stop, or as for `Serves`: what came meanwhile was lent, or couldn't be taken apart
-  pub record LentUntil (before now : List Answer) (was lending : Lending I O) (had has : Books I O S) (result : Result Unit Fault) : Type 0 where
-    pub serves : Serves before now result
-    pub moves : Moves (came_in serves.given) was lending had has
+  -- what a stream posted in the realm at this place, by the connection of this number, where that has this seat: each act with the connection
+  abbrev pub posts_by : ℕ → ℕ → LentStream I O S → Option ℕ → List (ℕ × Act S)
+  posts_by realm seat s None = []
+  posts_by realm seat s (Some conn) = if s.realm == realm && seat_of conn == seat then map (λ act. (conn, act)) s.posted else []
+
+  -- what each realm received of a seat, of 256, begins what the streams posted there, one after another
+  abbrev pub ReceivedFirst : List (Realm S) → List (LentStream I O S) → Type 0
+  ReceivedFirst realms streams = (i k : ℕ) (realm : Realm S) → slice_get realms i ≡ Some realm → k < 256 → IsPrefix (at_seat (k + 1) realm.received) (flat_map (λ s. posts_by i (k + 1) s s.conn) streams)
 
 -- what was served between two states of an acceptor
 pub record Served {I O : Type 0} (S : Type 0) (see : Sight I O) (offer : Offer) (grants : Grants) (before now : List Answer) (was lending : Lending I O) : Type 0 where
-  -- what accepting answered meanwhile
+  -- what accepting answered meanwhile: each stream that came was lent, or couldn't be taken apart, for want of memory
   pub given : List Answer
   pub answered : now ≡ before ++ given
-  -- each stream that came was lent to the broker, or couldn't be taken apart for want of memory
   pub lent : List (I × O)
   pub refused : ℕ
   pub all_came : came_in given ≡ length lent + refused
-  pub refused_are : lending.refused ≡ was.refused + refused
   pub lent_are : lending.lent ≡ was.lent ++ lent
-  -- what came back are the streams that were lent, in the order in which they did
-  pub streams : List (Over I O S)
-  pub returned_are : lending.returned ≡ was.returned ++ map after_of streams
-  -- each came back as its reader left it, or it was told that no seat is free, while none was, or nothing was read or written
-  pub went : AllWent see offer lent streams
-  -- each came back under the name that it was lent under
-  pub own : All (λ over. ∥ KeepsNames see (before_of over) ((after_of over).source, (after_of over).sink) ∥₁) streams
-  -- the numbers of connections ascend at each seat, so no two had one number
-  pub ascend : AscendAtSeats (conns_of streams)
-  -- each realm that serves a session ran, from an empty history with these grants on; where accepting was asked, as many ran as have names
-  pub runs : List (RealmRun S)
-  pub all_ran : given ≢ [] → length runs ≡ length offer.names
-  pub each_ran : All (λ run. IsRun grants run) runs
-  -- what a realm received of a seat begins what the streams posted there
-  pub only_posted : ∥ OnlyPosted runs streams ∥₁
-  -- what a session's writer took begins what the one history of the realm that its HELLO names owes its connection, and is all of that where it stopped; where its outbox was found
-  -- full, it took as many items as that holds, or more
-  pub tied : ∥ All (λ over. OverTied runs over) streams ∥₁
+  pub refused_are : lending.refused ≡ was.refused + refused
+  -- those that were lent came back under their names, in the order in which they were over, each with its fate
+  pub streams : List (LentStream I O S)
+  pub each : IsPermutation lent (map (λ s. s.lent) streams)
+  pub returned_are : lending.returned ≡ was.returned ++ map (λ s. s.back) streams
+  pub names : All (λ s. KeepsNames see s.lent (s.back.source, s.back.sink)) streams
+  -- each realm has its history, which was made of what it received. Where accepting was asked there are as many as names
+  pub realms : List (Realm S)
+  pub all_ran : given ≢ [] → length realms ≡ length offer.names
+  pub histories : All (λ realm. IsRealm grants realm) realms
+  pub fates : All (λ s. IsFate see offer realms s s.back.fate) streams
+  pub received : ReceivedFirst realms streams
+  -- one was told that no seat is free only where none was; and the numbers of connections ascend at each seat, so no two had one number
+  pub no_seat : (i : ℕ) (s : LentStream I O S) → slice_get streams i ≡ Some s → s.back.fate ≡ fate.NoSeat → FoundNoSeat lent i s.lent
+  pub numbers : AscendAtSeats (flat_map (λ s. option_to_list s.conn) streams)

@@ -3,6 +3,7 @@ use Rattle.client_session.proofs.SessionLemmas.{listened_in_session}
 use Rattle.client_commands.specs.Acts.{standing_of, terms_of}
 use Rattle.client_commands.specs.Faults.{sink_told, source_told}
 use Rattle.client_commands.proofs.FaultLemmas.{failures_retold, of_hearing-read, of_hearing-write}
+use Rattle.client_commands.proofs.StopLemmas.{stops-in-session}
 use Rattle.client_commands.proofs.hearing.listen.Goals as goal
 
 pub returns-in-Ok-clause-next : goal.returns-in-Ok-clause-next
@@ -21,3 +22,8 @@ returns-in-Err-clause-reads g c = failures_retold _ _ _ _ (ap source_told c.from
 
 pub returns-in-Err-clause-writes : goal.returns-in-Err-clause-writes
 returns-in-Err-clause-writes g c = failures_retold _ _ _ _ (ap sink_told c.from.ensures ∙ of_hearing-write c.in-Err.unheard) c.in-Err.ensures.writes.steps.failures
+
+pub returns-in-Err-clause-stops : goal.returns-in-Err-clause-stops
+returns-in-Err-clause-stops g c =
+    stops-in-session (terms_of c.args.session.now) (standing_of c.args.session.now (g.I.Source.seen c.args.source.now) (g.O.Sink.seen c.args.sink.now))
+    (standing_of c.listen.new.self (g.I.Source.seen c.listen.new.source) (g.O.Sink.seen c.listen.new.sink)) c.args.session.now.subscriptions c.listen.new.self.subscriptions c.in-Err.unheard _ c.from.ensures c.in-Err.ensures.next

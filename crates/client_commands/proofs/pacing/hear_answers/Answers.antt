@@ -2,7 +2,7 @@ use Rattle.std.proofs.Common.{◌≡◌, ◌<◌, ◌+◌, ◌∙◌, true, arit
 use Rattle.std.proofs.lemmas.Bool.Decides.{nat_tests}
 use Rattle.client_session.specs.Hearing.{Terms}
 use Rattle.client_commands.specs.Acts.{standing_of, terms_of}
-use Rattle.client_commands.specs.Ends.{HearsAnother}
+use Rattle.client_commands.specs.Ends.{GetsNoAnswer}
 use Rattle.client_commands.specs.Pacing.{IsAcknowledged}
 use Rattle.client_commands.proofs.PacingLemmas.{paced-answer}
 use Rattle.client_commands.proofs.pacing.hear_answers.Goals as goal
@@ -52,5 +52,5 @@ returns-in-Err-clause-ends g c =
       last = mid;
       publishes = c.answers.invariant.published before lines counted p;
       due = record { asked = asked; due = omega (arith, small, counted, c.answers.invariant.count) };
-      another = subst (λ (u : Terms). HearsAnother u (answered + 1) mid now c.in-Err.fault) c.answers.invariant.terms (c.in-Err.ensures.another is);
+      another = subst (λ (u : Terms). GetsNoAnswer u (answered + 1) mid now c.in-Err.fault) c.answers.invariant.terms (c.in-Err.ensures.another is);
     }

@@ -1,10 +1,11 @@
 use Rattle.std.proofs.Common.{◌≡◌, ◌<◌, true, [], ◌∷◌, length, arith, refl, sym, subst, inl, inr, append-nil}
 use Rattle.std.proofs.lemmas.List.{nil_from_length}
 use Rattle.std.proofs.lemmas.Bool.Decides.{nat_tests}
+use Rattle.std.proofs.lemmas.Result.{IfErr-weaker}
 use Rattle.client_session.specs.Hearing.{Terms}
 use Rattle.client_commands.specs.Acts.{standing_of, terms_of}
 use Rattle.client_commands.specs.Ends.{IsUnanswered}
-use Rattle.client_commands.proofs.EndsLemmas.{both-err, both-ok, by-message, ends-at, ends-by-last}
+use Rattle.client_commands.proofs.EndsLemmas.{both-ok, ends-at, ends-by-last}
 use Rattle.client_commands.proofs.PacingLemmas.{counts-one}
 use Rattle.client_commands.proofs.PublishingLemmas.{paced-as, published-all, published-last}
 use Rattle.client_commands.proofs.publishing.publish_last.Goals as goal
@@ -64,9 +65,9 @@ returns-clause-ends g c =
     let now = standing_of c.hear_answers.new.session (g.I.Source.seen c.hear_answers.new.source) (g.O.Sink.seen c.hear_answers.new.sink) in
     let more = c.publish_line.new.progress.count in
     let between = c.publish_line.new.progress.answered in
-    both-err c.hear_answers.result _ _ _
-    (λ fault ends carried. λ is before input p.
+    IfErr-weaker c.hear_answers.result _ _
+    (λ fault ends. λ is before input p.
     ends-by-last command t before start now input rest count c.args.progress.now.answered fault some p
     (λ ls counted q. subst (λ (x : Terms). IsUnanswered command x before now (rest ∷ ls) fault) c.publish_line.ensures.terms
-    (ends (by-message fault carried is) before (rest ∷ ls) (counts-one rest ls count more counted c.in_default.ensures.count) (paced-as command u t before mid (rest ∷ ls) between (sym c.publish_line.ensures.terms) (c.in_default.ensures.published before ls counted q)))))
-    c.hear_answers.ensures.ends c.hear_answers.ensures.carried
+    (ends is before (rest ∷ ls) (counts-one rest ls count more counted c.in_default.ensures.count) (paced-as command u t before mid (rest ∷ ls) between (sym c.publish_line.ensures.terms) (c.in_default.ensures.published before ls counted q)))))
+    c.hear_answers.ensures.ends

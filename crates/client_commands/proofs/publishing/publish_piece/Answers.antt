@@ -5,7 +5,7 @@ use Rattle.client_commands.specs.Ends.{EndsAtLine}
 use Rattle.client_commands.specs.Lines.{has_line_feed}
 use Rattle.client_commands.specs.Pacing.{AllAnswered}
 use Rattle.client_commands.specs.declared.fault.Fault.TheVariants.{BadLine}
-use Rattle.client_commands.proofs.EndsLemmas.{by-message, cut-at, ends-at, ends-by-answer, ends-long}
+use Rattle.client_commands.proofs.EndsLemmas.{cut-at, ends-at, ends-by-answer, ends-long}
 use Rattle.client_commands.proofs.PublishingLemmas.{cut-done, piece-step, published-answers, published-kept, published-rest, published-step, rest-after}
 use Rattle.client_commands.proofs.publishing.publish_piece.Goals as goal
 
@@ -60,7 +60,7 @@ returns-in-Err-hear_answers-clause-ends g c =
     λ is before input p.
     ends-by-answer command t before (terms_of c.lines.session) mid now (input ++ done) left c.lines.progress.rest.items (input ++ piece) c.lines.progress.count c.lines.progress.answered false c.in-Err-hear_answers.fault
     c.lines.invariant.terms (cut-done input piece done left c.lines.invariant.piece) (c.lines.invariant.published before input p)
-    (c.in-Err-hear_answers.ensures.ends (by-message c.in-Err-hear_answers.fault c.in-Err-hear_answers.ensures.carried is))
+    (c.in-Err-hear_answers.ensures.ends is)
 
 pub returns-then-len-gt-LONGEST-clause-ends : goal.returns-then-len-gt-LONGEST-clause-ends
 returns-then-len-gt-LONGEST-clause-ends g c =

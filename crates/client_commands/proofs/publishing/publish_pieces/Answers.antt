@@ -2,7 +2,7 @@ use Rattle.std.proofs.Common.{◌≡◌, true, [], ◌++◌, ◌∙◌, append-n
 use Rattle.rawsocket.proofs.Lemmas.{all_turns, then_steps}
 use Rattle.client_commands.specs.Acts.{standing_of, terms_of}
 use Rattle.client_commands.specs.Published.{IsPublishedOf}
-use Rattle.client_commands.proofs.EndsLemmas.{by-message, ends-in-last, ends-in-piece, ends-interrupted}
+use Rattle.client_commands.proofs.EndsLemmas.{ends-in-last, ends-in-piece, ends-interrupted}
 use Rattle.client_commands.proofs.PublishingLemmas.{published-attending, published-end, published-more, published-none}
 use Rattle.client_commands.proofs.publishing.publish_pieces.Goals as goal
 
@@ -115,5 +115,5 @@ returns-in-Err-clause-ends g c =
       ends =
           ends-interrupted c.args.command.now (terms_of c.args.session.now) (standing_of c.args.session.now (g.I.Source.seen c.args.source.now) (g.O.Sink.seen c.args.sink.now)) (terms_of c.pieces.session) begun now
           c.pieces.invariant.read_so_far c.pieces.progress.rest.items c.pieces.progress.count c.pieces.progress.answered (g.J.Source.seen c.pieces.input).is_ended c.in-Err.fault c.pieces.invariant.terms c.pieces.invariant.all
-          (c.in-Err.ensures.unawaited (by-message c.in-Err.fault c.in-Err.ensures.carried is)) c.pieces.invariant.published;
+          c.in-Err.ensures.stops c.pieces.invariant.published;
     }

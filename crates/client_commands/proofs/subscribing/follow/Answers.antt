@@ -1,10 +1,12 @@
 use Rattle.std.proofs.Common.{[], ◌∷◌, ◌++◌, ◌∙◌, ap, append-nil, arith, inr, refl, rules, subst, sym}
 use Rattle.rawsocket.proofs.Lemmas.{all_turns, then_steps}
+use Rattle.session.specs.Opened.{exchanged}
 use Rattle.client_commands.specs.Acts.{IsCountedOff, events, granted_with, is_subscribed, line_for, noted, standing_of, terms_of}
 use Rattle.client_commands.specs.Notes.{IsNoted, Noting, noting}
-use Rattle.client_commands.proofs.CauseLemmas.{ends-by}
+use Rattle.client_commands.proofs.FaultLemmas.{runs-out, runs-out-here}
 use Rattle.client_commands.proofs.ListeningLemmas.{counted-more, counted-none, listens-more, printed-more, printed-partly}
 use Rattle.client_commands.proofs.NotingLemmas.{noted-more, none-noted}
+use Rattle.client_commands.proofs.StopLemmas.{stops-at, tells-out, tells-until, tells-until-taken}
 use Rattle.client_commands.proofs.subscribing.follow.Goals as goal
 
 pub messages-init : goal.messages-init
@@ -69,9 +71,45 @@ returns-in-Err-take-clause-prints g c = record {
   };
 }
 
-pub returns-in-Err-take-clause-cause : goal.returns-in-Err-take-clause-cause
-returns-in-Err-take-clause-cause g c =
-    λ is. ends-by (terms_of c.args.session.now) (terms_of c.messages.session) (standing_of c.args.session.now (g.I.Source.seen c.args.source.now) (g.O.Sink.seen c.args.sink.now))
-    (standing_of c.messages.session (g.I.Source.seen c.messages.source) (g.O.Sink.seen c.messages.sink))
-    (standing_of c.hear.new.session (g.I.Source.seen c.hear.new.source) (g.O.Sink.seen c.hear.new.sink)) c.messages.invariant.heards c.in-Ok.heard c.in-Err-take.fault
-    c.messages.invariant.terms c.messages.invariant.listens c.in-Ok.ensures.next (c.in-Err-take.ensures.blamed is)
+pub returns-in-Err-clause-stops : goal.returns-in-Err-clause-stops
+returns-in-Err-clause-stops g c =
+    let command = c.args.command.now in
+    let t = terms_of c.args.session.now in
+    let mid = standing_of c.messages.session (g.I.Source.seen c.messages.source) (g.O.Sink.seen c.messages.sink) in
+    let after = standing_of c.hear.new.session (g.I.Source.seen c.hear.new.source) (g.O.Sink.seen c.hear.new.sink) in
+    tells-until command.form command.topics.items t (standing_of c.args.session.now (g.I.Source.seen c.args.source.now) (g.O.Sink.seen c.args.sink.now))
+    (g.P.Sink.seen c.args.output.now).taken (g.P.Sink.seen c.messages.output).taken (noting (g.N.Sink.seen c.args.notes.now)) (noting (g.N.Sink.seen c.messages.notes))
+    c.args.listener.now.left c.settle.new.self.left mid (exchanged (g.I.Source.seen c.hear.new.source) (g.O.Sink.seen c.hear.new.sink)) c.messages.invariant.heards c.in-Err.fault
+    c.messages.invariant.harmless c.messages.invariant.listens c.messages.invariant.lines c.messages.invariant.notes_are
+    (subst (λ x. IsCountedOff c.args.listener.now.left x (events c.messages.invariant.heards)) (sym c.settle.ensures.left) c.messages.invariant.counted) c.in-Err.ensures.aside.output
+    (stops-at t (terms_of c.messages.session) mid after c.in-Err.fault c.messages.invariant.terms c.in-Err.ensures.stops)
+
+pub returns-in-Err-clause-turns : goal.returns-in-Err-clause-turns
+returns-in-Err-clause-turns g c =
+    runs-out (g.I.Source.seen c.messages.source) (g.I.Source.seen c.hear.new.source) (g.O.Sink.seen c.messages.sink) (g.O.Sink.seen c.hear.new.sink) c.in-Err.fault c.in-Err.ensures.reads c.in-Err.ensures.writes
+
+pub returns-in-Err-take-clause-stops : goal.returns-in-Err-take-clause-stops
+returns-in-Err-take-clause-stops g c =
+    let command = c.args.command.now in
+    let t = terms_of c.args.session.now in
+    let mid = standing_of c.messages.session (g.I.Source.seen c.messages.source) (g.O.Sink.seen c.messages.sink) in
+    let after = standing_of c.hear.new.session (g.I.Source.seen c.hear.new.source) (g.O.Sink.seen c.hear.new.sink) in
+    tells-until-taken command.form command.topics.items t (standing_of c.args.session.now (g.I.Source.seen c.args.source.now) (g.O.Sink.seen c.args.sink.now))
+    (g.P.Sink.seen c.args.output.now).taken (g.P.Sink.seen c.take.new.output).taken (noting (g.N.Sink.seen c.args.notes.now)) (noting (g.N.Sink.seen c.take.new.notes))
+    c.args.listener.now.left c.settle.new.self.left (terms_of c.messages.session) mid after c.messages.invariant.heards c.in-Ok.heard c.messages.granted.items (g.P.Sink.seen c.messages.output).taken c.in-Err-take.fault
+    c.messages.invariant.terms c.in-Ok.ensures.next c.messages.invariant.harmless c.messages.invariant.listens c.messages.invariant.lines
+    (subst (λ (n : Noting). IsNoted (noted command.topics.items c.messages.invariant.heards) (noting (g.N.Sink.seen c.args.notes.now)) n) (sym c.in-Err-take.ensures.silent) c.messages.invariant.notes_are)
+    (subst (λ x. IsCountedOff c.args.listener.now.left x (events c.messages.invariant.heards)) (sym c.settle.ensures.left) c.messages.invariant.counted)
+    c.messages.invariant.granted_are c.in-Err-take.ensures.begun c.in-Err-take.ensures.untold.other c.in-Err-take.ensures.unprinted c.in-Err-take.ensures.blamed
+
+pub returns-in-Err-take-clause-turns : goal.returns-in-Err-take-clause-turns
+returns-in-Err-take-clause-turns g c = runs-out-here (g.I.Source.seen c.hear.new.source) (g.O.Sink.seen c.hear.new.sink) c.in-Err-take.fault c.in-Err-take.ensures.untold.other
+
+pub returns-clause-stops : goal.returns-clause-stops
+returns-clause-stops g c =
+    let command = c.args.command.now in
+    tells-out command.form command.topics.items (terms_of c.args.session.now) (standing_of c.args.session.now (g.I.Source.seen c.args.source.now) (g.O.Sink.seen c.args.sink.now))
+    (g.P.Sink.seen c.args.output.now).taken (g.P.Sink.seen c.messages.output).taken (noting (g.N.Sink.seen c.args.notes.now)) (noting (g.N.Sink.seen c.messages.notes))
+    c.args.listener.now.left _ (standing_of c.messages.session (g.I.Source.seen c.messages.source) (g.O.Sink.seen c.messages.sink)) (exchanged (g.I.Source.seen c.messages.source) (g.O.Sink.seen c.messages.sink))
+    c.messages.invariant.heards c.messages.invariant.harmless c.messages.invariant.listens c.messages.invariant.notes_are
+    (subst (λ x. IsCountedOff c.args.listener.now.left x (events c.messages.invariant.heards)) (sym c.settle-2.ensures.left) c.messages.invariant.counted)

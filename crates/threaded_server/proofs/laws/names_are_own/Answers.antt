@@ -1,4 +1,4 @@
-use Rattle.threaded_server.proofs.GoingOn.{names_are_own}
+use Rattle.threaded_server.proofs.OwnStreams.{names_are_own}
 use Rattle.threaded_server.proofs.laws.names_are_own.Goals as goal
 
 pub returns : goal.returns

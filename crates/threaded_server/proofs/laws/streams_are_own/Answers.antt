@@ -1,4 +1,4 @@
-use Rattle.threaded_server.proofs.GoingOn.{streams_are_own}
+use Rattle.threaded_server.proofs.OwnStreams.{streams_are_own}
 use Rattle.threaded_server.proofs.laws.streams_are_own.Goals as goal
 
 pub returns : goal.returns
