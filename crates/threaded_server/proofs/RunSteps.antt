@@ -29,7 +29,8 @@ use Rattle.broker_threads.specs.Acts.{Acts, ActsBy}
 use Rattle.threaded_server.specs.Posters.{IsOfInbox, Stand, lists_at, poster_at}
 use Rattle.threaded_server.specs.Posts.{AllSay, AreIn, OnlyPosted, posts_at}
 use Rattle.threaded_server.specs.Realms.{AllWerePosted, EachRuns, RunsTo, Shown, inbox_in, places_of, shown}
-use Rattle.threaded_server.specs.Ties.{AreAllOwed, CourseKept, CourseTied, IsKept, IsKeptIn, IsRun, IsTied, OverKept, OverTied}
+use Rattle.threaded_server.specs.Sessions.{AreAllOwed}
+use Rattle.threaded_server.specs.Ties.{CourseKept, CourseTied, IsKept, IsKeptIn, IsRun, IsTied, OverKept, OverTied}
 use Rattle.broker_threads.specs.Writes.{over_kept, owed_kept}
 use Rattle.broker_threads.specs.declared.actor_thread.Acted.{Acted}
 use Rattle.broker_threads.specs.declared.actor_thread.ActorThread.{ActorThread}

@@ -10,7 +10,8 @@ use Rattle.threaded_server.proofs.KeptNames.{over_keeps_names}
 use Rattle.threaded_server.proofs.Moving.{moves_on}
 use Rattle.threaded_server.proofs.ServedStreams.{told}
 use Rattle.threaded_server.specs.Answers.{EndsBy, came_in}
-use Rattle.threaded_server.specs.Conns.{AscendAtSeats, conns_of}
+use Rattle.threaded_server.specs.SeatRules.{AscendAtSeats}
+use Rattle.threaded_server.specs.Conns.{conns_of}
 use Rattle.threaded_server.specs.Lending.{Lending}
 use Rattle.threaded_server.specs.Overs.{AllWent, Books, Moves, Went, after_of, before_of}
 use Rattle.threaded_server.specs.Posts.{OnlyPosted}

@@ -12,7 +12,6 @@ use Rattle.std.proofs.lemmas.Option.{none-some, same_Some}
 use Rattle.std.specs.Arc.{arc_value}
 use Rattle.std.specs.List.{flat_map}
 use Rattle.std.specs.Option.{option_flatten}
-use Rattle.atomic_table.specs.Seated.{TableId}
 use Rattle.broker_threads.specs.Courses.{fate_of, sink_of}
 use Rattle.broker_threads.specs.Streams.{GoesBy, IsServed, KeepsNames, Offer, Sight, Stream, stream}
 use Rattle.broker_threads.specs.Talks.{Converses, StandsStill, passage, start_of}
@@ -38,14 +37,15 @@ use Rattle.realm_inbox.specs.declared.act.Act.TheVariants.{Join}
 use Rattle.realm_inbox.specs.declared.ends.Poster.{Poster}
 use Rattle.threaded_server.proofs.Places.{get_of_map, get_other, get_set, map_get, same_or_other}
 use Rattle.threaded_server.proofs.RunHistories.{realm_made, realm_of}
-use Rattle.threaded_server.specs.Conns.{AscendAtSeats, conn_of, conns_of}
+use Rattle.threaded_server.specs.Conns.{conn_of, conns_of}
 use Rattle.threaded_server.specs.Histories.{IsRealm, Realm}
 use Rattle.threaded_server.specs.Lending.{Lending, returned}
-use Rattle.threaded_server.specs.Overs.{Found, FoundNoSeat, Went, after_of, before_of}
+use Rattle.threaded_server.specs.Overs.{Found, Went, after_of, before_of}
 use Rattle.threaded_server.specs.Posts.{OnlyPosted, posts_at, posts_between, posts_of, since}
 use Rattle.threaded_server.specs.Served.{IsFate, IsSession, LentStream, ReceivedFirst, Served, posts_by}
-use Rattle.threaded_server.specs.Sessions.{SaysSome}
-use Rattle.threaded_server.specs.Ties.{AreAllOwed, CourseTied, IsRun, IsTied, OverTied}
+use Rattle.threaded_server.specs.SeatRules.{AscendAtSeats, FoundNoSeat}
+use Rattle.threaded_server.specs.Sessions.{AreAllOwed, SaysSome}
+use Rattle.threaded_server.specs.Ties.{CourseTied, IsRun, IsTied, OverTied}
 use Rattle.threaded_server.specs.body.Served.{ServedInParts}
 use Rattle.threaded_server.specs.declared.answer.Answer.{Answer}
 use Rattle.threaded_server.specs.declared.over.Over.{Over}
@@ -149,6 +149,9 @@ module _ {I O S : Type 0} (see : Sight I O) (offer : Offer) (runs : List (RealmR
   meanwhile : (before : Stream I O S) (source : I) (back : List (Option (Poster S))) (end : ReadEnd) (written : Written O) (h : IsServed see offer before source back end written) → Meanwhile before source back end written h
   meanwhile before source back end written h = by_talk h.talks.converses
     where
+      of : Act S → ℕ × Act S
+      of act = (poster_conn h.poster, act)
+
       still : StandsStill (passage h.opened_source h.poster) (passage source h.left) → (end ≡ ActorGone) ⊎ (end ≡ NoMemory) → Meanwhile before source back end written h
       still none why = record {
         acts = [];
@@ -157,7 +160,7 @@ module _ {I O S : Type 0} (see : Sight I O) (offer : Offer) (runs : List (RealmR
       }
 
       by_talk : Converses see.reading (start_of h.session) h.talks.joining (passage h.opened_source h.poster) (passage source h.left) end ⊎ (StandsStill (passage h.opened_source h.poster) (passage source h.left) × (end ≡ NoMemory)) → Meanwhile before source back end written h
-      by_talk (inl (inl r)) = let of : Act S → ℕ × Act S = λ act. (poster_conn h.poster, act) in record {
+      by_talk (inl (inl r)) = record {
         acts = Join h.talks.joining ∷ r.posted.acts;
         since = since_more (posted h.poster) (posted h.left) (map of (Join h.talks.joining ∷ r.posted.acts)) (ap (λ p. p.said) r.posted.posted ∙ append_assoc (posted h.poster) (map of (Join h.talks.joining ∷ [])) (map of r.posted.acts));
         says = inl (record { octets = r.posted.octets; acts = r.posted.acts; read = r.posted.read; posted_are = refl; says = r.posted.holds; ended = r.ended; steps = r.reads });
@@ -184,8 +187,8 @@ module _ {I O S : Type 0} (see : Sight I O) (offer : Offer) (runs : List (RealmR
   acts_as conn before source back end written h t =
       let a = served_as conn before source back end written h t in
       let m = meanwhile before source back end written h in
-      let there : acts_between (option_flatten (slice_get before.posters h.session.realm)) (option_flatten (slice_get back h.session.realm)) ≡ acts_between (Some h.poster) (Some h.left) = λ i. acts_between (option_flatten (a.2 i)) (option_flatten (a.3 i)) in
-      ap (λ n. acts_between (option_flatten (slice_get before.posters n)) (option_flatten (slice_get back n))) a.0 ∙ there ∙ ap (map (λ (x : ℕ × Act S). x.1)) m.since ∙ again (poster_conn h.poster) m.acts
+      ap (λ i. acts_between (option_flatten (slice_get before.posters i)) (option_flatten (slice_get back i))) a.0 ∙ (λ i. acts_between (option_flatten (a.2 i)) (option_flatten (a.3 i)))
+      ∙ ap (map (λ (x : ℕ × Act S). x.1)) m.since ∙ again (poster_conn h.poster) m.acts
 
   session_as : (conn : ℕ) (before : Stream I O S) (source : Closed I) (back : List (Option (Poster S))) (end : ReadEnd) (written : Written O) → (h : IsServed see offer before source.last.value back end written) → (t : IsTied runs conn before.posters written)
       → IsSession see offer (map realm_of runs) (seated_as conn before source back (course.Served end written)) conn (record { read = end; write = written.end })
@@ -257,11 +260,10 @@ module _ {I O S : Type 0} (see : Sight I O) (offer : Offer) (runs : List (RealmR
       by_place (inl here) =
           let a = served_as conn before source.last.value back end written h t in
           let m = meanwhile before source.last.value back end written h in
-          let there : posts_between number (option_flatten (slice_get before.posters h.session.realm)) (option_flatten (slice_get back h.session.realm)) ≡ posts_between number (Some h.poster) (Some h.left) = λ i. posts_between number (option_flatten (a.2 i)) (option_flatten (a.3 i)) in
           ap (λ b. if b && seat_of conn == number then map (λ act. (conn, act)) (acts_in before.posters back (course.Served end written)) else []) (eq-eqb written.realm realm (a.0 ∙ here))
           ∙ ap (λ l. if seat_of conn == number then l else []) (ap (map (λ (act : Act S). (conn, act))) (acts_as conn before source.last.value back end written h t) ∙ ap (λ (n : ℕ). map (λ act. (n, act)) m.acts) (sym a.1) ∙ sym m.since)
           ∙ ap (λ (n : ℕ). if seat_of n == number then since (posted h.poster) (posted h.left) else []) (sym a.1)
-          ∙ sym there
+          ∙ sym (λ i. posts_between number (option_flatten (a.2 i)) (option_flatten (a.3 i)))
           ∙ ap (λ n. posts_between number (option_flatten (slice_get before.posters n)) (option_flatten (slice_get back n))) here
       by_place (inr other) =
           let a = served_as conn before source.last.value back end written h t in

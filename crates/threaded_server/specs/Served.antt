@@ -15,12 +15,10 @@ use Rattle.realm_inbox.specs.declared.act.Act.{Act}
 use Rattle.realm_inbox.specs.declared.joining.Joining.{Joining}
 use Rattle.session.specs.Opened.{Session}
 use Rattle.threaded_server.specs.Answers.{came_in}
-use Rattle.threaded_server.specs.Conns.{AscendAtSeats}
 use Rattle.threaded_server.specs.Histories.{IsRealm, Realm}
 use Rattle.threaded_server.specs.Lending.{Lending, Returned}
-use Rattle.threaded_server.specs.Overs.{FoundNoSeat, IsTurnedAway}
-use Rattle.threaded_server.specs.Sessions.{IsWritten, Joins, SaysSome, halves}
-use Rattle.threaded_server.specs.Ties.{AreAllOwed}
+use Rattle.threaded_server.specs.SeatRules.{AscendAtSeats, FoundNoSeat, IsTurnedAway}
+use Rattle.threaded_server.specs.Sessions.{AreAllOwed, IsWritten, Joins, SaysSome, halves}
 use Rattle.threaded_server.specs.declared.answer.Answer.{Answer}
 use Rattle.wamp_ids.specs.Numbers.{seat_of}
 use Rattle.wamp_messages.specs.declared.item.Item.{Item}

@@ -10,6 +10,7 @@ use Rattle.realm_inbox.specs.EndViews.{inbox_of, inbox_of_poster}
 use Rattle.realm_inbox.specs.declared.ends.Poster.{Poster}
 use Rattle.broker_threads.specs.Acts.{Acts}
 use Rattle.threaded_server.specs.Realms.{Shown, inbox_in}
+use Rattle.threaded_server.specs.Sessions.{AreAllOwed}
 use Rattle.wamp_messages.specs.declared.item.Item.{Item}
 use Rattle.broker_threads.specs.Writes.{over_kept, owed_kept}
 use Rattle.broker_threads.specs.declared.course.Course.{Course}
@@ -24,11 +25,6 @@ use Rattle.broker_threads.specs.declared.writer_thread.Written.{Written}
 abbrev pub IsKeptIn : List (Kept History) → Option (Kept History) → Type 0
 IsKeptIn all None = ⊤
 IsKeptIn all (Some kept) = Contains all kept
-
--- these items are all that the history, which there is, owes the connection
-abbrev pub AreAllOwed : Option History → ℕ → List Item → Type 0
-AreAllOwed None conn items = ⊥
-AreAllOwed (Some h) conn items = items ≡ owed h conn
 
 module _ {O S : Type 0} where
   -- a connection's session was served by the poster of its realm's inbox, and its realm keeps what its writer saw last, which owes the connection what was taken

@@ -2,7 +2,8 @@
 use Rattle.std.specs.Prelude.{◌≡◌, ◌≢◌, ◌+◌, ℕ, List, [], ◌++◌, Result, All, length, map}
 use Rattle.realm.specs.Grants.{Grants}
 use Rattle.threaded_server.specs.Answers.{Serves, came_in}
-use Rattle.threaded_server.specs.Conns.{AscendAtSeats, conns_of}
+use Rattle.threaded_server.specs.SeatRules.{AscendAtSeats}
+use Rattle.threaded_server.specs.Conns.{conns_of}
 use Rattle.threaded_server.specs.Lending.{Lending}
 use Rattle.threaded_server.specs.Overs.{AllWent, Books, Moves, after_of, before_of}
 use Rattle.threaded_server.specs.Posts.{OnlyPosted}
