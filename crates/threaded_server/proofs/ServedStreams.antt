@@ -12,6 +12,7 @@ use Rattle.std.proofs.lemmas.Option.{none-some, same_Some}
 use Rattle.std.specs.Arc.{arc_value}
 use Rattle.std.specs.List.{flat_map}
 use Rattle.std.specs.Option.{option_flatten}
+use Rattle.atomic_table.specs.Seated.{TableId}
 use Rattle.broker_threads.specs.Courses.{fate_of, sink_of}
 use Rattle.broker_threads.specs.Streams.{GoesBy, IsServed, KeepsNames, Offer, Sight, Stream, stream}
 use Rattle.broker_threads.specs.Talks.{Converses, StandsStill, passage, start_of}
@@ -23,13 +24,12 @@ use Rattle.broker_threads.specs.declared.writer_thread.Written.{Written}
 use Rattle.connection.specs.Writer.{IsWrittenBy, write_told}
 use Rattle.connection.specs.declared.reader.ReadEnd.{ReadEnd}
 use Rattle.connection.specs.declared.reader.ReadEnd.TheVariants.{ActorGone, NoMemory}
-use Rattle.outbox_queue.specs.Ends.{Owes}
 use Rattle.outbox_queue.specs.Outbox.{new_outbox}
 use Rattle.rawsocket.specs.Steps.{WriteSteps}
 use Rattle.rawsocket.specs.declared.handshake.Serializer.{Serializer}
 use Rattle.realm.specs.Grants.{Grants}
 use Rattle.realm.specs.Yield.{owed}
-use Rattle.realm_inbox.specs.EndViews.{home_of_poster, inbox_of_poster, posted, poster_conn, received}
+use Rattle.realm_inbox.specs.EndViews.{home_of_poster, inbox_of_poster, posted, poster_conn}
 use Rattle.realm_inbox.specs.Ends.{Place}
 use Rattle.realm_inbox.specs.Seats.{at_seat}
 use Rattle.realm_inbox.specs.declared.act.Act.{Act}
@@ -41,11 +41,11 @@ use Rattle.threaded_server.specs.Conns.{conn_of, conns_of}
 use Rattle.threaded_server.specs.Histories.{IsRealm, Realm}
 use Rattle.threaded_server.specs.Lending.{Lending, returned}
 use Rattle.threaded_server.specs.Overs.{Found, Went, after_of, before_of}
-use Rattle.threaded_server.specs.Posts.{OnlyPosted, posts_at, posts_between, posts_of, since}
-use Rattle.threaded_server.specs.Served.{IsFate, IsSession, LentStream, ReceivedFirst, Served, posts_by}
+use Rattle.threaded_server.specs.Posts.{ReceivedPosted, posts_at, posts_between, posts_of, since}
+use Rattle.threaded_server.specs.Served.{IsFate, IsSession, LentStream, ReceivedAll, Served, posts_by}
 use Rattle.threaded_server.specs.SeatRules.{AscendAtSeats, FoundNoSeat}
-use Rattle.threaded_server.specs.Sessions.{AreAllOwed, SaysSome}
-use Rattle.threaded_server.specs.Ties.{CourseTied, IsRun, IsTied, OverTied}
+use Rattle.threaded_server.specs.Sessions.{SaysSome}
+use Rattle.threaded_server.specs.Ties.{CourseTied, IsRun, IsTied, OverTied, history_of}
 use Rattle.threaded_server.specs.body.Served.{ServedInParts}
 use Rattle.threaded_server.specs.declared.answer.Answer.{Answer}
 use Rattle.threaded_server.specs.declared.over.Over.{Over}
@@ -149,9 +149,6 @@ module _ {I O S : Type 0} (see : Sight I O) (offer : Offer) (runs : List (RealmR
   meanwhile : (before : Stream I O S) (source : I) (back : List (Option (Poster S))) (end : ReadEnd) (written : Written O) (h : IsServed see offer before source back end written) → Meanwhile before source back end written h
   meanwhile before source back end written h = by_talk h.talks.converses
     where
-      of : Act S → ℕ × Act S
-      of act = (poster_conn h.poster, act)
-
       still : StandsStill (passage h.opened_source h.poster) (passage source h.left) → (end ≡ ActorGone) ⊎ (end ≡ NoMemory) → Meanwhile before source back end written h
       still none why = record {
         acts = [];
@@ -160,7 +157,7 @@ module _ {I O S : Type 0} (see : Sight I O) (offer : Offer) (runs : List (RealmR
       }
 
       by_talk : Converses see.reading (start_of h.session) h.talks.joining (passage h.opened_source h.poster) (passage source h.left) end ⊎ (StandsStill (passage h.opened_source h.poster) (passage source h.left) × (end ≡ NoMemory)) → Meanwhile before source back end written h
-      by_talk (inl (inl r)) = record {
+      by_talk (inl (inl r)) = let of : Act S → ℕ × Act S = λ act. (poster_conn h.poster, act) in record {
         acts = Join h.talks.joining ∷ r.posted.acts;
         since = since_more (posted h.poster) (posted h.left) (map of (Join h.talks.joining ∷ r.posted.acts)) (ap (λ p. p.said) r.posted.posted ∙ append_assoc (posted h.poster) (map of (Join h.talks.joining ∷ [])) (map of r.posted.acts));
         says = inl (record { octets = r.posted.octets; acts = r.posted.acts; read = r.posted.read; posted_are = refl; says = r.posted.holds; ended = r.ended; steps = r.reads });
@@ -187,8 +184,8 @@ module _ {I O S : Type 0} (see : Sight I O) (offer : Offer) (runs : List (RealmR
   acts_as conn before source back end written h t =
       let a = served_as conn before source back end written h t in
       let m = meanwhile before source back end written h in
-      ap (λ i. acts_between (option_flatten (slice_get before.posters i)) (option_flatten (slice_get back i))) a.0 ∙ (λ i. acts_between (option_flatten (a.2 i)) (option_flatten (a.3 i)))
-      ∙ ap (map (λ (x : ℕ × Act S). x.1)) m.since ∙ again (poster_conn h.poster) m.acts
+      let there : acts_between (option_flatten (slice_get before.posters h.session.realm)) (option_flatten (slice_get back h.session.realm)) ≡ acts_between (Some h.poster) (Some h.left) = λ i. acts_between (option_flatten (a.2 i)) (option_flatten (a.3 i)) in
+      ap (λ n. acts_between (option_flatten (slice_get before.posters n)) (option_flatten (slice_get back n))) a.0 ∙ there ∙ ap (map (λ (x : ℕ × Act S). x.1)) m.since ∙ again (poster_conn h.poster) m.acts
 
   session_as : (conn : ℕ) (before : Stream I O S) (source : Closed I) (back : List (Option (Poster S))) (end : ReadEnd) (written : Written O) → (h : IsServed see offer before source.last.value back end written) → (t : IsTied runs conn before.posters written)
       → IsSession see offer (map realm_of runs) (seated_as conn before source back (course.Served end written)) conn (record { read = end; write = written.end })
@@ -217,8 +214,8 @@ module _ {I O S : Type 0} (see : Sight I O) (offer : Offer) (runs : List (RealmR
               (subst (λ (items : List Item). IsWrittenBy h.talks.writer.serializer h.talks.writer.limit written.end items writes.written.octets) (sym took) writes.written.written));
           steps = subst (λ (o : O). WriteSteps (see.writing o) (see.writing written.sink.last.value) (write_told written.end)) begins.writes_to writes.steps;
         };
-        due = subst (λ (c : ℕ). Owes owed t.run.ended.value.chronicle.history c written.drain.value.taken) t.own t.owes;
-        whole = λ stopped. subst (λ (c : ℕ). AreAllOwed t.run.ended.value.chronicle.history c written.drain.value.taken) t.own (t.whole stopped);
+        due = subst (λ (c : ℕ). IsPrefix written.drain.value.taken (owed (history_of t.run) c)) t.own t.owes;
+        whole = λ stopped. t.whole stopped ∙ ap (owed (history_of t.run)) t.own;
         full = λ found. subst (λ (n : ℕ). n ≤ length written.drain.value.taken) (writes.later.capacity ∙ begins.new.5) (t.full found);
       }
     where
@@ -260,10 +257,11 @@ module _ {I O S : Type 0} (see : Sight I O) (offer : Offer) (runs : List (RealmR
       by_place (inl here) =
           let a = served_as conn before source.last.value back end written h t in
           let m = meanwhile before source.last.value back end written h in
+          let there : posts_between number (option_flatten (slice_get before.posters h.session.realm)) (option_flatten (slice_get back h.session.realm)) ≡ posts_between number (Some h.poster) (Some h.left) = λ i. posts_between number (option_flatten (a.2 i)) (option_flatten (a.3 i)) in
           ap (λ b. if b && seat_of conn == number then map (λ act. (conn, act)) (acts_in before.posters back (course.Served end written)) else []) (eq-eqb written.realm realm (a.0 ∙ here))
           ∙ ap (λ l. if seat_of conn == number then l else []) (ap (map (λ (act : Act S). (conn, act))) (acts_as conn before source.last.value back end written h t) ∙ ap (λ (n : ℕ). map (λ act. (n, act)) m.acts) (sym a.1) ∙ sym m.since)
           ∙ ap (λ (n : ℕ). if seat_of n == number then since (posted h.poster) (posted h.left) else []) (sym a.1)
-          ∙ sym (λ i. posts_between number (option_flatten (a.2 i)) (option_flatten (a.3 i)))
+          ∙ sym there
           ∙ ap (λ n. posts_between number (option_flatten (slice_get before.posters n)) (option_flatten (slice_get back n))) here
       by_place (inr other) =
           let a = served_as conn before source.last.value back end written h t in
@@ -302,11 +300,10 @@ module _ {I O S : Type 0} (see : Sight I O) (offer : Offer) (runs : List (RealmR
       let T = λ (x : Over I O S). OverTied runs x in
       λ i. posts_as realm number o (All-head W o overs went) (All-head T o overs tied) i ++ all_posts realm number overs (All-tail W o overs went) (All-tail T o overs tied) i
 
-  received_first : (overs : List (Over I O S)) → All (λ o. Went see offer o) overs → All (λ o. OverTied runs o) overs → OnlyPosted runs overs → ReceivedFirst (map realm_of runs) (map stream_of overs)
-  received_first overs went tied only i k realm at less =
+  received_all : (overs : List (Over I O S)) → All (λ o. Went see offer o) overs → All (λ o. OverTied runs o) overs → ReceivedPosted runs overs → ReceivedAll (map realm_of runs) (map stream_of overs)
+  received_all overs went tied received i k realm at less =
       let run = get_of_map realm_of runs i realm at in
-      subst (λ (r : Realm S). IsPrefix (at_seat (k + 1) r.received) (flat_map (λ (s : LentStream I O S). posts_by i (k + 1) s s.conn) (map stream_of overs))) run.2
-      (subst (λ l. IsPrefix (at_seat (k + 1) (received run.0.ended.value.inbox)) l) (sym (all_posts i (k + 1) overs went tied)) (only i k run.0 run.1 less))
+      ap (λ (r : Realm S). at_seat (k + 1) r.received) (sym run.2) ∙ received i k run.0 run.1 less ∙ sym (all_posts i (k + 1) overs went tied)
 
 module _ {I O S : Type 0} where
   -- who was told that no seat is free found none
@@ -326,7 +323,7 @@ module _ {I O S : Type 0} where
   told see offer grants before now was lending h =
       ∥∥₁_elim (of_all (λ o. Went see offer o) h.streams h.went.went) squash₁ (λ went.
       ∥∥₁_elim h.tied squash₁ (λ tied.
-      ∥∥₁_elim h.only_posted squash₁ (λ only.
+      ∥∥₁_elim h.received squash₁ (λ received.
       ∥∥₁_map (of_all (λ o. KeepsNames see (before_of o) ((after_of o).source, (after_of o).sink)) h.streams h.own) (λ own. record {
         given = h.given;
         answered = h.answered;
@@ -343,7 +340,7 @@ module _ {I O S : Type 0} where
         all_ran = λ asked. length-map h.runs realm_of ∙ h.all_ran asked;
         histories = All-map (λ (realm : Realm S). IsRealm grants realm) realm_of h.runs (All-weaker (λ run. IsRun grants run) (λ run. IsRealm grants (realm_of run)) (realm_made grants) h.runs h.each_ran);
         fates = all_fates see offer h.runs h.streams went tied;
-        received = received_first see offer h.runs h.streams went tied only;
+        received = received_all see offer h.runs h.streams went tied received;
         no_seat = λ i s at is.
             let o = get_of_map stream_of h.streams i s at in
             subst (λ (x : LentStream I O S). FoundNoSeat h.lent i x.lent) o.2 (turned_away h.lent i o.0 (h.went.found i o.0 o.1) (ap (λ (x : LentStream I O S). x.back.fate) o.2 ∙ is));

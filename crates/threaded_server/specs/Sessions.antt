@@ -1,5 +1,5 @@
 -- What a session did that was served over a stream.
-use Rattle.std.specs.Prelude.{◌≡◌, ◌⊎◌, ℕ, true, min, List, [], ◌∷◌, ◌++◌, Option, None, Some}
+use Rattle.std.specs.Prelude.{◌≡◌, ◌⊎◌, ℕ, true, min, List, [], ◌∷◌, ◌++◌, Some}
 use Rattle.atomic_table.specs.Seated.{TableId}
 use Rattle.broker_threads.specs.Streams.{Stream, stream}
 use Rattle.broker_threads.specs.Talks.{start_of}
@@ -11,8 +11,6 @@ use Rattle.connection.specs.declared.writer.WriteEnd.{WriteEnd}
 use Rattle.outbox_queue.specs.Outbox.{new_outbox}
 use Rattle.rawsocket.specs.Devices.{Reading, Writing}
 use Rattle.rawsocket.specs.Steps.{WriteSteps, read_meter}
-use Rattle.realm.specs.History.{History}
-use Rattle.realm.specs.Yield.{owed}
 use Rattle.realm_inbox.specs.declared.act.Act.{Act}
 use Rattle.realm_inbox.specs.declared.act.Act.TheVariants.{Join}
 use Rattle.realm_inbox.specs.declared.joining.Joining.{Joining}
@@ -51,8 +49,3 @@ pub record IsWritten {O : Type 0} (seen : O → Writing) (hello : Session) (befo
   pub wrote : (seen after).taken ≡ (seen before).taken ++ octets
   pub says : IsWrittenBy hello.serializer (min hello.limit 16777215) end items octets
   pub steps : WriteSteps (seen before) (seen after) (write_told end)
-
--- these items are all that the history, which there is, owes the connection
-abbrev pub AreAllOwed : Option History → ℕ → List Item → Type 0
-AreAllOwed None conn items = ⊥
-AreAllOwed (Some h) conn items = items ≡ owed h conn

@@ -13,7 +13,7 @@ ghost use Rattle.broker_threads.specs.Courses.{fate_of, seen_of, sink_of};
 ghost use Rattle.threaded_server.specs.SeatRules.{AscendAtSeats, TellsRefusal};
 ghost use Rattle.threaded_server.specs.Overs.{AllWent, GoesOver};
 ghost use Rattle.threaded_server.specs.Posters.{Stand, lists_at, lists_of};
-ghost use Rattle.threaded_server.specs.Posts.{AllSay, OnlyPosted, posts_at};
+ghost use Rattle.threaded_server.specs.Posts.{AllSay, ReceivedPosted, posts_at};
 ghost use Rattle.threaded_server.specs.Realms.{IsAtHome, TakesIn, places_of, realms_of, shown};
 ghost use Rattle.threaded_server.specs.Seating.{AreSeated};
 ghost use Rattle.broker_threads.specs.Streams.{offer_of, sight};
@@ -154,10 +154,10 @@ impl<
         self.realms.len()
     }
 
-    /// One realm more, whose seats these are, once its actor has begun.
+    /// One realm more, whose seats these are.
     ///
     /// # Errors
-    /// Where memory was refused, also to its actor.
+    /// Where memory was refused.
     pub fn add_realm<R: Threads + Wait>(
         &mut self,
         rt: &R,
@@ -181,11 +181,7 @@ impl<
             return Err(AllocError);
         }
         self.posters.add_realm(place, seats);
-        if self.realms.last_has_begun(rt) {
-            Ok(())
-        } else {
-            Err(AllocError)
-        }
+        Ok(())
     }
 
     /// Stops the realms' actors, and waits until each has marked whose sessions it holds.
@@ -204,7 +200,7 @@ impl<
             (λ run. IsRun (pairs_of self.roster.over.plan.value.config.value.grants.items) run)
             (items_of result) }
         ensures realms { length (items_of result) ≡ length (realms_of self.realms) }
-        ensures only_posted { ∥ OnlyPosted (items_of result)
+        ensures received { ∥ ReceivedPosted (items_of result)
             (items_of self.roster.over.streams) ∥₁ }
         ensures ascend { AscendAtSeats (conns_of (items_of self.roster.over.streams)) }
         ensures tied { ∥ All (λ over. OverTied (items_of result) over)
