@@ -19,7 +19,7 @@ use Rattle.threaded_server.specs.Posters.{IsOfInbox, poster_at, poster_in, trace
 use Rattle.wamp_ids.specs.Numbers.{seat_of}
 
 abbrev Trace : Type 0 → Type 0
-Trace S = ℕ × (Place S × List (ℕ × Act S))
+Trace S = ℕ × Place S × List (ℕ × Act S)
 
 module _ {S : Type 0} where
   -- what is there has a trace, so one with that trace was there
@@ -57,7 +57,7 @@ module _ {S : Type 0} where
   put_traced slots k were are at e = map_same (option_map traces) slots k were are at e
 
   -- the trace of the one at a place is seen in those of all
-  traces_in : Option (List (Option (Trace S))) → ℕ → Option (Trace S)
+  abbrev traces_in : Option (List (Option (Trace S))) → ℕ → Option (Trace S)
   traces_in None realm = None
   traces_in (Some row) realm = option_flatten (slice_get row realm)
 

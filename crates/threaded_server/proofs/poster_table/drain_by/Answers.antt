@@ -6,8 +6,8 @@ use Rattle.threaded_server.proofs.DrainSteps.{put_back_traced, received_by, same
 use Rattle.threaded_server.specs.Posters.{trace, traces}
 use Rattle.threaded_server.proofs.poster_table.drain_by.Goals as goal
 
-pub drain_beside-requires-clause-inbox : goal.drain_beside-requires-clause-inbox
-drain_beside-requires-clause-inbox g c κs within = c.requires.here c.in-Some.poster c.in-Some.ensures.there
+pub drain_beside-requires : goal.drain_beside-requires
+drain_beside-requires g c = record { inbox = c.requires.here c.in-Some.poster c.in-Some.ensures.there }
 
 pub returns-in-Some-clause-traces : goal.returns-in-Some-clause-traces
 returns-in-Some-clause-traces g c =
@@ -19,7 +19,7 @@ returns-in-Some-clause-received g c p e =
     let poster = c.in-Some.poster in
     let now = c.drain_beside.new.poster in
     let is = same_Some poster p (sym c.in-Some.ensures.there ∙ e) in
-    received_by now p (received c.drain_beside.new.self) (same_trace poster now c.drain_beside.ensures.poster ∙ ap trace is) c.drain_beside.ensures.all
+    received_by now p (received c.drain_beside.new.inbox) (same_trace poster now c.drain_beside.ensures.poster ∙ ap trace is) c.drain_beside.ensures.all
 
 pub returns-in-Some-clause-more : goal.returns-in-Some-clause-more
 returns-in-Some-clause-more g c = c.drain_beside.ensures.more

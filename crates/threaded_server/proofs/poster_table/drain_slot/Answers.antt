@@ -4,8 +4,8 @@ use Rattle.realm_inbox.specs.EndViews.{received}
 use Rattle.threaded_server.specs.Posters.{poster_in, traces}
 use Rattle.threaded_server.proofs.poster_table.drain_slot.Goals as goal
 
-pub drain_by-requires-after_bounds : goal.drain_by-requires-after_bounds
-drain_by-requires-after_bounds g c κs within p e = c.requires p (ap (λ o. poster_in (option_map (λ posters. posters.items) o) c.args.realm) c.in-Some.is ∙ e)
+pub drain_by-requires : goal.drain_by-requires
+drain_by-requires g c = record { here = λ p e. c.requires.here p (ap (λ o. poster_in (option_map (λ posters. posters.items) o) c.args.realm) c.in-Some.is ∙ e) }
 
 pub returns-in-Some-clause-traces : goal.returns-in-Some-clause-traces
 returns-in-Some-clause-traces g c = ap Some c.drain_by.ensures.traces ∙ sym (ap (λ o. option_map traces (option_map (λ posters. posters.items) o)) c.in-Some.is)

@@ -1,4 +1,4 @@
-use Rattle.std.proofs.Common.{rules, ◌≤◌, ◌<◌, ◌+◌, Some, [], append-nil, length, option_map, refl, sym, ap, ◌∙◌, subst}
+use Rattle.std.proofs.Common.{rules, ◌≡◌, ◌≤◌, ◌<◌, ◌+◌, Some, [], append-nil, length, option_map, refl, sym, ap, ◌∙◌, subst}
 use Rattle.std.proofs.lemmas.List.{map-set}
 use Rattle.std.proofs.lemmas.Option.{none-some, slice_get-map, slice_get_past, slice_get_read}
 use Rattle.std.specs.Option.{option_flatten}
@@ -11,12 +11,12 @@ use Rattle.threaded_server.proofs.Places.{map_get}
 use Rattle.threaded_server.specs.Posters.{lists_of, poster_in, traces_of}
 use Rattle.threaded_server.proofs.poster_table.PosterTable.drain_at.Goals as goal
 
-pub drain_slot-requires-after_bounds : goal.drain_slot-requires-after_bounds
-drain_slot-requires-after_bounds g c κs inside p e =
+pub drain_slot-requires : goal.drain_slot-requires
+drain_slot-requires g c =
     let slots = c.args.self.now.slots.items in
     let within : c.args.place < length c.args.self.now.slots.items = search rules in
     let at = map_get (option_map (λ posters. posters.items)) slots c.args.place c.in-Some.slot.now (slice_get_read slots (length slots) c.args.place c.in-Some.slot.now refl within c.in-Some.ensures.value) in
-    (c.requires p (ap (λ o. poster_in (option_flatten o) c.args.realm) at ∙ e)).inbox
+    record { here = λ p e. (c.requires.here p (ap (λ o. poster_in (option_flatten o) c.args.realm) at ∙ e)).inbox }
 
 pub returns-in-Some-clause-traces : goal.returns-in-Some-clause-traces
 returns-in-Some-clause-traces g c =
@@ -31,7 +31,7 @@ returns-in-Some-clause-received g c p e =
     let slots = c.args.self.now.slots.items in
     let within : c.args.place < length c.args.self.now.slots.items = search rules in
     let at = map_get (option_map (λ posters. posters.items)) slots c.args.place c.in-Some.slot.now (slice_get_read slots (length slots) c.args.place c.in-Some.slot.now refl within c.in-Some.ensures.value) in
-    subst (λ n. at_seat n (received c.drain_slot.new.inbox) ≡ posted p) (c.requires p e).seat (c.drain_slot.ensures.received p (sym (ap (λ o. poster_in (option_flatten o) c.args.realm) at) ∙ e))
+    subst (λ n. at_seat n (received c.drain_slot.new.inbox) ≡ posted p) (c.requires.here p e).seat (c.drain_slot.ensures.received p (sym (ap (λ o. poster_in (option_flatten o) c.args.realm) at) ∙ e))
 
 pub returns-in-Some-clause-more : goal.returns-in-Some-clause-more
 returns-in-Some-clause-more g c = c.drain_slot.ensures.more

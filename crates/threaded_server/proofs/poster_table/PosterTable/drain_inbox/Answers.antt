@@ -6,12 +6,12 @@ use Rattle.threaded_server.proofs.DrainSteps.{both_begin, traced, traced_home, t
 use Rattle.threaded_server.specs.Posters.{IsOfInbox, lists_of, poster_at, trace}
 use Rattle.threaded_server.proofs.poster_table.PosterTable.drain_inbox.Goals as goal
 
-pub compare-requires-after_bounds : goal.compare-requires-after_bounds
-compare-requires-after_bounds g c κs within k p e =
+pub compare-requires-clause-here : goal.compare-requires-clause-here
+compare-requires-clause-here g c κs within k p e =
     let were = lists_of c.args.self.now in
     let now = lists_of c.drain_seats.new.self in
     let was = traced (poster_at were k c.args.realm) (poster_at now k c.args.realm) p (traces_at were now c.drain_seats.ensures.traces k c.args.realm) e in
-    subst (λ i. IsOfInbox i (k + 1) p) (sym c.drain_seats.ensures.same) (traced_home (inbox_of c.args.inbox.now) (k + 1) was.0 p was.2 (c.requires k was.0 was.1))
+    subst (λ i. IsOfInbox i (k + 1) p) (sym c.drain_seats.ensures.same) (traced_home (inbox_of c.args.inbox.now) (k + 1) was.0 p was.2 (c.requires.here k was.0 was.1))
 
 pub returns-clause-others : goal.returns-clause-others
 returns-clause-others g c k i other = ap (option_map trace) (c.compare.ensures.others k i other) ∙ traces_at (lists_of c.args.self.now) (lists_of c.drain_seats.new.self) c.drain_seats.ensures.traces k i

@@ -11,14 +11,14 @@ use Rattle.threaded_server.proofs.poster_table.PosterTable.drain_seats.Goals as 
 pub loop-place-init : goal.loop-place-init
 loop-place-init g c = (refl, ([], append-nil (received c.args.inbox.now)), refl, λ k p less at. absurd (omega (arith, less)))
 
-pub drain_at-requires-after_bounds : goal.drain_at-requires-after_bounds
-drain_at-requires-after_bounds g c κs within p e =
+pub drain_at-requires-clause-here : goal.drain_at-requires-clause-here
+drain_at-requires-clause-here g c κs within p e =
     let place = c.loop-place.place in
     let held = c.loop-place.invariant in
     let were = lists_of c.args.self.now in
     let now = lists_of c.loop-place.self in
     let was = traced (poster_at were place c.args.realm) (poster_at now place c.args.realm) p (traces_at were now held.0 place c.args.realm) e in
-    subst (λ i. IsOfInbox i (place + 1) p) (sym held.2) (traced_home (inbox_of c.args.inbox.now) (place + 1) was.0 p was.2 (c.requires place was.0 was.1))
+    subst (λ i. IsOfInbox i (place + 1) p) (sym held.2) (traced_home (inbox_of c.args.inbox.now) (place + 1) was.0 p was.2 (c.requires.here place was.0 was.1))
 
 pub loop-place-preserved : goal.loop-place-preserved
 loop-place-preserved g c =
