@@ -38,7 +38,7 @@ pub struct ActorThread<S: Shut> {
     pub teller: Sender<()>,
     pub marks: Arc<SeatTable>,
     ghost new: { length (received inbox) ≡ 0 },
-    ghost begun: { chronicle.history ≡ None },
+    ghost unrecorded: { chronicle.history ≡ None },
     ghost empty: { (grants : Grants) × (kept ≡ begun grants) },
     ghost home: { home_of inbox ≡ Some chronicle.chronicle },
 }

@@ -12,12 +12,12 @@ use Rattle.std.specs.contracts.vec.Vec as Vec
 use Rattle.retained.specs.contracts.kept.Kept as Kept
 use Rattle.retained.specs.contracts.store.Store as Store
 use Rattle.subscription_index.specs.contracts.index.Index as Index
-use Rattle.subscription_index.specs.contracts.names.Names as Names
 use Rattle.wamp_messages.proofs.SendLemmas.{item_send, shared_send}
 use Rattle.realm.specs.contracts.entry.Entry as Entry
 use Rattle.realm.specs.contracts.grants.Grants as Grants
 use Rattle.realm.specs.contracts.last_asked.LastAsked as LastAsked
 use Rattle.realm.specs.contracts.realm.Realm as Realm
+use Rattle.realm.specs.contracts.realm.Realm.TheInside as realm
 use Rattle.realm.specs.contracts.sessions.Sessions as Sessions
 use Rattle.realm.specs.contracts.spare.Spare as Spare
 use Rattle.realm.specs.contracts.state.State as State
@@ -31,11 +31,8 @@ sessions_send = search (maps, crosses, sendable) depth 60 fits 20000
 seats_send : IsSend LastAsked.the_row
 seats_send = search (maps, crosses, sendable) depth 60 fits 20000
 
-names_send : IsSend Names.the_row
-names_send = search (maps, crosses, sendable) depth 60 fits 20000
-
 index_send : IsSend Index.the_row
-index_send = search (names_send, maps, crosses, sendable) depth 60 fits 20000
+index_send = search (maps, crosses, sendable) depth 60 fits 20000
 
 kept_send : IsSend Kept.the_row
 kept_send = search (shared_send, maps, crosses, sendable) depth 60 fits 20000
@@ -56,4 +53,4 @@ past_send : IsSend (Vec.the_row (Snapshot.the_row Entry.the_row) Global.the_row 
 past_send = heap.Vec-send _ entry_send
 
 pub realm_send : IsSend Realm.the_row
-realm_send = view_send _ _ _ _ _ (declared_send Realm.the_type (search (state_send, sendable) depth 60 fits 20000, (as_row_send (Vec.the_field (Snapshot.the_row Entry.the_row) Global.the_row global.ghosts) past_send, tt)))
+realm_send = view_send _ _ _ _ _ (declared_send realm.the_type (search (state_send, sendable) depth 60 fits 20000, (as_row_send (Vec.the_field (Snapshot.the_row Entry.the_row) Global.the_row global.ghosts) past_send, tt)))

@@ -83,7 +83,7 @@ module _ {S : Type 0} where
       → Stand (places_of all) before → ((k : ℕ) → trace_at now k place ≡ trace_at before k place) → (k : ℕ) (p : Poster S) → poster_at now k place ≡ Some p → IsOfInbox (inbox_of acted.inbox) (k + 1) p
   next_stands all rest realm runs began acted place before now h long back stand same k p e =
       let here = map_get inbox_in all place realm (ap (slice_get all) (sym long) ∙ next_at all rest realm runs h) in
-      let own : inbox_in realm ≡ inbox_of acted.inbox = ap (λ (w : ActorThread S). inbox_of w.inbox) (sym back.began) ∙ sym back.acts.inbox in
+      let own : inbox_in realm ≡ inbox_of acted.inbox = ap (λ (w : ActorThread S). inbox_of w.inbox) (sym back.given) ∙ sym back.acts.inbox in
       let was = traced (poster_at before k place) (poster_at now k place) p (same k) e in
       subst (λ (i : Place S). IsOfInbox i (k + 1) p) own (traced_home (inbox_in realm) (k + 1) was.0 p was.2 (found_stands (places_of all) before k place (inbox_in realm) was.0 here stand was.1))
 
@@ -115,7 +115,7 @@ module _ {S : Type 0} where
   all_ran grants (realm ∷ realms) (run ∷ runs) each h =
       let P = λ (r : Shown S). r.work.kept ≡ begun grants in
       let back = each.0.back in
-      All-cons (λ x. IsRun grants x) run runs (record { begins = ap (λ (w : ActorThread S). w.kept) back.began ∙ All-head P realm realms h; acts = back.acts; more = each.0.more }) (all_ran grants realms runs each.1 (All-tail P realm realms h))
+      All-cons (λ x. IsRun grants x) run runs (record { begins = ap (λ (w : ActorThread S). w.kept) back.given ∙ All-head P realm realms h; acts = back.acts; more = each.0.more }) (all_ran grants realms runs each.1 (All-tail P realm realms h))
 
 -- of what was seen, what isn't left begins the history
 pub record SeenSoFar (own : Option History) (all rest : List (Kept History)) : Type 0 where
@@ -165,7 +165,7 @@ module _ {S : Type 0} where
   gave_back handle promised acted chronicle left same acts kept e begins =
       let is : left ≡ acted = e ∙ ap (λ (c : Recorded History). record acted { chronicle = c }) kept in
       record {
-        began = refl;
+        given = refl;
         acts = subst (λ (w : ActorThread S). Acts w left) same (subst (λ (a : Acted S). Acts promised a) (sym is) acts);
         begins = subst (λ (a : Acted S). All (λ kept. Reaches Begins (Some kept.history) a.chronicle.history) handle.seen.items) (sym is) begins;
       }
@@ -217,7 +217,7 @@ module _ {O S : Type 0} where
         at = r.1;
         poster = k.poster;
         posts = k.posts;
-        inbox = k.inbox ∙ ap (λ w. inbox_of w.inbox) (sym back.began);
+        inbox = k.inbox ∙ ap (λ w. inbox_of w.inbox) (sym back.given);
         own = k.own;
         owes = owed_by written.seen own written.drain.value.conn written.drain.value.taken (reached (Some own) k.realm.seen written.seen begins k.kept) k.owes;
         whole = λ stopped. all_owed own k.realm.seen written.seen written.drain.value begins k.kept k.newest_is back.acts.legal (k.whole stopped);

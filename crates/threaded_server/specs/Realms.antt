@@ -60,7 +60,7 @@ module _ {S : Type 0} where
 
   -- a realm's actor's thread gave back what it should, and what was seen last of its history begins what its chronicle has
   pub record GivesBack (realm : Shown S) (began : ActorThread S) (done : Acted S) : Type 0 where
-    pub began : began ≡ realm.work
+    pub given : began ≡ realm.work
     pub acts : Acts began done
     pub begins : All (λ kept. Reaches Begins (Some kept.history) done.chronicle.history) realm.seen
 
