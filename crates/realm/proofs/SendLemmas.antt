@@ -1,5 +1,4 @@
 -- A realm may go to another thread.
-use mathlib.Core.List.{[], ◌∷◌}
 use denote.Param.Send.{IsSend, view_send, sendable}
 use denote.Param.SendFields.{declared_send, as_row_send}
 use Rattle.std.proofs.Crossing.{crosses}
