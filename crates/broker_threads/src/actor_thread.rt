@@ -1,8 +1,9 @@
 //! The thread of a realm's actor.
 ghost use Rattle.std.specs.Prelude.{◌≡◌, Some, None, length};
 ghost use mathlib.Core.List.{IsPrefix};
-ghost use Rattle.realm.specs.Grants.{Grants};
-ghost use Rattle.realm.specs.History.{begun};
+ghost use Rattle.std.specs.Coded.{codes};
+ghost use Rattle.realm.specs.History.{begun, grants_of};
+ghost use Rattle.realm.specs.body.HistoryCode.{history_code};
 ghost use Rattle.realm_inbox.specs.EndViews.{home_of, inbox_of, received};
 
 use crate::id_words::IdWords;
@@ -39,7 +40,7 @@ pub struct ActorThread<S: Shut> {
     pub marks: Arc<SeatTable>,
     ghost new: { length (received inbox) ≡ 0 },
     ghost unrecorded: { chronicle.history ≡ None },
-    ghost empty: { (grants : Grants) × (kept ≡ begun grants) },
+    ghost empty: { kept ≡ begun (grants_of kept) } by { Prim.hlevel (codes, history_code) },
     ghost home: { home_of inbox ≡ Some chronicle.chronicle },
 }
 

@@ -1,6 +1,10 @@
 use Rattle.std.proofs.Common.{◌≡◌, Some, ◌∙◌}
+use Rattle.realm.specs.History.{grants_of}
 use Rattle.broker_threads.proofs.Acting.{acted}
 use Rattle.broker_threads.proofs.actor_thread.ActorThreadWork.run.Goals as goal
+
+pub of_realm-requires-clause-empty : goal.of_realm-requires-clause-empty
+of_realm-requires-clause-empty g c κs within = (grants_of c.args.self.kept, c.args.self.empty)
 
 pub returns : goal.returns
 returns g c =
