@@ -1,4 +1,4 @@
-use Rattle.std.proofs.Common.{◌≡◌, true, [], ◌∷◌, ◌++◌, sym, ap, ◌∙◌, subst}
+use Rattle.std.proofs.Common.{◌≡◌, true, [], ◌∷◌, ◌++◌, refl, sym, ap, ◌∙◌, subst}
 use Rattle.std.proofs.Math.Logic.{∥∥₁_map}
 use Rattle.crossbeam_channel.specs.Claims.{view}
 use Rattle.wamp_ids.specs.Numbers.{seat_of}
@@ -61,3 +61,10 @@ returns-clause-home g c =
     let w = view c.receive.new.reading in
     let t = receipt_told i.next v w c.in-Ok.taken i.reads c.in-Ok.ensures.found in
     told_homed_exchanged g.row.S (home_in v) (received_in v) (items_of i.given) (received_in w) (waiting i.lines) (waiting c.exchange-first.new.self) (place_of_post c.in-Ok.taken) c.in-Ok.taken c.exchange-first.result t.1 t.2 t.3 c.exchange-first.ensures i.dealt
+
+pub returns-clause-same : goal.returns-clause-same
+returns-clause-same g c =
+    let now = c.receive.ensures.reading in
+    let old = c.args.self.now.at in
+    let t = receipt_told _ _ _ _ c.args.self.now.reads c.in-Ok.ensures.found in
+    ((λ i. ((now.0 ∙ sym old.0) i, (now.1 ∙ sym old.1) i, t.4 i)), refl)
