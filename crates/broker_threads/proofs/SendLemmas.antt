@@ -27,6 +27,8 @@ use Rattle.connection.specs.contracts.reader.ReadEnd as ReadEnd
 use Rattle.connection.specs.contracts.writer.WriteEnd as WriteEnd
 use Rattle.log_lines.proofs.reason.CloseReason.TheSendSync as reason
 use Rattle.log_lines.specs.contracts.reason.CloseReason as CloseReason
+use Rattle.realm.proofs.SendLemmas.{realm_send}
+use Rattle.realm.specs.contracts.realm.Realm as Realm
 use Rattle.realm_inbox.proofs.SendLemmas.{backlog_send, backlog_sync, chronicle_send, history, history_owed, history_send, moment, moment_recorded, inbox_send, poster_send}
 use Rattle.realm_inbox.specs.contracts.ends.Poster as Poster
 use Rattle.realm_inbox.specs.declared.transport.Shut.{Ghosts}
@@ -138,7 +140,7 @@ module _ (I O S : RattleType) (shut : Ghosts S.Denot) where
 module _ (S : RattleType) (shut : Ghosts S.Denot) where
   pub actor_work_send : IsSend S → IsSend (ActorThread.the_row S shut)
   actor_work_send s = declared_send (ActorThread.the_type S shut)
-      (search (heap.send, crosses, sendable) depth 60, (search (plan_send, plan_sync, crosses, sendable) depth 60 fits 20000, (search sendable, (search (maps, crosses, sendable) depth 60 fits 20000, (search (words_send, maps, crosses, sendable) depth 60 fits 20000, (as_row_send (Chronicle.the_field moment moment_recorded) chronicle_send, (inbox_send S shut s, (search (crosses, sendable) depth 60 fits 20000, (search (marks_send, marks_sync, crosses, sendable) depth 60 fits 20000, tt)))))))))
+      (search (heap.send, crosses, sendable) depth 60, (search (plan_send, plan_sync, crosses, sendable) depth 60 fits 20000, (search sendable, (as_row_send Realm.the_field realm_send, (search (words_send, maps, crosses, sendable) depth 60 fits 20000, (as_row_send (Chronicle.the_field moment moment_recorded) chronicle_send, (inbox_send S shut s, (search (crosses, sendable) depth 60 fits 20000, (search (marks_send, marks_sync, crosses, sendable) depth 60 fits 20000, tt)))))))))
 
 module _ (S : RattleType) (shut : Ghosts S.Denot) where
   pub actor_done_send : IsSend S → IsSend (Acted.the_row S shut)

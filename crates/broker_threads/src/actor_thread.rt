@@ -1,6 +1,9 @@
 //! The thread of a realm's actor.
 ghost use Rattle.std.specs.Prelude.{◌≡◌, Some, None, length};
 ghost use mathlib.Core.List.{IsPrefix};
+ghost use Rattle.std.specs.Coded.{codes};
+ghost use Rattle.realm.specs.History.{begun, grants_of};
+ghost use Rattle.realm.specs.body.HistoryCode.{history_code};
 ghost use Rattle.realm_inbox.specs.EndViews.{home_of, inbox_of, received};
 
 use crate::id_words::IdWords;
@@ -9,7 +12,7 @@ use crate::seat_table::SeatTable;
 use crate::told::{tell_request_refused, tell_retained_full};
 use crate::work::{Task, Work};
 use crossbeam_channel::Sender;
-use realm::{Realm, RealmConfig, Refusal};
+use realm::{Realm, Refusal};
 use realm_actor::{Actor, Load, Onlooker};
 use realm_inbox::{Act, Inbox, Letter, Post, RealmChronicle, Shut};
 use std::alloc::Global;
@@ -26,16 +29,18 @@ pub struct ActorThread<S: Shut> {
     pub plan: Arc<Plan>,
     /// The realm's place.
     pub realm: usize,
-    pub config: RealmConfig,
+    /// What it keeps: nothing happened there yet.
+    pub kept: Realm,
     pub words: IdWords,
     /// Of the realm's history: nothing is recorded yet.
     pub chronicle: RealmChronicle,
     pub inbox: Inbox<S>,
-    /// It is told whether there was memory for the realm, and then, once the actor has ended, that the marks are set.
-    pub teller: Sender<bool>,
+    /// It is told, once the actor has ended, that the marks are set.
+    pub teller: Sender<()>,
     pub marks: Arc<SeatTable>,
     ghost new: { length (received inbox) ≡ 0 },
-    ghost begun: { chronicle.history ≡ None },
+    ghost unrecorded: { chronicle.history ≡ None },
+    ghost empty: { kept ≡ begun (grants_of kept) } by { Prim.hlevel (codes, history_code) },
     ghost home: { home_of inbox ≡ Some chronicle.chronicle },
 }
 
@@ -44,8 +49,8 @@ pub struct ActorThread<S: Shut> {
 pub struct Acted<S: Shut> {
     /// The chronicle of the realm's history.
     pub chronicle: RealmChronicle,
-    /// The actor, as it ended; none where there was no memory for the realm.
-    pub actor: Option<Snapshot<Actor<S, IdWords>>>,
+    /// The actor, as it ended.
+    pub actor: Snapshot<Actor<S, IdWords>>,
     /// The inbox, from which nothing is received any more.
     pub inbox: Inbox<S>,
 }
@@ -62,8 +67,7 @@ impl<R: Wait + Clock + CpuClock + Copy, S: Shut + Send + 'static> Work<R> for Ac
     ghost use Rattle.broker_threads.specs.Acts.{Acts};
 
     /// Makes the actor, which runs until it is stopped, marks whose sessions it holds then, hands their outboxes over to their writers, and
-    /// tells that they are marked. What is posted behind the stop is turned away until the next stop. Where there was no memory for the
-    /// realm nothing is received.
+    /// tells that they are marked. What is posted behind the stop is turned away until the next stop.
     fn run(self, rt: R) -> Acted<S>
         ensures { Acts self result }
     {
@@ -71,22 +75,13 @@ impl<R: Wait + Clock + CpuClock + Copy, S: Shut + Send + 'static> Work<R> for Ac
             alloc,
             plan,
             realm,
-            config,
+            kept,
             words,
             chronicle,
             mut inbox,
             teller,
             marks,
         } = self;
-        let Ok(kept) = Realm::new(alloc, config) else {
-            let _ = teller.send(&rt, false);
-            return Acted {
-                chronicle,
-                actor: None,
-                inbox,
-            };
-        };
-        let _ = teller.send(&rt, true);
         let actor = Actor::of_realm(alloc, chronicle, kept, words);
         let mut onlooker = Notices {
             rt,
@@ -100,11 +95,11 @@ impl<R: Wait + Clock + CpuClock + Copy, S: Shut + Send + 'static> Work<R> for Ac
         let ended = Snapshot::of(&actor);
         actor.sweep();
         let chronicle = actor.into_chronicle();
-        let _ = teller.send(&rt, true);
+        let _ = teller.send(&rt, ());
         turn_away_rest(&rt, &mut inbox);
         Acted {
             chronicle,
-            actor: Some(ended),
+            actor: ended,
             inbox,
         }
     }

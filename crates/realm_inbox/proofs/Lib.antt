@@ -1,5 +1,6 @@
 pub mod RuleSteps
 pub mod StepEffects
+pub mod BesideSteps
 pub mod SeatCuts
 pub mod SeatLineSteps
 pub mod LinePlaces

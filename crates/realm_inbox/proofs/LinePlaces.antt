@@ -1,6 +1,6 @@
 -- The line of a place, as lines are put in and looked up.
-use Rattle.std.proofs.Common.{◌≡◌, ◌≢◌, ℕ, zero, suc, ◌+◌, ◌<◌, ◌≤◌, Bool, true, false, cond, eqb, eqb-true, List, [], ◌∷◌, ◌++◌, length, set, get_or, refl, sym, ap, ◌∙◌, subst, append_assoc, arith}
-use Rattle.std.specs.Prelude.{Option, Some, None, MatchOption, option_to_list}
+use Rattle.std.proofs.Common.{◌≡◌, ◌≢◌, ℕ, zero, suc, ◌+◌, ◌<◌, ◌≤◌, Bool, true, false, cond, eqb, eq-eqb, eqb-true, List, [], ◌∷◌, ◌++◌, length, length-append, set, get_or, refl, sym, ap, ◌∙◌, subst, append_assoc, arith}
+use Rattle.std.specs.Prelude.{Option, Some, None, IfNone, MatchOption, option_to_list}
 use Rattle.std.proofs.lemmas.Bool.{eqb-false}
 use Rattle.std.proofs.lemmas.List.{append-nil, nil_from_length}
 use Rattle.realm_inbox.specs.declared.letter.Post.{Post}
@@ -11,6 +11,11 @@ use Rattle.realm_inbox.specs.SeatLines.{place_of_post, own_part, first_part, lin
 pub popped : {A : Type 0} (r : Option A) (old new : List A) (a b : ℕ) → old ≡ option_to_list r ++ new → MatchOption r ((a ≡ 0) × (b ≡ 0)) (λ x. b + 1 ≡ a) → b ≡ length new → MatchOption r ((old ≡ []) × (new ≡ [])) (λ p. old ≡ p ∷ new)
 popped None old new a b is few count = let none : new ≡ [] = nil_from_length new (sym count ∙ few.1) in (is ∙ none, none)
 popped (Some p) old new a b is few count = is
+
+-- what holds anyhow holds where nothing was found
+pub anyhow : {A B : Type 0} (r : Option A) → B → IfNone r B
+anyhow None b = b
+anyhow (Some a) b = tt
 
 module _ {S : Type 0} where
   pub line_is : (ls : List (SeatLine S)) (i : ℕ) (d : SeatLine S) → i < length ls → line_at ls i ≡ (get_or ls i d).posts.items
@@ -117,3 +122,13 @@ module _ {S : Type 0} where
   -- nobody waits at a place where nobody does in its line, and nothing stands aside
   pub free : (ls : List (SeatLine S)) (a : Option (Post S)) (k : ℕ) → a ≡ None → line_at ls k ≡ [] → waiting_in ls a k ≡ []
   free ls a k none line = ap (λ l. l ++ aside_at k a) line ∙ ap (λ x. aside_at k x) none
+
+  own_here : (k : ℕ) (p : Post S) → place_of_post p ≡ k → own_part k p ≡ p ∷ []
+  own_here k p e = ap (λ b. cond b (p ∷ []) []) (eq-eqb (place_of_post p) k e)
+
+  -- somebody waits where a post was added
+  pub not_free : {B : Type 0} (line : List (Post S)) (k : ℕ) (p : Post S) → place_of_post p ≡ k → line ++ own_part k p ≡ [] → B
+  not_free line k p here none = absurd (omega (arith, ap length none, length-append line (own_part k p), ap length (own_here k p here)))
+
+  pub not_free_aside : {B : Type 0} (ls : List (SeatLine S)) (a : Option (Post S)) (k : ℕ) (p : Post S) → a ≡ Some p → place_of_post p ≡ k → waiting_in ls a k ≡ [] → B
+  not_free_aside ls a k p is here none = not_free (line_at ls k) k p here (ap (λ x. line_at ls k ++ aside_at k x) (sym is) ∙ none)

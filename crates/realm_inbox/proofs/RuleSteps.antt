@@ -17,7 +17,7 @@ use Rattle.realm_inbox.specs.declared.letter.Post.TheVariants.{Act, Stop}
 use Rattle.realm_inbox.specs.declared.rule.InboxView.{InboxView}
 use Rattle.realm_inbox.specs.declared.rule.InboxView.TheVariants.{Reader, Seat, Door, Both, Nobody}
 use Rattle.realm_inbox.specs.Seats.{before, said, adds_at, at_seat, adds_stops, stops_of, IsNext, InOrder, BringsHome, IsHomed, EachHomed}
-use Rattle.realm_inbox.specs.InTurn.{fresh, new_door, after_post, after_stop, nobody, Agrees, Receipt, dealt, Fits, Keeps}
+use Rattle.realm_inbox.specs.InTurn.{fresh, new_door, after_post, after_stop, nobody, Agrees, AgreesWith, Receipt, dealt, Fits, Keeps}
 
 module _ {A : Type 0} where
   -- a fact of each place of a list and of what stands there
@@ -337,3 +337,34 @@ module _ {S : Type 0} where
   learns_both b pass n r c k posted items views h at =
       let mine = h.each_view pass (Both b n r c k posted) at in
       (at_seat k items, ap (λ t. at_seat k t ++ at_seat k items) mine.0.2 ∙ sym (at_seat_append k h.got items) ∙ sym mine.3)
+
+  -- where the channel is known, both know what waits of the seat
+  pub learns_rest : (b : Option TableId) (pass n : ℕ) (r : List (Post S)) (c : Option TableId) (k : ℕ) (posted : List (ℕ × the.Act S)) → Learns Keeps pass (Both b n r c k posted) (λ items. AgreesWith (Both b n r c k posted) items)
+  learns_rest b pass n r c k posted items views h at =
+      let mine = h.each_view pass (Both b n r c k posted) at in
+      mine.3 ∙ at_seat_append k h.got items ∙ ap (λ t. at_seat k t ++ at_seat k items) (sym mine.0.2)
+
+  -- the reader receives, with a seat's view beside its own
+  pub receives_both : (b : Option TableId) (pass n : ℕ) (r : List (Post S)) (c : Option TableId) (k : ℕ) (posted : List (ℕ × the.Act S)) → Pops Keeps pass (Both b n r c k posted) (λ x w. Receipt (Both b n r c k posted) x w)
+  receives_both b pass n r c k posted x items views h at =
+      let mine = h.each_view pass (Both b n r c k posted) at in
+      let w : InboxView S = Both b n (r ++ x ∷ []) c k posted in
+      let got' : List (Post S) = h.got ++ x ∷ [] in
+      let is : got' ++ items ≡ h.got ++ (x ∷ items) = append_assoc h.got (x ∷ []) items in
+      let F = Fits (dealt h.home h.got (h.got ++ (x ∷ items)) h.owner h.reader h.next) in let G = Fits (dealt h.home got' (got' ++ items) h.owner h.reader h.next) in (
+        w,
+        record {
+          home = h.home;
+          got = got';
+          owner = h.owner;
+          reader = h.reader;
+          next = h.next;
+          each_view = changed F G views pass w h.each_view ((mine.0.0, mine.0.1, ap (λ t. t ++ x ∷ []) mine.0.2, mine.0.3), mine.1, mine.2, mine.3 ∙ ap (λ t. at_seat k t) (sym is), mine.4)
+              (λ j u other f. fits_got h.home h.got got' (h.got ++ (x ∷ items)) (got' ++ items) h.owner h.reader h.next j u (λ e. other (e ∙ sym mine.0.0)) is f);
+          no_post = λ i le. ap (λ t. at_seat i t) is ∙ h.no_post i le;
+          no_stop = λ e. ap (λ t. stops_of t) is ∙ h.no_stop e;
+          in_order = h.in_order.1;
+          homed = h.homed.1;
+        },
+        (refl, subst (λ t. IsNext t x) (sym mine.0.2) h.in_order.0, subst (λ i. IsHomed i x) (sym mine.0.3) h.homed.0),
+      )

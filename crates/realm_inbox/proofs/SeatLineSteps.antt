@@ -1,10 +1,9 @@
 -- Posts come into their lines, and are given out of them.
-use Rattle.std.proofs.Common.{◌≡◌, ◌≢◌, ℕ, zero, suc, ◌+◌, Bool, true, false, true≢false, cond, eqb, eq-eqb, eqb-true, List, [], ◌∷◌, ◌++◌, length, drop, refl, sym, ap, ◌∙◌, subst, append_assoc}
+use Rattle.std.proofs.Common.{◌≡◌, ℕ, Bool, true, false, cond, eqb, eq-eqb, eqb-true, List, [], ◌∷◌, ◌++◌, length, drop, refl, sym, ap, ◌∙◌, subst, append_assoc}
 use Rattle.std.proofs.lemmas.List.{append-nil}
 use Rattle.std.specs.Prelude.{Option}
 use Rattle.atomic_table.specs.Seated.{TableId, table_id_coded}
 use denote.RattleType.{RattleType}
-use Rattle.wamp_ids.specs.Numbers.{seat_of}
 use Rattle.std.specs.Coded.{Coded-set, coded_list, coded×, coded_ℕ, coded_option}
 use Rattle.std.proofs.Math.Logic.{∥∥₁_elim}
 use Rattle.std.proofs.Math.Seq.{drop-append_seam}
@@ -122,7 +121,7 @@ module _ {S : Type 0} where
     dealt_out given' at at' place p is d shorter = given_out given' place p is (first_own at at' place p d shorter) at at' d shorter
 
   -- a post whose line is empty passes through it
-  through : (at : ℕ → List (Post S)) (p : Post S) → at (place_of_post p) ≡ [] → (k : ℕ) → at k ++ own_part k p ≡ first_part (place_of_post p) k p ++ at k
+  pub through : (at : ℕ → List (Post S)) (p : Post S) → at (place_of_post p) ≡ [] → (k : ℕ) → at k ++ own_part k p ≡ first_part (place_of_post p) k p ++ at k
   through at p none k = by (eqb (place_of_post p) k) refl
     where
       by : (b : Bool) → eqb (place_of_post p) k ≡ b → at k ++ cond b (p ∷ []) [] ≡ cond b (p ∷ []) [] ++ at k
@@ -141,6 +140,24 @@ module _ {S : Type 0} where
   next_through home taken taken' given at p more next homed none d =
       let at' : ℕ → List (Post S) = λ k. at k ++ own_part k p in
       first_next home taken' given at' at (place_of_post p) p (taken_in home taken given taken' p more next homed at at' d (λ k. refl)) (through at p none)
+
+  -- a post is put behind its line, and the first of that place is given
+  module _ (home : Option TableId) (taken taken' given : List (Post S)) (at at' : ℕ → List (Post S)) (place : ℕ) (p first : Post S) (more : taken' ≡ taken ++ p ∷ []) (next : IsNext taken p) (homed : IsHomed home p)
+      (moved : (k : ℕ) → at k ++ own_part k p ≡ first_part place k first ++ at' k) (d : IsDealt home taken given at) where
+    abbrev longer : ℕ → List (Post S)
+    longer k = at k ++ own_part k p
+
+    put_behind : IsDealt home taken' given longer
+    put_behind = taken_in home taken given taken' p more next homed at longer d (λ k. refl)
+
+    pub exchanged : (given' : List (Post S)) → given' ≡ given ++ first ∷ [] → IsDealt home taken' given' at'
+    exchanged given' is = dealt_out home taken' given given' longer at' place first is put_behind moved
+
+    pub next_exchanged : IsNext given first
+    next_exchanged = first_next home taken' given longer at' place first put_behind moved
+
+    pub homed_exchanged : IsHomed home first
+    homed_exchanged = first_homed home taken' given longer at' place first put_behind moved
 
 module _ (S : RattleType) where
   acts_set : IsSet (List (ℕ × the.Act S.Denot))
@@ -167,6 +184,18 @@ module _ (S : RattleType) where
 
     pub told_through : (taken' : List (Post S.Denot)) (at : ℕ → List (Post S.Denot)) (p : Post S.Denot) → taken' ≡ taken ++ p ∷ [] → IsNext taken p → IsHomed home p → at (place_of_post p) ≡ [] → ∥ IsDealt home taken given at ∥₁ → IsNext given p
     told_through taken' at p more next homed none d = ∥∥₁_elim d (next_prop given p) (next_through home taken taken' given at p more next homed none)
+
+    module _ (taken' : List (Post S.Denot)) (at at' : ℕ → List (Post S.Denot)) (place : ℕ) (p first : Post S.Denot) (more : taken' ≡ taken ++ p ∷ []) (next : IsNext taken p) (homed : IsHomed home p)
+        (moved : (k : ℕ) → at k ++ own_part k p ≡ first_part place k first ++ at' k) (d : ∥ IsDealt home taken given at ∥₁) where
+      pub told_next_exchanged : IsNext given first
+      told_next_exchanged = ∥∥₁_elim d (next_prop given first) (next_exchanged home taken taken' given at at' place p first more next homed moved)
+
+      pub told_homed_exchanged : IsHomed home first
+      told_homed_exchanged = ∥∥₁_elim d (homed_prop home first) (homed_exchanged home taken taken' given at at' place p first more next homed moved)
+
+    -- where nothing of a seat waits, all that was taken of it was given
+    pub all_given : (at : ℕ → List (Post S.Denot)) (k : ℕ) → ∥ IsDealt home taken given at ∥₁ → at k ≡ [] → at_seat k given ≡ at_seat k taken
+    all_given at k d none = ∥∥₁_elim d (acts_set _ _) (λ w. sym ((w k).sum ∙ ap (λ l. at_seat k given ++ at_seat k l) none ∙ append-nil (at_seat k given)))
 
     sum_told : (at : ℕ → List (Post S.Denot)) (k : ℕ) → ∥ IsDealt home taken given at ∥₁ → at_seat k taken ≡ at_seat k given ++ drop (length (at_seat k given)) (at_seat k taken)
     sum_told at k d = ∥∥₁_elim d (acts_set _ _) (λ w.

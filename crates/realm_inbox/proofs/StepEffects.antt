@@ -130,14 +130,14 @@ module _ {S : Type 0} where
 
 module _ {S : Type 0} where
   -- of the two views in one hand
-  any_reader : (v : InboxView S) → reads_any v ≡ true → (n : ℕ) × (v ≡ Reader (home_in v) n (received_in v))
+  pub any_reader : (v : InboxView S) → reads_any v ≡ true → (n : ℕ) × (v ≡ Reader (home_in v) n (received_in v))
   any_reader (Reader b n r) e = (n, refl)
   any_reader (Seat b k posted) e = is_not e
   any_reader (Door b n) e = is_not e
   any_reader (Both b n r c k posted) e = is_not e
   any_reader Nobody e = is_not e
 
-  any_seat : (v : InboxView S) → posts_any v ≡ true → v ≡ Seat (home_in v) (number_in v) (posted_in v)
+  pub any_seat : (v : InboxView S) → posts_any v ≡ true → v ≡ Seat (home_in v) (number_in v) (posted_in v)
   any_seat (Reader b n r) e = is_not e
   any_seat (Seat b k posted) e = refl
   any_seat (Door b n) e = is_not e
@@ -158,7 +158,7 @@ module _ {S : Type 0} where
   seat_lent : (w m : InboxView S) → posts_any w ≡ true → m ≡ seat_in w → m ≡ Seat (home_in w) (number_in w) (posted_in w)
   seat_lent w m posts is = is ∙ ap (λ u. seat_in u) (any_seat w posts)
 
-  both_are : (v w m b : InboxView S) (n : ℕ) → v ≡ Reader (home_in v) n (received_in v) → posts_any w ≡ true → m ≡ seat_in w → b ≡ beside v m → b ≡ Both (home_in v) n (received_in v) (home_in w) (number_in w) (posted_in w)
+  pub both_are : (v w m b : InboxView S) (n : ℕ) → v ≡ Reader (home_in v) n (received_in v) → posts_any w ≡ true → m ≡ seat_in w → b ≡ beside v m → b ≡ Both (home_in v) n (received_in v) (home_in w) (number_in w) (posted_in w)
   both_are v w m b n reads posts lent is = is ∙ (λ i. beside (reads i) (seat_lent w m posts lent i))
 
   pub lends_by : (pass : ℕ) (w : InboxView S) → posts_any w ≡ true → Forks Keeps pass w (without_seat w) (seat_in w)

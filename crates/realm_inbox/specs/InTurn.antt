@@ -108,12 +108,20 @@ module _ {S : Type 0} where
   Agrees (Both b n got c k posted) = IsPrefix (at_seat k got) posted
   Agrees Nobody = Unit {0}
 
+  -- what was posted at the seat is what was received of it, and then what these are there
+  abbrev pub AgreesWith : InboxView S → List (Post S) → Type 0
+  AgreesWith (Reader b n got) items = Unit {0}
+  AgreesWith (Seat b k posted) items = Unit {0}
+  AgreesWith (Door b n) items = Unit {0}
+  AgreesWith (Both b n got c k posted) items = posted ≡ at_seat k got ++ at_seat k items
+  AgreesWith Nobody items = Unit {0}
+
   -- what a receive tells: the post was received, and is the next of its seat
   abbrev pub Receipt : InboxView S → Post S → InboxView S → Type 0
   Receipt (Reader b n got) p w = (w ≡ Reader b n (got ++ p ∷ [])) × IsNext got p × IsHomed b p
   Receipt (Seat b k posted) p w = Unit {0}
   Receipt (Door b n) p w = Unit {0}
-  Receipt (Both b n got c k posted) p w = Unit {0}
+  Receipt (Both b n got c k posted) p w = (w ≡ Both b n (got ++ p ∷ []) c k posted) × IsNext got p × IsHomed b p
   Receipt Nobody p w = Unit {0}
 
   abbrev pub dealt : Option TableId → List (Post S) → List (Post S) → (ℕ → ℕ) → ℕ → ℕ → Deal S

@@ -8,3 +8,4 @@ pub mod Ends
 pub mod EndViews
 pub mod Laws
 pub mod Posted
+pub mod Unchanged

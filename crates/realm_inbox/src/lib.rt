@@ -6,7 +6,7 @@
 //! before it; and when it is received, that is exactly what had been received of the seat. So of each seat the inbox
 //! gives what was posted there, whole and in order, and [`laws`] says so of every moment. Nobody else makes a [`Post`].
 //! Who has an inbox and a poster of it in one hand learns by [`Inbox::compare`] that what was received of the seat
-//! begins what was posted there.
+//! begins what was posted there; and by [`Inbox::receive_beside`], once that finds nothing more, that it is all of it.
 //!
 //! ```
 //! // as in cases_inbox/src/room.rt
@@ -35,6 +35,7 @@
 mod act;
 mod backlog;
 mod bells;
+mod beside;
 mod door;
 mod ends;
 mod history;

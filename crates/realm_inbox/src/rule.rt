@@ -143,3 +143,18 @@ impl<S: Shut> Lesson<Post<S>, InboxView<S>> for Receives {
 
     ghost fact = { λ v items. ⊤ };
 }
+
+// A receive with a seat's pass lent to the reader's.
+pub(crate) struct ReceivesBeside;
+
+impl<S: Shut> Outcome<Post<S>, InboxView<S>> for ReceivesBeside {
+    ghost use Rattle.realm_inbox.specs.InTurn.{Receipt};
+
+    ghost then = { Receipt };
+}
+
+impl<S: Shut> Lesson<Post<S>, InboxView<S>> for ReceivesBeside {
+    ghost use Rattle.realm_inbox.specs.InTurn.{AgreesWith};
+
+    ghost fact = { AgreesWith };
+}

@@ -1,6 +1,6 @@
 //! Posts that were taken from the channel and aren't given yet, in a line for each seat.
-ghost use Rattle.std.specs.Prelude.{◌≡◌, ℕ, ◌++◌, ◌∷◌, [], None, Some, true, MatchOption, IfOk};
-ghost use Rattle.realm_inbox.specs.SeatLines.{first_part, line_at, own_part, place_of_post, waiting, waiting_in};
+ghost use Rattle.std.specs.Prelude.{◌≡◌, ℕ, ◌++◌, ◌∷◌, [], None, Some, true, MatchOption, IfNone, IfOk};
+ghost use Rattle.realm_inbox.specs.SeatLines.{aside_at, first_part, line_at, own_part, place_of_post, waiting, waiting_in};
 
 use crate::letter::Post;
 use crate::post_kind::{PostKind, kind_of};
@@ -80,6 +80,7 @@ impl<S: Shut> SeatLines<S> {
     pub(crate) fn pop(&mut self, place: u64) -> Option<Post<S>>
         ensures first { MatchOption result ((k : ℕ) → waiting self.new k ≡ waiting self.old k)
             (λ p. (k : ℕ) → waiting self.old k ≡ first_part place k p ++ waiting self.new k) }
+        ensures none { IfNone result (waiting self.old place ≡ []) }
         ensures aside { self.old.aside ≡ None → self.new.aside ≡ None }
     {
         let first = first_of(&mut self.lines, &mut self.aside, place);
@@ -87,6 +88,35 @@ impl<S: Shut> SeatLines<S> {
             self.count = self.count.wrapping_sub(1);
         }
         first
+    }
+
+    /// Adds a post at its place, and takes the first one from there: the post itself, where nobody waits.
+    pub(crate) fn exchange(&mut self, post: Post<S>) -> Post<S>
+        requires { self.old.aside ≡ None }
+        ensures { (k : ℕ) → waiting self.old k ++ own_part k post
+            ≡ first_part (place_of_post post) k result ++ waiting self.new k }
+    {
+        let place = place_of(&post);
+        if self.is_free(place) {
+            return post;
+        }
+        self.add(post);
+        match self.pop(place) {
+            Some(first) => first,
+            None => unreachable!(),
+        }
+    }
+
+    /// The place that has to be emptied before more may be added, where nobody is to wait at this one: that of the post that stands
+    /// aside, or this one.
+    pub(crate) fn place_to_empty(&self, place: u64) -> u64
+        ensures { waiting self.now result ≡ []
+            → (waiting self.now place ≡ []) × (self.now.aside ≡ None) }
+    {
+        match &self.aside {
+            Some(post) => place_of(post),
+            None => place,
+        }
     }
 
     /// The seat whose turn it is, if somebody waits: 0 where a stop alone does.
@@ -172,6 +202,7 @@ fn first_of<S: Shut>(
         ((k : ℕ) → waiting_in lines.new.items aside.new k ≡ waiting_in lines.old.items aside.old k)
         (λ p. (k : ℕ) → waiting_in lines.old.items aside.old k
         ≡ first_part place k p ++ waiting_in lines.new.items aside.new k) }
+    ensures none { IfNone result (waiting_in lines.old.items aside.old place ≡ []) }
     ensures aside { aside.old ≡ None → aside.new ≡ None }
 {
     if let Some(post) = out_of_line(lines, place) {
@@ -210,8 +241,9 @@ fn out_of_line<S: Shut>(lines: &mut Vec<SeatLine<S>>, place: u64) -> Option<Post
 
 // The post that stands aside, if it waits at this place.
 fn out_of<S: Shut>(aside: &mut Option<Post<S>>, place: u64) -> Option<Post<S>>
-    ensures { MatchOption result (aside.new ≡ aside.old)
+    ensures first { MatchOption result (aside.new ≡ aside.old)
         (λ p. (aside.old ≡ Some p) × (place_of_post p ≡ place) × (aside.new ≡ None)) }
+    ensures none { IfNone result (aside_at place aside.old ≡ []) }
 {
     match aside {
         Some(post) if place_of(post) == place => aside.take(),

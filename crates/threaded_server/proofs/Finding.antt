@@ -4,7 +4,8 @@ use mathlib.Core.Logic.{◌⊎◌, inl, inr}
 use Rattle.std.proofs.lemmas.Option.{none-some}
 use Rattle.std.specs.declared.snapshot.Snapshot.{Snapshot}
 use Rattle.threaded_server.proofs.Places.{get_last, get_more, get_push_cases}
-use Rattle.threaded_server.specs.Overs.{AllFound, Found, FoundNoSeat}
+use Rattle.threaded_server.specs.SeatRules.{FoundNoSeat}
+use Rattle.threaded_server.specs.Overs.{AllFound, Found}
 use Rattle.threaded_server.specs.declared.over.Over.{Over}
 use Rattle.threaded_server.specs.declared.over.Over.TheVariants.{Seated, TurnedAway, Untouched}
 use Rattle.broker_threads.specs.declared.reader_thread.Ended.{Ended}

@@ -9,6 +9,7 @@ pub mod Numbering
 pub mod Places
 pub mod PosterSteps
 pub mod PostSteps
+pub mod DrainSteps
 pub mod RealmSteps
 pub mod RosterSteps
 pub mod RunSteps

@@ -7,7 +7,8 @@ use Rattle.threaded_server.proofs.Places.{get_push_cases, get_set_cases, same_or
 use Rattle.std.proofs.lemmas.Grind.{flat_map-append}
 use Rattle.std.specs.declared.snapshot.Snapshot.{Snapshot}
 use Rattle.threaded_server.specs.Seats.{Table, Takes, free_at, given_back, number_at}
-use Rattle.threaded_server.specs.Conns.{AscendAtSeats, IsGiven, IsNew, IsNumbered, Numbered, conn_of, conns_of}
+use Rattle.threaded_server.specs.SeatRules.{AscendAtSeats}
+use Rattle.threaded_server.specs.Conns.{IsGiven, IsNew, IsNumbered, Numbered, conn_of, conns_of}
 use Rattle.threaded_server.specs.Posters.{AreOf}
 use Rattle.threaded_server.specs.declared.entry.Connection.{Connection}
 use Rattle.threaded_server.specs.declared.over.Over.{Over}

@@ -11,7 +11,7 @@ use Rattle.broker_threads.specs.declared.stream_fate.StreamFate.TheVariants as f
 use Rattle.rawsocket.specs.Handshakes.{refusing}
 use Rattle.threaded_server.proofs.Places.{map_get}
 use Rattle.threaded_server.specs.Histories.{Realm}
-use Rattle.threaded_server.specs.Overs.{TellsRefusal}
+use Rattle.threaded_server.specs.SeatRules.{TellsRefusal}
 use Rattle.threaded_server.specs.OwnStreams.{NamesAreOwn, StreamsAreOwn, StreamsGoOn}
 use Rattle.threaded_server.specs.Served.{IsFate, IsSession, LentStream, Served}
 use Rattle.threaded_server.specs.Sessions.{SaysSome}

@@ -1,6 +1,5 @@
 -- How the realms ran, and what their histories owe.
 use Rattle.std.proofs.Common.{◌≡◌, ◌<◌, ◌≤◌, ◌+◌, ℕ, zero, suc, List, [], ◌∷◌, ◌++◌, Option, None, Some, All, IfSome, length, option_map, remove, slice_get, slice_index_or, refl, sym, ap, ◌∙◌, append_assoc, append-nil, arith, subst}
-use Rattle.std.specs.Prelude.{⊤}
 use mathlib.Core.List.{IsPrefix}
 use mathlib.Core.Logic.{◌⊎◌, inl, inr}
 use Rattle.std.proofs.lemmas.List.Elements.{All-contains, All-cons, All-head, All-nil, All-pop, All-tail, All-weaker}
@@ -9,11 +8,10 @@ use Rattle.chronicle.specs.Recorded.{Reaches, Recorded}
 use Rattle.outbox_queue.proofs.OwedBeginnings.{prefix-on}
 use Rattle.outbox_queue.specs.Ends.{IsVouched, Last, Owes, Taking, TookFull, TookWhole, Vouches, came_with, newest, or_else}
 use Rattle.outbox_queue.specs.Tied.{Kept}
-use Rattle.realm.specs.Grants.{Grants, pairs_of}
-use Rattle.realm.specs.History.{History, Begins}
+use Rattle.realm.specs.Grants.{Grants}
+use Rattle.realm.specs.History.{History, Begins, begun}
 use Rattle.realm.specs.Sessions.{IsHistory}
 use Rattle.realm.specs.Yield.{owed}
-use Rattle.realm_actor.specs.ActorView.{Acting}
 use Rattle.realm_inbox.specs.HistoryBeginnings.{owed_more}
 use Rattle.realm_inbox.specs.EndViews.{inbox_of, posted, received}
 use Rattle.realm_inbox.specs.Ends.{Place}
@@ -25,11 +23,12 @@ use Rattle.std.specs.declared.snapshot.Snapshot.{Snapshot}
 use Rattle.broker_threads.proofs.Lemmas.{none_left}
 use Rattle.threaded_server.proofs.Places.{get_of_map, get_push_cases, get_seam, map_get}
 use Rattle.threaded_server.proofs.PosterSteps.{found_poster, found_stands}
-use Rattle.broker_threads.specs.Acts.{Acts, ActsBy}
-use Rattle.threaded_server.specs.Posters.{IsOfInbox, Stand, lists_at, poster_at}
-use Rattle.threaded_server.specs.Posts.{AllSay, AreIn, OnlyPosted, posts_at}
-use Rattle.threaded_server.specs.Realms.{AllWerePosted, EachRuns, RunsTo, Shown, inbox_in, places_of, shown}
-use Rattle.threaded_server.specs.Ties.{AreAllOwed, CourseKept, CourseTied, IsKept, IsKeptIn, IsRun, IsTied, OverKept, OverTied}
+use Rattle.threaded_server.proofs.DrainSteps.{traced, traced_home, traced_posted}
+use Rattle.broker_threads.specs.Acts.{Acts}
+use Rattle.threaded_server.specs.Posters.{IsOfInbox, Stand, lists_at, poster_at, trace_at}
+use Rattle.threaded_server.specs.Posts.{AllSay, AreIn, ReceivedPosted, posts_at}
+use Rattle.threaded_server.specs.Realms.{AllReceived, EachRuns, GivesBack, RunsTo, Shown, inbox_in, places_of, shown}
+use Rattle.threaded_server.specs.Ties.{CourseKept, CourseTied, IsKept, IsKeptIn, IsRun, IsTied, OverKept, OverTied, history_of}
 use Rattle.broker_threads.specs.Writes.{over_kept, owed_kept}
 use Rattle.broker_threads.specs.declared.actor_thread.Acted.{Acted}
 use Rattle.broker_threads.specs.declared.actor_thread.ActorThread.{ActorThread}
@@ -80,26 +79,27 @@ module _ {S : Type 0} where
   next_at all rest realm runs h = ap (λ l. slice_get l (length runs)) h.all_are ∙ ap (slice_get (h.done ++ realm ∷ rest)) (sym (ran_long h.done runs h.each)) ∙ get_seam h.done realm rest
 
   -- what the next one received is compared with the posters of its inbox
-  pub next_stands : (all rest : List (Shown S)) (realm : Shown S) (runs : List (RealmRun S)) (run : RealmRun S) (inbox : Inbox S) (place : ℕ) (before now : List (Option (List (Option (Poster S))))) → RunSoFar all (realm ∷ rest) runs → length runs ≡ place → RunsTo realm run → inbox ≡ run.ended.value.inbox
-      → Stand (places_of all) before → ((k : ℕ) → poster_at now k place ≡ poster_at before k place) → (k : ℕ) (p : Poster S) → poster_at now k place ≡ Some p → IsOfInbox (inbox_of inbox) (k + 1) p
-  next_stands all rest realm runs run inbox place before now h long ran is stand same k p e =
+  pub next_stands : (all rest : List (Shown S)) (realm : Shown S) (runs : List (RealmRun S)) (began : ActorThread S) (acted : Acted S) (place : ℕ) (before now : List (Option (List (Option (Poster S))))) → RunSoFar all (realm ∷ rest) runs → length runs ≡ place → GivesBack realm began acted
+      → Stand (places_of all) before → ((k : ℕ) → trace_at now k place ≡ trace_at before k place) → (k : ℕ) (p : Poster S) → poster_at now k place ≡ Some p → IsOfInbox (inbox_of acted.inbox) (k + 1) p
+  next_stands all rest realm runs began acted place before now h long back stand same k p e =
       let here = map_get inbox_in all place realm (ap (slice_get all) (sym long) ∙ next_at all rest realm runs h) in
-      let own : inbox_in realm ≡ inbox_of inbox = ap (λ (w : ActorThread S). inbox_of w.inbox) (sym ran.began) ∙ sym ran.acts.inbox ∙ ap inbox_of (sym is) in
-      subst (λ (i : Place S). IsOfInbox i (k + 1) p) own (found_stands (places_of all) before k place (inbox_in realm) p here stand (sym (same k) ∙ e))
+      let own : inbox_in realm ≡ inbox_of acted.inbox = ap (λ (w : ActorThread S). inbox_of w.inbox) (sym back.given) ∙ sym back.acts.inbox in
+      let was = traced (poster_at before k place) (poster_at now k place) p (same k) e in
+      subst (λ (i : Place S). IsOfInbox i (k + 1) p) own (traced_home (inbox_in realm) (k + 1) was.0 p was.2 (found_stands (places_of all) before k place (inbox_in realm) was.0 here stand was.1))
 
-  -- and was posted by them
-  pub posted_on : (runs now : List (RealmRun S)) (run : RealmRun S) (inbox : Inbox S) (place : ℕ) (slots left : List (Option (List (Option (Poster S))))) → now ≡ runs ++ run ∷ [] → length runs ≡ place → inbox ≡ run.ended.value.inbox → ((k : ℕ) → poster_at left k place ≡ poster_at slots k place)
-      → ((k : ℕ) (p : Poster S) → k < 256 → poster_at left k place ≡ Some p → IsPrefix (at_seat (k + 1) (received inbox)) (posted p)) → AllWerePosted runs slots → AllWerePosted now slots
-  posted_on runs now run inbox place slots left e long is same compared all realm k other p at less there = by_place (get_push_cases runs run other realm (ap (λ l. slice_get l realm) (sym e) ∙ at))
+  -- and is what was posted by them
+  pub posted_on : (runs now : List (RealmRun S)) (run : RealmRun S) (place : ℕ) (slots left : List (Option (List (Option (Poster S))))) → now ≡ runs ++ run ∷ [] → length runs ≡ place → ((k : ℕ) → trace_at left k place ≡ trace_at slots k place)
+      → ((k : ℕ) (p : Poster S) → k < 256 → poster_at left k place ≡ Some p → at_seat (k + 1) (received run.inbox.value) ≡ posted p) → AllReceived runs slots → AllReceived now slots
+  posted_on runs now run place slots left e long same drained all realm k other p at less there = by_place (get_push_cases runs run other realm (ap (λ l. slice_get l realm) (sym e) ∙ at))
     where
-      by_place : ((realm ≡ length runs) × (run ≡ other)) ⊎ (slice_get runs realm ≡ Some other) → IsPrefix (at_seat (k + 1) (received other.ended.value.inbox)) (posted p)
+      by_place : ((realm ≡ length runs) × (run ≡ other)) ⊎ (slice_get runs realm ≡ Some other) → at_seat (k + 1) (received other.inbox.value) ≡ posted p
       by_place (inl w) =
           let here : realm ≡ place = w.0 ∙ long in
-          subst (λ (r : RealmRun S). IsPrefix (at_seat (k + 1) (received r.ended.value.inbox)) (posted p)) w.1
-          (subst (λ (i : Inbox S). IsPrefix (at_seat (k + 1) (received i)) (posted p)) is (compared k p less (same k ∙ ap (poster_at slots k) (sym here) ∙ there)))
+          let now = traced (poster_at left k place) (poster_at slots k place) p (sym (same k)) (ap (poster_at slots k) (sym here) ∙ there) in
+          ap (λ (r : RealmRun S). at_seat (k + 1) (received r.inbox.value)) (sym w.1) ∙ drained k now.0 less now.1 ∙ traced_posted now.0 p now.2
       by_place (inr w) = all realm k other p w less there
 
-  pub posted_none : (slots : List (Option (List (Option (Poster S))))) (runs : List (RealmRun S)) → runs ≡ [] → AllWerePosted runs slots
+  pub posted_none : (slots : List (Option (List (Option (Poster S))))) (runs : List (RealmRun S)) → runs ≡ [] → AllReceived runs slots
   posted_none slots runs e realm k run p at less there = absurd (none-some run (ap (λ l. slice_get l realm) (sym e) ∙ at))
 
   ran_at : (realms : List (Shown S)) (runs : List (RealmRun S)) (i : ℕ) (realm : Shown S) → EachRuns realms runs → slice_get realms i ≡ Some realm → (run : RealmRun S) × (slice_get runs i ≡ Some run) × RunsTo realm run
@@ -108,13 +108,14 @@ module _ {S : Type 0} where
   ran_at (first ∷ realms) (run ∷ runs) zero realm each at = (run, refl, subst (λ (r : Shown S). RunsTo r run) (same_Some first realm at) each.0)
   ran_at (first ∷ realms) (run ∷ runs) (suc i) realm each at = ran_at realms runs i realm each.1 at
 
-  pub all_ran : (grants : Grants) (realms : List (Shown S)) (runs : List (RealmRun S)) → EachRuns realms runs → All (λ r. pairs_of r.work.config.grants.items ≡ grants) realms → All (λ run. IsRun grants run) runs
+  pub all_ran : (grants : Grants) (realms : List (Shown S)) (runs : List (RealmRun S)) → EachRuns realms runs → All (λ r. r.work.kept ≡ begun grants) realms → All (λ run. IsRun grants run) runs
   all_ran grants [] [] each h = All-nil (λ run. IsRun grants run)
   all_ran grants [] (run ∷ runs) each h = absurd each
   all_ran grants (realm ∷ realms) [] each h = absurd each
   all_ran grants (realm ∷ realms) (run ∷ runs) each h =
-      let P = λ (r : Shown S). pairs_of r.work.config.grants.items ≡ grants in
-      All-cons (λ x. IsRun grants x) run runs (record { grants_are = ap (λ w. pairs_of w.config.grants.items) each.0.began ∙ All-head P realm realms h; acts = each.0.acts }) (all_ran grants realms runs each.1 (All-tail P realm realms h))
+      let P = λ (r : Shown S). r.work.kept ≡ begun grants in
+      let back = each.0.back in
+      All-cons (λ x. IsRun grants x) run runs (record { begins = ap (λ (w : ActorThread S). w.kept) back.given ∙ All-head P realm realms h; acts = back.acts; more = each.0.more }) (all_ran grants realms runs each.1 (All-tail P realm realms h))
 
 -- of what was seen, what isn't left begins the history
 pub record SeenSoFar (own : Option History) (all rest : List (Kept History)) : Type 0 where
@@ -159,51 +160,44 @@ first_of (y ∷ ys) x h e = ap (λ z. z ∷ ys) (sym e)
 
 module _ {S : Type 0} where
   -- a realm's actor's thread ended, and what was seen of its history was checked
-  pub ran_to : (handle : RealmHandle S) (promised : ActorThread S) (acted : Acted S) (chronicle : Recorded History) (left : Snapshot (Acted S)) → promised ≡ handle.began.value → Acts promised acted → chronicle ≡ acted.chronicle
-      → left.value ≡ record acted { chronicle = chronicle } → All (λ kept. Reaches Begins (Some kept.history) acted.chronicle.history) handle.seen.items → RunsTo (shown handle) (record { began = handle.began; ended = left })
-  ran_to handle promised acted chronicle left same acts kept e begins =
-      let is : left.value ≡ acted = e ∙ ap (λ (c : Recorded History). record acted { chronicle = c }) kept in
+  pub gave_back : (handle : RealmHandle S) (promised : ActorThread S) (acted : Acted S) (chronicle : Recorded History) (left : Acted S) → promised ≡ handle.began.value → Acts promised acted → chronicle ≡ acted.chronicle
+      → left ≡ record acted { chronicle = chronicle } → All (λ kept. Reaches Begins (Some kept.history) acted.chronicle.history) handle.seen.items → GivesBack (shown handle) handle.began.value left
+  gave_back handle promised acted chronicle left same acts kept e begins =
+      let is : left ≡ acted = e ∙ ap (λ (c : Recorded History). record acted { chronicle = c }) kept in
       record {
-        began = refl;
-        acts = subst (λ (w : ActorThread S). Acts w left.value) same (subst (λ (a : Acted S). Acts promised a) (sym is) acts);
+        given = refl;
+        acts = subst (λ (w : ActorThread S). Acts w left) same (subst (λ (a : Acted S). Acts promised a) (sym is) acts);
         begins = subst (λ (a : Acted S). All (λ kept. Reaches Begins (Some kept.history) a.chronicle.history) handle.seen.items) (sym is) begins;
       }
 
+  -- and then its inbox was emptied
+  pub runs_to : (realm : Shown S) (began : Snapshot (ActorThread S)) (acted : Acted S) (ended : Snapshot (Acted S)) (inbox : Inbox S) (left : Snapshot (Inbox S)) → ended.value ≡ acted → left.value ≡ inbox → GivesBack realm began.value acted → IsPrefix (received acted.inbox) (received inbox)
+      → RunsTo realm (record { began = began; ended = ended; inbox = left })
+  runs_to realm began acted ended inbox left is last back more = record {
+    back = subst (λ (a : Acted S). GivesBack realm began.value a) (sym is) back;
+    more = subst (λ (a : Acted S). IsPrefix (received a.inbox) (received left.value)) (sym is) (subst (λ (i : Inbox S). IsPrefix (received acted.inbox) (received i)) (sym last) more);
+  }
+
 -- what begins what a history owes begins what a longer one owes
-owed_by : (o : Option (Kept History)) (own : Option History) (conn : ℕ) (xs : List Item) → IfSome o (λ kept. Reaches Begins (Some kept.history) own) → Owes owed_kept o conn xs → Owes owed own conn xs
-owed_by None None conn xs r e = e
-owed_by None (Some h) conn xs r e = (owed h conn, ap (λ l. l ++ owed h conn) e)
-owed_by (Some kept) None conn xs r p = absurd r
-owed_by (Some kept) (Some h) conn xs r p = prefix-on xs (owed kept.history conn) (owed h conn) p (owed_more kept.history h conn r)
+owed_by : (o : Option (Kept History)) (own : History) (conn : ℕ) (xs : List Item) → IfSome o (λ kept. Reaches Begins (Some kept.history) (Some own)) → Owes owed_kept o conn xs → IsPrefix xs (owed own conn)
+owed_by None own conn xs r e = (owed own conn, ap (λ l. l ++ owed own conn) e)
+owed_by (Some kept) own conn xs r p = prefix-on xs (owed kept.history conn) (owed own conn) p (owed_more kept.history own conn r)
 
 reached : (own : Option History) (all : List (Kept History)) (o : Option (Kept History)) → All (λ kept. Reaches Begins (Some kept.history) own) all → IsKeptIn all o → IfSome o (λ kept. Reaches Begins (Some kept.history) own)
 reached own all None h k = tt
 reached own all (Some kept) h k = All-contains (λ x. Reaches Begins (Some x.history) own) all kept h k
 
--- each entry may come after those before it
-abbrev IsLegal : Option History → Type 0
-IsLegal None = ⊤
-IsLegal (Some h) = IsHistory h
-
-legal_by : {S : Type 0} (w : ActorThread S) (done : Acted S) (actor : Option (Snapshot (Acting S))) → ActsBy w done actor → IsLegal done.chronicle.history
-legal_by w done None acts = subst (λ (o : Option History). IsLegal o) (sym acts.1) tt
-legal_by w done (Some actor) acts = subst (λ (o : Option History). IsLegal o) (sym acts.history) acts.legal
-
-legal_of : {S : Type 0} (w : ActorThread S) (done : Acted S) → Acts w done → IsLegal done.chronicle.history
-legal_of w done acts = legal_by w done done.actor acts.course
-
 -- what vouches for what was taken begins the history that was made, which owes nothing more
-vouched_by : (own : Option History) (kept : Kept History) (conn : ℕ) (items added : List Item) (finds : ℕ) → Reaches Begins (Some kept.history) own → IsLegal own → items ≡ added → Vouches owed_kept over_kept kept conn added finds
-    → finds ≡ 0 → AreAllOwed own conn items
-vouched_by None kept conn items added finds reaches legal all vouches never = absurd reaches
-vouched_by (Some h) kept conn items added finds reaches legal all vouches never = all ∙ vouches.whole never ∙ sym (vouches.over h reaches legal)
+vouched_by : (own : History) (kept : Kept History) (conn : ℕ) (items added : List Item) (finds : ℕ) → Reaches Begins (Some kept.history) (Some own) → IsHistory own → items ≡ added → Vouches owed_kept over_kept kept conn added finds → finds ≡ 0
+    → items ≡ owed own conn
+vouched_by own kept conn items added finds reaches legal all vouches never = all ∙ vouches.whole never ∙ sym (vouches.over own reaches legal)
 
-all_owed : (own : Option History) (all : List (Kept History)) (o : Option (Kept History)) (drain : Taking Item (Kept History)) → All (λ kept. Reaches Begins (Some kept.history) own) all → IsKeptIn all o → o ≡ newest drain → IsLegal own
-    → TookWhole owed_kept over_kept drain → AreAllOwed own drain.conn drain.taken
+all_owed : (own : History) (all : List (Kept History)) (o : Option (Kept History)) (drain : Taking Item (Kept History)) → All (λ kept. Reaches Begins (Some kept.history) (Some own)) all → IsKeptIn all o → o ≡ newest drain → IsHistory own
+    → TookWhole owed_kept over_kept drain → drain.taken ≡ owed own drain.conn
 all_owed own all o drain begins kept is legal took =
     let last = took.all.last in
     let came : newest drain ≡ Some took.history = ap (λ (l : Option (Last Item (Kept History))). or_else (came_with l) drain.seen) took.all.came ∙ ap (λ (h : Option (Kept History)). or_else h drain.seen) took.brought in
-    let reaches : Reaches Begins (Some took.history.history) own = subst (λ (x : Option (Kept History)). IfSome x (λ k. Reaches Begins (Some k.history) own)) (is ∙ came) (reached own all o begins kept) in
+    let reaches : Reaches Begins (Some took.history.history) (Some own) = subst (λ (x : Option (Kept History)). IfSome x (λ k. Reaches Begins (Some k.history) (Some own))) (is ∙ came) (reached (Some own) all o begins kept) in
     let vouches : Vouches owed_kept over_kept took.history drain.conn last.added last.full_finds = subst (λ (h : Option (Kept History)). IsVouched owed_kept over_kept h drain.conn last.added last.full_finds) took.brought took.all.vouched in
     vouched_by own took.history drain.conn drain.taken last.added last.full_finds reaches legal took.all.all vouches took.never
 
@@ -215,16 +209,18 @@ module _ {O S : Type 0} where
   tied : (realms : List (Shown S)) (runs : List (RealmRun S)) (conn : ℕ) (posters : List (Option (Poster S))) (written : Written O) → EachRuns realms runs → IsKept realms conn posters written → IsTied runs conn posters written
   tied realms runs conn posters written each k =
       let r = ran_at realms runs written.realm k.realm each k.at in
-      let own = r.0.ended.value.chronicle.history in
+      let back = r.2.back in
+      let own = history_of r.0 in
+      let begins : All (λ (kept : Kept History). Reaches Begins (Some kept.history) (Some own)) k.realm.seen = subst (λ (o : Option History). All (λ (kept : Kept History). Reaches Begins (Some kept.history) o) k.realm.seen) back.acts.history back.begins in
       record {
         run = r.0;
         at = r.1;
         poster = k.poster;
         posts = k.posts;
-        inbox = k.inbox ∙ ap (λ w. inbox_of w.inbox) (sym r.2.began);
+        inbox = k.inbox ∙ ap (λ w. inbox_of w.inbox) (sym back.given);
         own = k.own;
-        owes = owed_by written.seen own written.drain.value.conn written.drain.value.taken (reached own k.realm.seen written.seen r.2.begins k.kept) k.owes;
-        whole = λ stopped. all_owed own k.realm.seen written.seen written.drain.value r.2.begins k.kept k.newest_is (legal_of r.0.began.value r.0.ended.value r.2.acts) (k.whole stopped);
+        owes = owed_by written.seen own written.drain.value.conn written.drain.value.taken (reached (Some own) k.realm.seen written.seen begins k.kept) k.owes;
+        whole = λ stopped. all_owed own k.realm.seen written.seen written.drain.value begins k.kept k.newest_is back.acts.legal (k.whole stopped);
         full = λ found. room_taken written.drain.value (k.full found);
       }
 
@@ -244,15 +240,15 @@ module _ {I O S : Type 0} where
   all_tied realms runs overs each all = All-weaker (λ o. OverKept realms o) (λ o. OverTied runs o) (λ o. over_tied realms runs o each) overs all
 
   -- at the end all posters are free, and say what the streams posted
-  pub only_posted : (whole : ℕ) (realms : List (Shown S)) (runs : List (RealmRun S)) (slots taken : List (Option (List (Option (Poster S))))) (overs : List (Over I O S)) → EachRuns realms runs → AllWerePosted runs slots → ((k : ℕ) (posters : List (Option (Poster S))) → slice_get taken k ≡ Some (Some posters) → ⊥)
-      → AllSay posted whole (length realms) (λ realm number. posts_at realm number overs) slots taken → OnlyPosted runs overs
-  only_posted whole realms runs slots taken overs each all none say realm k run at less = by_table (say k less)
+  pub received_posted : (whole : ℕ) (realms : List (Shown S)) (runs : List (RealmRun S)) (slots taken : List (Option (List (Option (Poster S))))) (overs : List (Over I O S)) → EachRuns realms runs → AllReceived runs slots → ((k : ℕ) (posters : List (Option (Poster S))) → slice_get taken k ≡ Some (Some posters) → ⊥)
+      → AllSay posted whole (length realms) (λ realm number. posts_at realm number overs) slots taken → ReceivedPosted runs overs
+  received_posted whole realms runs slots taken overs each all none say realm k run at less = by_table (say k less)
     where
-      by_table : AreIn posted whole (length realms) k (λ realm number. posts_at realm number overs) slots taken ⊎ AreIn posted whole (length realms) k (λ realm number. posts_at realm number overs) taken slots → IsPrefix (at_seat (k + 1) (received run.ended.value.inbox)) (posts_at realm (k + 1) overs)
+      by_table : AreIn posted whole (length realms) k (λ realm number. posts_at realm number overs) slots taken ⊎ AreIn posted whole (length realms) k (λ realm number. posts_at realm number overs) taken slots → at_seat (k + 1) (received run.inbox.value) ≡ posts_at realm (k + 1) overs
       by_table (inr a) = absurd (none k a.posters a.at)
       by_table (inl a) =
           let p = a.say.each realm (subst (λ (n : ℕ). realm < n) (sym (ran_long realms runs each)) (slice_get_within runs realm run at)) in
-          subst (λ l. IsPrefix (at_seat (k + 1) (received run.ended.value.inbox)) l) p.2 (all realm k run p.0 at less (found_poster slots k realm a.posters p.0 a.at p.1))
+          all realm k run p.0 at less (found_poster slots k realm a.posters p.0 a.at p.1) ∙ p.2
 
   -- nobody is at a place where nobody is anywhere
   pub nobody_there : (entries : List (Option (Connection I O S))) → All (λ slot. slot ≡ None) entries → (k : ℕ) (posters : List (Option (Poster S))) → slice_get (lists_at entries) k ≡ Some (Some posters) → ⊥

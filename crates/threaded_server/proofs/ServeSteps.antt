@@ -10,10 +10,11 @@ use Rattle.threaded_server.proofs.KeptNames.{over_keeps_names}
 use Rattle.threaded_server.proofs.Moving.{moves_on}
 use Rattle.threaded_server.proofs.ServedStreams.{told}
 use Rattle.threaded_server.specs.Answers.{EndsBy, came_in}
-use Rattle.threaded_server.specs.Conns.{AscendAtSeats, conns_of}
+use Rattle.threaded_server.specs.SeatRules.{AscendAtSeats}
+use Rattle.threaded_server.specs.Conns.{conns_of}
 use Rattle.threaded_server.specs.Lending.{Lending}
 use Rattle.threaded_server.specs.Overs.{AllWent, Books, Moves, Went, after_of, before_of}
-use Rattle.threaded_server.specs.Posts.{OnlyPosted}
+use Rattle.threaded_server.specs.Posts.{ReceivedPosted}
 use Rattle.threaded_server.specs.Served.{Served}
 use Rattle.threaded_server.specs.body.Served.{LentUntil, ServedInParts}
 use Rattle.broker_threads.specs.Streams.{KeepsNames, Offer, Sight}
@@ -49,8 +50,8 @@ module _ {I O S : Type 0} where
   -- serving is over, and each stream is
   pub served : (see : Sight I O) (shown offer : Offer) (had_grants grants : Grants) (runs : List (RealmRun S)) (before now closed : List Answer) (was lending returned : Lending I O) (had has left : Books I O S) (result : Result Unit Fault) → had.lent ≡ [] → had.over ≡ []
       → LentUntil before now was lending had has result → closed ≡ now → Moves 0 lending returned has left → shown ≡ offer → had_grants ≡ grants → ∥ AllWent see shown left.lent left.over ∥₁
-      → All (λ run. IsRun had_grants run) runs → (result ≢ Err NoMemory → length runs ≡ length offer.names) → AscendAtSeats (conns_of left.over) → ∥ OnlyPosted runs left.over ∥₁ → ∥ All (λ over. OverTied runs over) left.over ∥₁ → ∥ Served S see offer grants before closed was returned ∥₁
-  served see shown offer had_grants grants runs before now closed was lending returned had has left result none nobody h e m same alike all each_ran count ascend only tied =
+      → All (λ run. IsRun had_grants run) runs → (result ≢ Err NoMemory → length runs ≡ length offer.names) → AscendAtSeats (conns_of left.over) → ∥ ReceivedPosted runs left.over ∥₁ → ∥ All (λ over. OverTied runs over) left.over ∥₁ → ∥ Served S see offer grants before closed was returned ∥₁
+  served see shown offer had_grants grants runs before now closed was lending returned had has left result none nobody h e m same alike all each_ran count ascend received tied =
       let whole = moves_on (came_in h.serves.given) 0 was lending returned had has left h.moves m in
       let lent : left.lent ≡ whole.more = whole.lent_here ∙ ap (λ l. l ++ whole.more) none in
       let over : left.over ≡ whole.over = whole.over_here ∙ ap (λ l. l ++ whole.over) nobody in
@@ -72,7 +73,7 @@ module _ {I O S : Type 0} where
         all_ran = λ asked. count (λ (refused : result ≡ Err NoMemory). asked (subst (λ (r : Result Unit Fault). EndsBy r h.serves.given) refused h.serves.ends));
         each_ran = subst (λ (g : Grants). All (λ run. IsRun g run) runs) alike each_ran;
         ascend = subst (λ (o : List (Over I O S)). AscendAtSeats (conns_of o)) over ascend;
-        only_posted = subst (λ (o : List (Over I O S)). ∥ OnlyPosted runs o ∥₁) over only;
+        received = subst (λ (o : List (Over I O S)). ∥ ReceivedPosted runs o ∥₁) over received;
         tied = subst (λ o. ∥ All (λ x. OverTied runs x) o ∥₁) over tied;
       }))
 
@@ -92,7 +93,7 @@ module _ {I O S : Type 0} where
     all_ran = λ asked. absurd (asked refl);
     each_ran = All-nil (λ run. IsRun grants run);
     ascend = λ i j m n less at there same. absurd (none-some m at);
-    only_posted = ∣ (λ realm k run at less. absurd (none-some run at)) ∣₁;
+    received = ∣ (λ realm k run at less. absurd (none-some run at)) ∣₁;
     tied = ∣ All-nil (λ over. OverTied [] over) ∣₁;
     own = All-nil (λ over. ∥ KeepsNames see (before_of over) ((after_of over).source, (after_of over).sink) ∥₁);
   }

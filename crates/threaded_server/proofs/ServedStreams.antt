@@ -24,13 +24,12 @@ use Rattle.broker_threads.specs.declared.writer_thread.Written.{Written}
 use Rattle.connection.specs.Writer.{IsWrittenBy, write_told}
 use Rattle.connection.specs.declared.reader.ReadEnd.{ReadEnd}
 use Rattle.connection.specs.declared.reader.ReadEnd.TheVariants.{ActorGone, NoMemory}
-use Rattle.outbox_queue.specs.Ends.{Owes}
 use Rattle.outbox_queue.specs.Outbox.{new_outbox}
 use Rattle.rawsocket.specs.Steps.{WriteSteps}
 use Rattle.rawsocket.specs.declared.handshake.Serializer.{Serializer}
 use Rattle.realm.specs.Grants.{Grants}
 use Rattle.realm.specs.Yield.{owed}
-use Rattle.realm_inbox.specs.EndViews.{home_of_poster, inbox_of_poster, posted, poster_conn, received}
+use Rattle.realm_inbox.specs.EndViews.{home_of_poster, inbox_of_poster, posted, poster_conn}
 use Rattle.realm_inbox.specs.Ends.{Place}
 use Rattle.realm_inbox.specs.Seats.{at_seat}
 use Rattle.realm_inbox.specs.declared.act.Act.{Act}
@@ -38,14 +37,15 @@ use Rattle.realm_inbox.specs.declared.act.Act.TheVariants.{Join}
 use Rattle.realm_inbox.specs.declared.ends.Poster.{Poster}
 use Rattle.threaded_server.proofs.Places.{get_of_map, get_other, get_set, map_get, same_or_other}
 use Rattle.threaded_server.proofs.RunHistories.{realm_made, realm_of}
-use Rattle.threaded_server.specs.Conns.{AscendAtSeats, conn_of, conns_of}
+use Rattle.threaded_server.specs.Conns.{conn_of, conns_of}
 use Rattle.threaded_server.specs.Histories.{IsRealm, Realm}
 use Rattle.threaded_server.specs.Lending.{Lending, returned}
-use Rattle.threaded_server.specs.Overs.{Found, FoundNoSeat, Went, after_of, before_of}
-use Rattle.threaded_server.specs.Posts.{OnlyPosted, posts_at, posts_between, posts_of, since}
-use Rattle.threaded_server.specs.Served.{IsFate, IsSession, LentStream, ReceivedFirst, Served, posts_by}
+use Rattle.threaded_server.specs.Overs.{Found, Went, after_of, before_of}
+use Rattle.threaded_server.specs.Posts.{ReceivedPosted, posts_at, posts_between, posts_of, since}
+use Rattle.threaded_server.specs.Served.{IsFate, IsSession, LentStream, ReceivedAll, Served, posts_by}
+use Rattle.threaded_server.specs.SeatRules.{AscendAtSeats, FoundNoSeat}
 use Rattle.threaded_server.specs.Sessions.{SaysSome}
-use Rattle.threaded_server.specs.Ties.{AreAllOwed, CourseTied, IsRun, IsTied, OverTied}
+use Rattle.threaded_server.specs.Ties.{CourseTied, IsRun, IsTied, OverTied, history_of}
 use Rattle.threaded_server.specs.body.Served.{ServedInParts}
 use Rattle.threaded_server.specs.declared.answer.Answer.{Answer}
 use Rattle.threaded_server.specs.declared.over.Over.{Over}
@@ -214,8 +214,8 @@ module _ {I O S : Type 0} (see : Sight I O) (offer : Offer) (runs : List (RealmR
               (subst (λ (items : List Item). IsWrittenBy h.talks.writer.serializer h.talks.writer.limit written.end items writes.written.octets) (sym took) writes.written.written));
           steps = subst (λ (o : O). WriteSteps (see.writing o) (see.writing written.sink.last.value) (write_told written.end)) begins.writes_to writes.steps;
         };
-        due = subst (λ (c : ℕ). Owes owed t.run.ended.value.chronicle.history c written.drain.value.taken) t.own t.owes;
-        whole = λ stopped. subst (λ (c : ℕ). AreAllOwed t.run.ended.value.chronicle.history c written.drain.value.taken) t.own (t.whole stopped);
+        due = subst (λ (c : ℕ). IsPrefix written.drain.value.taken (owed (history_of t.run) c)) t.own t.owes;
+        whole = λ stopped. t.whole stopped ∙ ap (owed (history_of t.run)) t.own;
         full = λ found. subst (λ (n : ℕ). n ≤ length written.drain.value.taken) (writes.later.capacity ∙ begins.new.5) (t.full found);
       }
     where
@@ -300,11 +300,10 @@ module _ {I O S : Type 0} (see : Sight I O) (offer : Offer) (runs : List (RealmR
       let T = λ (x : Over I O S). OverTied runs x in
       λ i. posts_as realm number o (All-head W o overs went) (All-head T o overs tied) i ++ all_posts realm number overs (All-tail W o overs went) (All-tail T o overs tied) i
 
-  received_first : (overs : List (Over I O S)) → All (λ o. Went see offer o) overs → All (λ o. OverTied runs o) overs → OnlyPosted runs overs → ReceivedFirst (map realm_of runs) (map stream_of overs)
-  received_first overs went tied only i k realm at less =
+  received_all : (overs : List (Over I O S)) → All (λ o. Went see offer o) overs → All (λ o. OverTied runs o) overs → ReceivedPosted runs overs → ReceivedAll (map realm_of runs) (map stream_of overs)
+  received_all overs went tied received i k realm at less =
       let run = get_of_map realm_of runs i realm at in
-      subst (λ (r : Realm S). IsPrefix (at_seat (k + 1) r.received) (flat_map (λ (s : LentStream I O S). posts_by i (k + 1) s s.conn) (map stream_of overs))) run.2
-      (subst (λ l. IsPrefix (at_seat (k + 1) (received run.0.ended.value.inbox)) l) (sym (all_posts i (k + 1) overs went tied)) (only i k run.0 run.1 less))
+      ap (λ (r : Realm S). at_seat (k + 1) r.received) (sym run.2) ∙ received i k run.0 run.1 less ∙ sym (all_posts i (k + 1) overs went tied)
 
 module _ {I O S : Type 0} where
   -- who was told that no seat is free found none
@@ -324,7 +323,7 @@ module _ {I O S : Type 0} where
   told see offer grants before now was lending h =
       ∥∥₁_elim (of_all (λ o. Went see offer o) h.streams h.went.went) squash₁ (λ went.
       ∥∥₁_elim h.tied squash₁ (λ tied.
-      ∥∥₁_elim h.only_posted squash₁ (λ only.
+      ∥∥₁_elim h.received squash₁ (λ received.
       ∥∥₁_map (of_all (λ o. KeepsNames see (before_of o) ((after_of o).source, (after_of o).sink)) h.streams h.own) (λ own. record {
         given = h.given;
         answered = h.answered;
@@ -341,7 +340,7 @@ module _ {I O S : Type 0} where
         all_ran = λ asked. length-map h.runs realm_of ∙ h.all_ran asked;
         histories = All-map (λ (realm : Realm S). IsRealm grants realm) realm_of h.runs (All-weaker (λ run. IsRun grants run) (λ run. IsRealm grants (realm_of run)) (realm_made grants) h.runs h.each_ran);
         fates = all_fates see offer h.runs h.streams went tied;
-        received = received_first see offer h.runs h.streams went tied only;
+        received = received_all see offer h.runs h.streams went tied received;
         no_seat = λ i s at is.
             let o = get_of_map stream_of h.streams i s at in
             subst (λ (x : LentStream I O S). FoundNoSeat h.lent i x.lent) o.2 (turned_away h.lent i o.0 (h.went.found i o.0 o.1) (ap (λ (x : LentStream I O S). x.back.fate) o.2 ∙ is));

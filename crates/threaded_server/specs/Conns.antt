@@ -1,6 +1,7 @@
 -- The numbers of the connections that had a seat.
 use Rattle.std.specs.Prelude.{◌≡◌, ◌<◌, ◌+◌, ◌-◌, ◌/◌, ℕ, List, [], ◌∷◌, Option, Some, get_or, length, slice_get}
 use Rattle.std.specs.List.{flat_map}
+use Rattle.threaded_server.specs.SeatRules.{AscendAtSeats}
 use Rattle.threaded_server.specs.Seats.{Table}
 use Rattle.threaded_server.specs.Posters.{AreOf}
 use Rattle.threaded_server.specs.declared.entry.Connection.{Connection}
@@ -19,10 +20,6 @@ module _ {I O S : Type 0} where
   -- and those of all of them, in the order in which they were over
   abbrev pub conns_of : List (Over I O S) → List ℕ
   conns_of streams = flat_map conn_of streams
-
--- those of one seat ascend; so no number stands twice
-abbrev pub AscendAtSeats : List ℕ → Type 0
-AscendAtSeats numbers = (i j m n : ℕ) → i < j → slice_get numbers i ≡ Some m → slice_get numbers j ≡ Some n → seat_of m ≡ seat_of n → m < n
 
 -- its seat gave the number
 abbrev pub IsGiven : Table → ℕ → Type 0

@@ -1,5 +1,5 @@
 -- What a realm's history was made of, once its actor is over.
-use Rattle.std.specs.Prelude.{◌≡◌, ◌≤◌, ◌+◌, ℕ, true, false, List, [], ◌∷◌, ◌++◌, Option, Some, MatchOption, length, slice_get}
+use Rattle.std.specs.Prelude.{◌≡◌, ◌≤◌, ◌+◌, ℕ, true, false, List, [], ◌∷◌, ◌++◌, Option, Some, length, slice_get}
 use mathlib.Core.List.{IsPrefix}
 use Rattle.atomic_table.specs.Seated.{TableId}
 use Rattle.realm.specs.Grants.{Grants}
@@ -16,10 +16,10 @@ use Rattle.realm_inbox.specs.declared.letter.Letter.{Letter}
 use Rattle.realm_inbox.specs.declared.letter.Post.{Post}
 use Rattle.realm_inbox.specs.declared.letter.Post.TheVariants.{Act, Stop}
 
--- a realm: the chronicle of its history, that history, if there was memory for it, and what its inbox gave, the oldest first
+-- a realm: the chronicle of its history, that history, and what it received, the oldest first: what its inbox gave until it was emptied
 pub record Realm (S : Type 0) : Type 0 where
   pub chronicle : TableId
-  pub history : Option History
+  pub history : History
   pub received : List (Post S)
 
 module _ {S : Type 0} where
@@ -73,6 +73,6 @@ module _ {S : Type 0} where
     pub legal : IsHistory h
     pub none_live : (c : ℕ) → live h c ≡ false
 
-  -- a realm's history was made of what it received; or there was no memory for it, and nothing was received
+  -- a realm's history was made of what it received
   abbrev pub IsRealm : Grants → Realm S → Type 0
-  IsRealm grants realm = MatchOption realm.history (realm.received ≡ []) (λ h. IsMade grants realm.received h)
+  IsRealm grants realm = IsMade grants realm.received realm.history

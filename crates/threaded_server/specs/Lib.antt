@@ -1,6 +1,7 @@
 pub mod Served
 pub mod Sessions
 pub mod Histories
+pub mod SeatRules
 pub mod Answers
 pub mod Conns
 pub mod Lending

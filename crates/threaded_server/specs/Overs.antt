@@ -1,13 +1,11 @@
 -- What became of the streams that were lent.
-use Rattle.std.specs.Prelude.{◌≡◌, ◌⊎◌, ◌≤◌, ◌<◌, ◌+◌, ⊤, ℕ, List, [], ◌∷◌, ◌++◌, Option, None, Some, All, IsPermutation, length, map, slice_get}
+use Rattle.std.specs.Prelude.{◌≡◌, ◌+◌, ⊤, ℕ, List, [], ◌∷◌, ◌++◌, Option, None, Some, All, IsPermutation, length, map, slice_get}
 use Rattle.std.specs.Arc.{arc_value}
 use Rattle.std.specs.declared.snapshot.Snapshot.{Snapshot}
-use Rattle.rawsocket.specs.Devices.{Takes, TakesBeginning, WriteFails, Writing}
-use Rattle.rawsocket.specs.Handshakes.{refusing}
-use Rattle.session.specs.Opened.{AreUsedUp}
 use Rattle.broker_threads.specs.Courses.{fate_of, sink_of}
 use Rattle.threaded_server.specs.Lending.{Lending, Returned, returned}
-use Rattle.broker_threads.specs.Streams.{KeepsNames, Offer, Reads, Sight, offer_of}
+use Rattle.threaded_server.specs.SeatRules.{FoundNoSeat, IsTurnedAway}
+use Rattle.broker_threads.specs.Streams.{Offer, Reads, Sight, offer_of}
 use Rattle.broker_threads.specs.declared.stream_fate.StreamFate.TheVariants.{NoMemory, NoSeat}
 use Rattle.threaded_server.specs.declared.over.Gone.{Gone}
 use Rattle.threaded_server.specs.declared.over.Over.{Over}
@@ -60,23 +58,6 @@ module _ {I O S : Type 0} where
     pub over_here : has.over ≡ had.over ++ over
     pub refused_more : now.refused ≡ was.refused + refused
     pub all_came : came ≡ length more + refused
-
--- it is told that no seat is free: 7F 40 00 00 is written, or a beginning of it where the device failed or had no turn left
-abbrev pub TellsRefusal : Writing → Writing → Type 0
-TellsRefusal before now = Takes before now (refusing 4) ⊎ (TakesBeginning before now (refusing 4) × (WriteFails before now ⊎ AreUsedUp before.calls now.calls))
-
--- no seat was free: nothing was read, and its client was told so
-pub record IsTurnedAway {I O : Type 0} (see : Sight I O) (before after : I × O) : Type 0 where
-  pub unread : after.0 ≡ before.0
-  pub told : TellsRefusal (see.writing before.1) (see.writing after.1)
-  pub same : KeepsNames see before after
-
--- When a stream with these halves was lent, so many streams were over, and all seats were taken: of those that were lent before it 256 or more weren't over yet.
--- Or 2^56 - 1 or more were lent before it: so many numbers below 2^64 has a seat at least, and one that gave its last is taken for good
-pub record FoundNoSeat {A : Type 0} (lent : List A) (over : ℕ) (halves : A) : Type 0 where
-  pub before : ℕ
-  pub here : slice_get lent before ≡ Some halves
-  pub taken : (over + 256 ≤ before) ⊎ (72057594037927935 ≤ before)
 
 module _ {I O S : Type 0} where
   -- the stream that was over after so many others was told that no seat is free only where none was

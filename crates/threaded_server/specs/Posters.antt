@@ -84,6 +84,20 @@ module _ {S : Type 0} where
     pub seats : (k : ℕ) → k < 256 → Gains place realm k before now
     pub others : (k : ℕ) → 256 ≤ k → slice_get now k ≡ slice_get before k
 
+  -- the connection of a poster, where it posts, and what was posted there: all but what was returned to it, and by which weights it posted
+  abbrev pub trace : Poster S → ℕ × Place S × List (ℕ × Act S)
+  trace p = (poster_conn p, inbox_of_poster p, posted p)
+
+  -- of each of a seat, of the one at a place, and of each of all seats
+  abbrev pub traces : List (Option (Poster S)) → List (Option (ℕ × Place S × List (ℕ × Act S)))
+  traces posters = map (option_map trace) posters
+
+  abbrev pub trace_at : List (Option (List (Option (Poster S)))) → ℕ → ℕ → Option (ℕ × Place S × List (ℕ × Act S))
+  trace_at slots k realm = option_map trace (poster_at slots k realm)
+
+  abbrev pub traces_of : List (Option (List (Option (Poster S)))) → List (Option (List (Option (ℕ × Place S × List (ℕ × Act S)))))
+  traces_of slots = map (option_map traces) slots
+
   -- it posts to this inbox, for a connection of this seat
   pub record IsOfInbox (place : Place S) (number : ℕ) (p : Poster S) : Type 0 where
     pub inbox : place ≡ inbox_of_poster p

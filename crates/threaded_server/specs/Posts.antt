@@ -2,7 +2,6 @@
 use Rattle.std.specs.Prelude.{◌≡◌, ◌⊎◌, ◌<◌, ◌+◌, ◌==◌, ℕ, List, [], Option, None, Some, drop, if◌then◌else◌, length, slice_get}
 use Rattle.std.specs.List.{flat_map}
 use Rattle.std.specs.Option.{option_flatten}
-use mathlib.Core.List.{IsPrefix}
 use Rattle.realm_inbox.specs.EndViews.{posted, poster_conn, received}
 use Rattle.realm_inbox.specs.Seats.{at_seat}
 use Rattle.realm_inbox.specs.declared.act.Act.{Act}
@@ -34,9 +33,9 @@ module _ {I O S : Type 0} where
   abbrev pub posts_at : ℕ → ℕ → List (Over I O S) → List (ℕ × Act S)
   posts_at realm number streams = flat_map (posts_of realm number) streams
 
-  -- what each realm received of a seat, of 256, begins what the streams posted there
-  abbrev pub OnlyPosted : List (RealmRun S) → List (Over I O S) → Type 0
-  OnlyPosted runs streams = (realm k : ℕ) (run : RealmRun S) → slice_get runs realm ≡ Some run → k < 256 → IsPrefix (at_seat (k + 1) (received run.ended.value.inbox)) (posts_at realm (k + 1) streams)
+  -- what each realm received of a seat, of 256, is what the streams posted there
+  abbrev pub ReceivedPosted : List (RealmRun S) → List (Over I O S) → Type 0
+  ReceivedPosted runs streams = (realm k : ℕ) (run : RealmRun S) → slice_get runs realm ≡ Some run → k < 256 → at_seat (k + 1) (received run.inbox.value) ≡ posts_at realm (k + 1) streams
 
 module _ {P A : Type 0} (posted : P → List A) where
   -- these are as many posters as there will be realms; and of the first so many realms each is there, and what was posted by it is this

@@ -11,6 +11,7 @@ use Rattle.realm_inbox.specs.Seats.{at_seat}
 use Rattle.realm_inbox.specs.declared.ends.Poster.{Poster}
 use Rattle.broker_threads.specs.Acts.{Acts}
 use Rattle.threaded_server.specs.Posters.{poster_at}
+use Rattle.broker_threads.specs.declared.actor_thread.Acted.{Acted}
 use Rattle.broker_threads.specs.declared.actor_thread.ActorThread.{ActorThread}
 use Rattle.threaded_server.specs.declared.realm_handle.RealmHandle.{RealmHandle}
 use Rattle.threaded_server.specs.declared.realm_run.RealmRun.{RealmRun}
@@ -57,11 +58,16 @@ module _ {S : Type 0} where
   TakesIn realms None now = now ≡ realms
   TakesIn realms (Some seen) now = Keeps realms seen now
 
-  -- a realm ran: its actor's thread gave back what it should, and what was seen last of its history begins what its chronicle has
+  -- a realm's actor's thread gave back what it should, and what was seen last of its history begins what its chronicle has
+  pub record GivesBack (realm : Shown S) (began : ActorThread S) (done : Acted S) : Type 0 where
+    pub given : began ≡ realm.work
+    pub acts : Acts began done
+    pub begins : All (λ kept. Reaches Begins (Some kept.history) done.chronicle.history) realm.seen
+
+  -- a realm ran: so did its actor's thread, and then its inbox was emptied
   pub record RunsTo (realm : Shown S) (run : RealmRun S) : Type 0 where
-    pub began : run.began.value ≡ realm.work
-    pub acts : Acts run.began.value run.ended.value
-    pub begins : All (λ kept. Reaches Begins (Some kept.history) run.ended.value.chronicle.history) realm.seen
+    pub back : GivesBack realm run.began.value run.ended.value
+    pub more : IsPrefix (received run.ended.value.inbox) (received run.inbox.value)
 
   -- each of them did, in their order
   abbrev pub EachRuns : List (Shown S) → List (RealmRun S) → Type 0
@@ -70,6 +76,6 @@ module _ {S : Type 0} where
   EachRuns (realm ∷ realms) [] = ⊥
   EachRuns (realm ∷ realms) (run ∷ runs) = RunsTo realm run × EachRuns realms runs
 
-  -- what each realm received of a seat begins what was posted there, by the realm's poster of that seat
-  abbrev pub AllWerePosted : List (RealmRun S) → List (Option (List (Option (Poster S)))) → Type 0
-  AllWerePosted runs slots = (realm k : ℕ) (run : RealmRun S) (p : Poster S) → slice_get runs realm ≡ Some run → k < 256 → poster_at slots k realm ≡ Some p → IsPrefix (at_seat (k + 1) (received run.ended.value.inbox)) (posted p)
+  -- what each realm received of a seat is what was posted there, by the realm's poster of that seat
+  abbrev pub AllReceived : List (RealmRun S) → List (Option (List (Option (Poster S)))) → Type 0
+  AllReceived runs slots = (realm k : ℕ) (run : RealmRun S) (p : Poster S) → slice_get runs realm ≡ Some run → k < 256 → poster_at slots k realm ≡ Some p → at_seat (k + 1) (received run.inbox.value) ≡ posted p

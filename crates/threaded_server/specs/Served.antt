@@ -7,7 +7,6 @@ use Rattle.broker_threads.specs.declared.stream_fate.SessionEnds.{SessionEnds}
 use Rattle.broker_threads.specs.declared.stream_fate.StreamFate.{StreamFate}
 use Rattle.broker_threads.specs.declared.stream_fate.StreamFate.TheVariants as fate
 use Rattle.connection.specs.declared.writer.WriteEnd.TheVariants.{Full, Stopped}
-use Rattle.outbox_queue.specs.Ends.{Owes}
 use Rattle.realm.specs.Grants.{Grants}
 use Rattle.realm.specs.Yield.{owed}
 use Rattle.realm_inbox.specs.Seats.{at_seat}
@@ -15,12 +14,10 @@ use Rattle.realm_inbox.specs.declared.act.Act.{Act}
 use Rattle.realm_inbox.specs.declared.joining.Joining.{Joining}
 use Rattle.session.specs.Opened.{Session}
 use Rattle.threaded_server.specs.Answers.{came_in}
-use Rattle.threaded_server.specs.Conns.{AscendAtSeats}
 use Rattle.threaded_server.specs.Histories.{IsRealm, Realm}
 use Rattle.threaded_server.specs.Lending.{Lending, Returned}
-use Rattle.threaded_server.specs.Overs.{FoundNoSeat, IsTurnedAway}
+use Rattle.threaded_server.specs.SeatRules.{AscendAtSeats, FoundNoSeat, IsTurnedAway}
 use Rattle.threaded_server.specs.Sessions.{IsWritten, Joins, SaysSome, halves}
-use Rattle.threaded_server.specs.Ties.{AreAllOwed}
 use Rattle.threaded_server.specs.declared.answer.Answer.{Answer}
 use Rattle.wamp_ids.specs.Numbers.{seat_of}
 use Rattle.wamp_messages.specs.declared.item.Item.{Item}
@@ -54,8 +51,8 @@ module _ {I O S : Type 0} (see : Sight I O) (offer : Offer) (realms : List (Real
     pub items : List Item
     pub written : IsWritten see.writing hello sink s.back.sink ends.write items
     -- They begin what the realm's one history owes the connection. Where the writer stopped they are all of that; where its outbox was found full, they are as many as that holds, or more
-    pub due : Owes owed realm.history conn items
-    pub whole : ends.write ≡ Stopped → AreAllOwed realm.history conn items
+    pub due : IsPrefix items (owed realm.history conn)
+    pub whole : ends.write ≡ Stopped → items ≡ owed realm.history conn
     pub full : ends.write ≡ Full → offer.room ≤ length items
 
   -- what became of a stream is what its acceptor is told of it
@@ -72,9 +69,9 @@ module _ {I O S : Type 0} where
   posts_by realm seat s None = []
   posts_by realm seat s (Some conn) = if s.realm == realm && seat_of conn == seat then map (λ act. (conn, act)) s.posted else []
 
-  -- what each realm received of a seat, of 256, begins what the streams posted there, one after another
-  abbrev pub ReceivedFirst : List (Realm S) → List (LentStream I O S) → Type 0
-  ReceivedFirst realms streams = (i k : ℕ) (realm : Realm S) → slice_get realms i ≡ Some realm → k < 256 → IsPrefix (at_seat (k + 1) realm.received) (flat_map (λ s. posts_by i (k + 1) s s.conn) streams)
+  -- what each realm received of a seat, of 256, is what the streams posted there, one after another
+  abbrev pub ReceivedAll : List (Realm S) → List (LentStream I O S) → Type 0
+  ReceivedAll realms streams = (i k : ℕ) (realm : Realm S) → slice_get realms i ≡ Some realm → k < 256 → at_seat (k + 1) realm.received ≡ flat_map (λ s. posts_by i (k + 1) s s.conn) streams
 
 -- what was served between two states of an acceptor
 pub record Served {I O : Type 0} (S : Type 0) (see : Sight I O) (offer : Offer) (grants : Grants) (before now : List Answer) (was lending : Lending I O) : Type 0 where
@@ -96,7 +93,7 @@ pub record Served {I O : Type 0} (S : Type 0) (see : Sight I O) (offer : Offer) 
   pub all_ran : given ≢ [] → length realms ≡ length offer.names
   pub histories : All (λ realm. IsRealm grants realm) realms
   pub fates : All (λ s. IsFate see offer realms s s.back.fate) streams
-  pub received : ReceivedFirst realms streams
+  pub received : ReceivedAll realms streams
   -- one was told that no seat is free only where none was; and the numbers of connections ascend at each seat, so no two had one number
   pub no_seat : (i : ℕ) (s : LentStream I O S) → slice_get streams i ≡ Some s → s.back.fate ≡ fate.NoSeat → FoundNoSeat lent i s.lent
   pub numbers : AscendAtSeats (flat_map (λ s. option_to_list s.conn) streams)

@@ -1,5 +1,5 @@
 -- What a session did that was served over a stream.
-use Rattle.std.specs.Prelude.{◌≡◌, ◌⊎◌, ℕ, true, min, List, [], ◌∷◌, ◌++◌, Option, None, Some}
+use Rattle.std.specs.Prelude.{◌≡◌, ◌⊎◌, ℕ, true, min, List, [], ◌∷◌, ◌++◌, Some}
 use Rattle.atomic_table.specs.Seated.{TableId}
 use Rattle.broker_threads.specs.Streams.{Stream, stream}
 use Rattle.broker_threads.specs.Talks.{start_of}

@@ -1,12 +1,13 @@
 -- What a session was written, and the history of its realm.
 use Rattle.std.specs.Prelude.{◌≡◌, ◌≤◌, ⊤, ℕ, List, Option, None, Some, Contains, length, slice_get}
+use mathlib.Core.List.{IsPrefix}
 use Rattle.connection.specs.declared.writer.WriteEnd.TheVariants.{Stopped, Full}
 use Rattle.outbox_queue.specs.Ends.{Owes, TookFull, TookWhole, newest}
 use Rattle.outbox_queue.specs.Tied.{Kept}
 use Rattle.realm.specs.Grants.{Grants, pairs_of}
-use Rattle.realm.specs.History.{History}
+use Rattle.realm.specs.History.{History, begun}
 use Rattle.realm.specs.Yield.{owed}
-use Rattle.realm_inbox.specs.EndViews.{inbox_of, inbox_of_poster}
+use Rattle.realm_inbox.specs.EndViews.{inbox_of, inbox_of_poster, received}
 use Rattle.realm_inbox.specs.declared.ends.Poster.{Poster}
 use Rattle.broker_threads.specs.Acts.{Acts}
 use Rattle.threaded_server.specs.Realms.{Shown, inbox_in}
@@ -25,10 +26,9 @@ abbrev pub IsKeptIn : List (Kept History) → Option (Kept History) → Type 0
 IsKeptIn all None = ⊤
 IsKeptIn all (Some kept) = Contains all kept
 
--- these items are all that the history, which there is, owes the connection
-abbrev pub AreAllOwed : Option History → ℕ → List Item → Type 0
-AreAllOwed None conn items = ⊥
-AreAllOwed (Some h) conn items = items ≡ owed h conn
+-- the history that a realm's actor made
+abbrev pub history_of : {S : Type 0} → RealmRun S → History
+history_of run = run.ended.value.actor.value.history
 
 module _ {O S : Type 0} where
   -- a connection's session was served by the poster of its realm's inbox, and its realm keeps what its writer saw last, which owes the connection what was taken
@@ -54,8 +54,8 @@ module _ {O S : Type 0} where
     pub posts : slice_get posters written.realm ≡ Some (Some poster)
     pub inbox : inbox_of_poster poster ≡ inbox_of run.began.value.inbox
     pub own : written.drain.value.conn ≡ conn
-    pub owes : Owes owed run.ended.value.chronicle.history written.drain.value.conn written.drain.value.taken
-    pub whole : written.end ≡ Stopped → AreAllOwed run.ended.value.chronicle.history written.drain.value.conn written.drain.value.taken
+    pub owes : IsPrefix written.drain.value.taken (owed (history_of run) written.drain.value.conn)
+    pub whole : written.end ≡ Stopped → written.drain.value.taken ≡ owed (history_of run) written.drain.value.conn
     pub full : written.end ≡ Full → written.drain.value.capacity ≤ length written.drain.value.taken
 
   -- of what became of a stream that had a seat, where a session was served
@@ -83,11 +83,12 @@ module _ {I O S : Type 0} where
   OverTied runs (Untouched halves) = ⊤
 
 module _ {S : Type 0} where
-  -- a realm has the grants of the plan's configuration
+  -- nothing has entered a realm yet, which has the grants of the plan's configuration
   abbrev pub HasGrants : Plan → Shown S → Type 0
-  HasGrants plan realm = pairs_of realm.work.config.grants.items ≡ pairs_of plan.config.value.grants.items
+  HasGrants plan realm = realm.work.kept ≡ begun (pairs_of plan.config.value.grants.items)
 
-  -- a realm ran, from an empty history with these grants on
+  -- a realm ran, from an empty history with these grants on, and then its inbox was emptied
   pub record IsRun (grants : Grants) (run : RealmRun S) : Type 0 where
-    pub grants_are : pairs_of run.began.value.config.grants.items ≡ grants
+    pub begins : run.began.value.kept ≡ begun grants
     pub acts : Acts run.began.value run.ended.value
+    pub more : IsPrefix (received run.ended.value.inbox) (received run.inbox.value)

@@ -8,11 +8,12 @@ ghost use Rattle.realm.specs.Grants.{pairs_of};
 ghost use Rattle.realm.specs.body.HistoryCode.{history_code};
 ghost use Rattle.std.specs.Arc.{arc_value};
 ghost use Rattle.realm_inbox.specs.EndViews.{AreNewSeats, inbox_of, posted};
-ghost use Rattle.threaded_server.specs.Conns.{AscendAtSeats, Numbered, conns_of};
+ghost use Rattle.threaded_server.specs.Conns.{Numbered, conns_of};
 ghost use Rattle.broker_threads.specs.Courses.{fate_of, seen_of, sink_of};
-ghost use Rattle.threaded_server.specs.Overs.{AllWent, GoesOver, TellsRefusal};
+ghost use Rattle.threaded_server.specs.SeatRules.{AscendAtSeats, TellsRefusal};
+ghost use Rattle.threaded_server.specs.Overs.{AllWent, GoesOver};
 ghost use Rattle.threaded_server.specs.Posters.{Stand, lists_at, lists_of};
-ghost use Rattle.threaded_server.specs.Posts.{AllSay, OnlyPosted, posts_at};
+ghost use Rattle.threaded_server.specs.Posts.{AllSay, ReceivedPosted, posts_at};
 ghost use Rattle.threaded_server.specs.Realms.{IsAtHome, TakesIn, places_of, realms_of, shown};
 ghost use Rattle.threaded_server.specs.Seating.{AreSeated};
 ghost use Rattle.broker_threads.specs.Streams.{offer_of, sight};
@@ -79,7 +80,8 @@ pub struct ConnectionTable<
     ghost seated: { AreSeated seats roster.entries.items (items_of roster.lent) },
     ghost kept: { ∥ All (λ over. OverKept (realms_of realms) over)
         (items_of roster.over.streams) ∥₁ },
-    ghost grants: { All (λ realm. HasGrants roster.over.plan.value realm) (realms_of realms) },
+    ghost grants: { All (λ realm. HasGrants roster.over.plan.value realm) (realms_of realms) }
+        by { Prim.hlevel (codes, history_code, data_code, entries_code, trail_code) },
 }
 
 impl<
@@ -153,10 +155,10 @@ impl<
         self.realms.len()
     }
 
-    /// One realm more, whose seats these are, once its actor has begun.
+    /// One realm more, whose seats these are.
     ///
     /// # Errors
-    /// Where memory was refused, also to its actor.
+    /// Where memory was refused.
     pub fn add_realm<R: Threads + Wait>(
         &mut self,
         rt: &R,
@@ -180,11 +182,7 @@ impl<
             return Err(AllocError);
         }
         self.posters.add_realm(place, seats);
-        if self.realms.last_has_begun(rt) {
-            Ok(())
-        } else {
-            Err(AllocError)
-        }
+        Ok(())
     }
 
     /// Stops the realms' actors, and waits until each has marked whose sessions it holds.
@@ -203,7 +201,7 @@ impl<
             (λ run. IsRun (pairs_of self.roster.over.plan.value.config.value.grants.items) run)
             (items_of result) }
         ensures realms { length (items_of result) ≡ length (realms_of self.realms) }
-        ensures only_posted { ∥ OnlyPosted (items_of result)
+        ensures received { ∥ ReceivedPosted (items_of result)
             (items_of self.roster.over.streams) ∥₁ }
         ensures ascend { AscendAtSeats (conns_of (items_of self.roster.over.streams)) }
         ensures tied { ∥ All (λ over. OverTied (items_of result) over)

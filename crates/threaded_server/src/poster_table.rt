@@ -5,12 +5,13 @@ ghost use mathlib.Core.List.{IsPrefix};
 ghost use Rattle.realm_inbox.specs.EndViews.{AreNewSeats, inbox_of, inbox_of_poster, inbox_of_seat, posted, posted_at, poster_conn, received, seat_number};
 ghost use Rattle.realm_inbox.specs.Ends.{Place};
 ghost use Rattle.realm_inbox.specs.Seats.{at_seat};
-ghost use Rattle.threaded_server.specs.Posters.{AllGain, AreOfSeat, GivesUp, IsOfInbox, IsTaken, Puts, Relabels, RelabelsAt, lists_of, poster_at, seen_at};
+ghost use Rattle.threaded_server.specs.Posters.{AllGain, AreOfSeat, GivesUp, IsOfInbox, IsTaken, Puts, Relabels, RelabelsAt, lists_of, poster_at, poster_in, seen_at, trace_at, traces, traces_of};
 ghost use Rattle.wamp_ids.specs.Numbers.{seat_of};
 
 use broker_threads::handover::{Posters, put_poster, take_poster};
 use realm_inbox::{Inbox, Poster, Seat, Shut};
 use std::alloc::{AllocError, Global};
+use std::sync::Wait;
 use wamp_ids::{Conn, SEATS, seat_index};
 
 /// By seat the posters of the next connection there, one of each realm, in the order of the realms.
@@ -98,9 +99,55 @@ impl<S: Shut + 'static> PosterTable<S> {
         }
     }
 
-    /// Compares the inbox of the realm at this place with the realm's poster of each seat, and gives these up: what was received of a
-    /// seat begins what was posted there.
-    pub fn compare(&mut self, realm: usize, inbox: &mut Inbox<S>)
+    /// Receives what is left in the inbox of the realm at this place, and drops it, until what was received of each seat is what was posted
+    /// there by the realm's poster of that seat. Those are given up.
+    pub fn drain_inbox<R: Wait>(&mut self, rt: &R, realm: usize, inbox: &mut Inbox<S>)
+        requires here { (k : ℕ) (p : Poster S) → poster_at (lists_of self.old) k realm ≡ Some p
+            → IsOfInbox (inbox_of inbox.old) (k + 1) p }
+        ensures others { (k i : ℕ) → i ≢ realm
+            → trace_at (lists_of self.new) k i ≡ trace_at (lists_of self.old) k i }
+        ensures received { (k : ℕ) (p : Poster S) → k < 256
+            → poster_at (lists_of self.old) k realm ≡ Some p
+            → at_seat (k + 1) (received inbox.new) ≡ posted p }
+        ensures more { IsPrefix (received inbox.old) (received inbox.new) }
+    {
+        self.drain_seats(rt, realm, inbox);
+        self.compare(realm, inbox);
+    }
+
+    // Receives until all that was posted at each seat was received of it.
+    fn drain_seats<R: Wait>(&mut self, rt: &R, realm: usize, inbox: &mut Inbox<S>)
+        requires here { (k : ℕ) (p : Poster S) → poster_at (lists_of self.old) k realm ≡ Some p
+            → IsOfInbox (inbox_of inbox.old) (k + 1) p }
+        ensures traces { traces_of (lists_of self.new) ≡ traces_of (lists_of self.old) }
+        ensures received { (k : ℕ) (p : Poster S) → k < 256
+            → poster_at (lists_of self.old) k realm ≡ Some p
+            → IsPrefix (posted p) (at_seat (k + 1) (received inbox.new)) }
+        ensures more { IsPrefix (received inbox.old) (received inbox.new) }
+        ensures same { inbox_of inbox.new ≡ inbox_of inbox.old }
+    {
+        for place in 0..SEATS as usize {
+            self.drain_at(rt, realm, place, inbox);
+        }
+    }
+
+    fn drain_at<R: Wait>(&mut self, rt: &R, realm: usize, place: usize, inbox: &mut Inbox<S>)
+        requires here { (p : Poster S) → poster_at (lists_of self.old) place realm ≡ Some p
+            → IsOfInbox (inbox_of inbox.old) (place + 1) p }
+        ensures traces { traces_of (lists_of self.new) ≡ traces_of (lists_of self.old) }
+        ensures received { (p : Poster S) → poster_at (lists_of self.old) place realm ≡ Some p
+            → at_seat (place + 1) (received inbox.new) ≡ posted p }
+        ensures more { IsPrefix (received inbox.old) (received inbox.new) }
+        ensures same { inbox_of inbox.new ≡ inbox_of inbox.old }
+    {
+        if let Some(slot) = self.slots.get_mut(place) {
+            drain_slot(rt, slot, realm, inbox);
+        }
+    }
+
+    // Compares the inbox of the realm at this place with the realm's poster of each seat, and gives these up: what was received of a
+    // seat begins what was posted there.
+    fn compare(&mut self, realm: usize, inbox: &mut Inbox<S>)
         requires here { (k : ℕ) (p : Poster S) → poster_at (lists_of self.old) k realm ≡ Some p
             → IsOfInbox (inbox_of inbox.old) (k + 1) p }
         ensures others { (k i : ℕ) → i ≢ realm
@@ -108,6 +155,7 @@ impl<S: Shut + 'static> PosterTable<S> {
         ensures received { (k : ℕ) (p : Poster S) → k < 256
             → poster_at (lists_of self.old) k realm ≡ Some p
             → IsPrefix (at_seat (k + 1) (received inbox.old)) (posted p) }
+        ensures same { received inbox.new ≡ received inbox.old }
     {
         for place in 0..SEATS as usize {
             self.compare_at(place, realm, inbox);
@@ -159,6 +207,50 @@ fn put_in<S: Shut>(slot: &mut Option<Posters<S>>, realm: usize, poster: Poster<S
         (option_map (λ posters. posters.items) slot.old) }
 {
     if let Some(posters) = slot {
+        put_poster(posters, realm, poster);
+    }
+}
+
+// Receives until all that was posted at a seat, by its poster of the realm at this place, if that is here, was received of it.
+fn drain_slot<S: Shut, R: Wait>(
+    rt: &R,
+    slot: &mut Option<Posters<S>>,
+    realm: usize,
+    inbox: &mut Inbox<S>,
+)
+    requires here { (p : Poster S)
+        → poster_in (option_map (λ posters. posters.items) slot.old) realm ≡ Some p
+        → inbox_of inbox.old ≡ inbox_of_poster p }
+    ensures traces { option_map traces (option_map (λ posters. posters.items) slot.new)
+        ≡ option_map traces (option_map (λ posters. posters.items) slot.old) }
+    ensures received { (p : Poster S)
+        → poster_in (option_map (λ posters. posters.items) slot.old) realm ≡ Some p
+        → at_seat (seat_of (poster_conn p)) (received inbox.new) ≡ posted p }
+    ensures more { IsPrefix (received inbox.old) (received inbox.new) }
+    ensures same { inbox_of inbox.new ≡ inbox_of inbox.old }
+{
+    if let Some(posters) = slot {
+        drain_by(rt, posters, realm, inbox);
+    }
+}
+
+fn drain_by<S: Shut, R: Wait>(
+    rt: &R,
+    posters: &mut Posters<S>,
+    realm: usize,
+    inbox: &mut Inbox<S>,
+)
+    requires here { (p : Poster S) → option_flatten (slice_get posters.old.items realm) ≡ Some p
+        → inbox_of inbox.old ≡ inbox_of_poster p }
+    ensures traces { traces posters.new.items ≡ traces posters.old.items }
+    ensures received { (p : Poster S)
+        → option_flatten (slice_get posters.old.items realm) ≡ Some p
+        → at_seat (seat_of (poster_conn p)) (received inbox.new) ≡ posted p }
+    ensures more { IsPrefix (received inbox.old) (received inbox.new) }
+    ensures same { inbox_of inbox.new ≡ inbox_of inbox.old }
+{
+    if let Some(mut poster) = take_poster(posters, realm) {
+        inbox.drain_beside(rt, &mut poster);
         put_poster(posters, realm, poster);
     }
 }

@@ -3,12 +3,11 @@ ghost use Rattle.std.specs.Prelude.{◌≡◌, ◌++◌, ◌∷◌, [], Some, Al
 ghost use Rattle.realm.specs.History.{Begins};
 ghost use Rattle.chronicle.specs.Recorded.{Reaches};
 
-use crate::realm_run::RealmRun;
 use broker_threads::work::{Doing, start};
 use broker_threads::{Acted, ActorThread};
 use crossbeam_channel::Receiver;
 use outbox_queue::check_seen;
-use realm_inbox::{Door, Inbox, RealmChronicle, RealmHistory, Shut};
+use realm_inbox::{Door, RealmChronicle, RealmHistory, Shut};
 use std::alloc::{AllocError, Global};
 use std::snapshot::Snapshot;
 use std::sync::Wait;
@@ -22,7 +21,7 @@ pub struct RealmHandle<S: Shut + Send + 'static> {
     // What the actor's thread was given. It takes no bytes.
     began: Snapshot<ActorThread<S>>,
     actor: PromisedHandle<Acted<S>, Doing<ActorThread<S>>>,
-    told: Receiver<bool>,
+    told: Receiver<()>,
     // What the writers of its sessions saw last of its history, where they are over. They take no bytes.
     seen: Vec<RealmHistory>,
     ghost same: { actor.promise.0.value ≡ began.value },
@@ -30,7 +29,7 @@ pub struct RealmHandle<S: Shut + Send + 'static> {
 }
 
 impl<S: Shut + Send + 'static> RealmHandle<S> {
-    ghost use Rattle.threaded_server.specs.Realms.{RunsTo, shown};
+    ghost use Rattle.threaded_server.specs.Realms.{GivesBack, shown};
 
     /// Starts a realm's actor, which receives what is posted at this door and at the seats of its inbox, and tells what it tells to the
     /// other end of `told`.
@@ -41,7 +40,7 @@ impl<S: Shut + Send + 'static> RealmHandle<S> {
         rt: R,
         alloc: Global,
         door: Door<S>,
-        told: Receiver<bool>,
+        told: Receiver<()>,
         work: ActorThread<S>,
     ) -> Result<RealmHandle<S>, AllocError>
         ensures { IfOk result (λ handle. shown handle ≡ record {
@@ -58,11 +57,6 @@ impl<S: Shut + Send + 'static> RealmHandle<S> {
             told,
             seen: Vec::new(alloc),
         })
-    }
-
-    /// Waits until the actor has begun. False where there was no memory for its realm.
-    pub fn has_begun<R: Wait>(&self, rt: &R) -> bool {
-        self.told.recv(rt) == Ok(true)
     }
 
     /// Keeps what a writer saw last of the realm's history. It takes no memory, so none is refused: where `push` says that it is, it is
@@ -83,18 +77,16 @@ impl<S: Shut + Send + 'static> RealmHandle<S> {
         let _ = self.door.stop(rt);
     }
 
-    /// Waits until the actor, which was told to stop, has marked whose sessions it holds. Where it never began it returns at once, and
-    /// nobody's session is held.
+    /// Waits until the actor, which was told to stop, has marked whose sessions it holds.
     pub fn await_marks<R: Wait>(&self, rt: &R) {
         let _ = self.told.recv(rt);
     }
 
     /// Waits for the actor's thread, once no reader is left that posts. It ends at the second stop: the first ends its actor, unless that
-    /// was told to stop before, so two are posted. What the writers saw begins the history that it gives back. Beside how the realm
-    /// ran, its inbox.
-    pub fn join<R: Threads + Wait>(self, rt: &R) -> (RealmRun<S>, Inbox<S>)
-        ensures run { RunsTo (shown self) result.0 }
-        ensures inbox { result.1 ≡ result.0.ended.value.inbox }
+    /// was told to stop before, so two are posted. What it was given, and what it gave back: what the writers saw begins the history of
+    /// that.
+    pub fn join<R: Threads + Wait>(self, rt: &R) -> (Snapshot<ActorThread<S>>, Acted<S>)
+        ensures { GivesBack (shown self) result.0.value result.1 }
     {
         let RealmHandle {
             mut door,
@@ -109,11 +101,7 @@ impl<S: Shut + Send + 'static> RealmHandle<S> {
         let _ = door.stop(rt);
         let mut acted = actor.join(rt);
         check_all(rt, &mut acted.chronicle, seen);
-        let run = RealmRun {
-            began,
-            ended: Snapshot::of(&acted),
-        };
-        (run, acted.inbox)
+        (began, acted)
     }
 }
 

@@ -2,7 +2,7 @@
 ghost use Rattle.std.specs.Prelude.{◌≡◌, ◌++◌, ◌∷◌, [], length, IfOk, IfSome, MatchResult};
 ghost use Rattle.ghost_state.specs.GhostList.{items_of};
 ghost use Rattle.threaded_server.specs.Posters.{Stand, lists_of};
-ghost use Rattle.threaded_server.specs.Realms.{AllWerePosted, EachRuns, IsAtHome, Keeps, TakesIn, places_of, realms_of, shown};
+ghost use Rattle.threaded_server.specs.Realms.{AllReceived, EachRuns, IsAtHome, Keeps, TakesIn, places_of, realms_of, shown};
 
 use crate::poster_table::PosterTable;
 use crate::realm_handle::RealmHandle;
@@ -53,14 +53,6 @@ impl<S: Shut + Send + 'static> Realms<S> {
         }
     }
 
-    /// Waits until the actor of the last one has begun. False where there was no memory for its realm.
-    pub fn last_has_begun<R: Wait>(&self, rt: &R) -> bool {
-        match self.handles.last() {
-            Some(last) => last.has_begun(rt),
-            None => false,
-        }
-    }
-
     /// Keeps what a writer saw last, if it took anything.
     pub fn take_in<R: Wait>(&mut self, rt: &R, seen: Option<SeenHistory>)
         requires { IfSome seen (λ s. IsAtHome (realms_of self.old) s) }
@@ -99,8 +91,8 @@ impl<S: Shut + Send + 'static> Realms<S> {
         }
     }
 
-    /// Waits for the actors' threads, once no reader is left that posts. What each received of a seat begins what was posted there: its
-    /// inbox is compared with the realm's poster of each seat.
+    /// Waits for the actors' threads, once no reader is left that posts, and empties the inbox of each: what it received of a seat in the
+    /// end is what was posted there by the realm's poster of that seat.
     pub fn join<R: Threads + Wait>(
         self,
         rt: &R,
@@ -108,13 +100,20 @@ impl<S: Shut + Send + 'static> Realms<S> {
     ) -> GhostList<RealmRun<S>>
         requires { Stand (places_of (realms_of self)) (lists_of posters) }
         ensures runs { EachRuns (realms_of self) (items_of result) }
-        ensures received { AllWerePosted (items_of result) (lists_of posters) }
+        ensures received { AllReceived (items_of result) (lists_of posters) }
     {
         let mut handles = self.handles;
         let mut runs = GhostList::new();
         for realm in 0..handles.len() {
-            let (run, mut inbox) = handles.remove(0).join(rt);
-            posters.compare(realm, &mut inbox);
+            let (began, acted) = handles.remove(0).join(rt);
+            let ended = Snapshot::of(&acted);
+            let mut inbox = acted.inbox;
+            posters.drain_inbox(rt, realm, &mut inbox);
+            let run = RealmRun {
+                began,
+                ended,
+                inbox: Snapshot::of(&inbox),
+            };
             runs.add(Snapshot::of(&run));
         }
         runs

@@ -2,6 +2,7 @@
 ghost use Rattle.std.specs.Prelude.{◌≡◌, ◌≢◌, ◌≤◌, ◌<◌, ◌+◌, [], ◌∷◌, ◌++◌, length, All, IfOk, MatchOption, None, OnOk};
 ghost use Rattle.ghost_state.specs.GhostList.{items_of};
 ghost use Rattle.realm.specs.Grants.{pairs_of};
+ghost use Rattle.realm.specs.History.{begun};
 ghost use Rattle.threaded_server.specs.Answers.{Serves};
 ghost use Rattle.threaded_server.specs.Lending.{returned, with_returned};
 ghost use Rattle.threaded_server.specs.Overs.{GoesOver, Moves};
@@ -24,7 +25,7 @@ use crossbeam_channel::bounded;
 use log_lines::ConnectionRefusal;
 use rawsocket::MessageBound;
 use rawsocket::devices::{Sink, Source};
-use realm::RealmConfig;
+use realm::{Realm, RealmConfig};
 use realm_inbox::opening::inbox_of_chronicle;
 use realm_inbox::{RealmChronicle, Shut};
 use std::alloc::{AllocError, Global};
@@ -215,6 +216,16 @@ fn realm_config(alloc: Global, name: &Topic, config: &Config) -> Result<RealmCon
     })
 }
 
+// A realm of this name, which nothing has entered yet.
+fn new_realm(alloc: Global, name: &Topic, config: &Config) -> Result<Realm, AllocError>
+    ensures { IfOk result (λ realm. realm ≡ begun (pairs_of config.now.grants.items)) }
+{
+    match Realm::new(alloc, realm_config(alloc, name, config)?) {
+        Ok(realm) => Ok(realm),
+        Err(_) => Err(AllocError),
+    }
+}
+
 // Starts the realms' actors.
 fn open<
     R: Threads + Wait + Clock + CpuClock + RandomSource + Copy + Send + 'static,
@@ -269,7 +280,7 @@ fn open_realm<
         alloc,
         plan: Arc::try_clone(&connection_table.plan)?,
         realm: connection_table.count_realms(),
-        config: realm_config(alloc, name, config)?,
+        kept: new_realm(alloc, name, config)?,
         words,
         chronicle,
         inbox,

@@ -2,10 +2,11 @@
 use Rattle.std.specs.Prelude.{◌≡◌, ◌≢◌, ◌+◌, ℕ, List, [], ◌++◌, Result, All, length, map}
 use Rattle.realm.specs.Grants.{Grants}
 use Rattle.threaded_server.specs.Answers.{Serves, came_in}
-use Rattle.threaded_server.specs.Conns.{AscendAtSeats, conns_of}
+use Rattle.threaded_server.specs.SeatRules.{AscendAtSeats}
+use Rattle.threaded_server.specs.Conns.{conns_of}
 use Rattle.threaded_server.specs.Lending.{Lending}
 use Rattle.threaded_server.specs.Overs.{AllWent, Books, Moves, after_of, before_of}
-use Rattle.threaded_server.specs.Posts.{OnlyPosted}
+use Rattle.threaded_server.specs.Posts.{ReceivedPosted}
 use Rattle.broker_threads.specs.Streams.{KeepsNames, Offer, Sight}
 use Rattle.threaded_server.specs.Ties.{IsRun, OverTied}
 use Rattle.threaded_server.specs.declared.answer.Answer.{Answer}
@@ -43,8 +44,8 @@ pub record ServedInParts {I O : Type 0} (S : Type 0) (see : Sight I O) (offer : 
   pub runs : List (RealmRun S)
   pub all_ran : given ≢ [] → length runs ≡ length offer.names
   pub each_ran : All (λ run. IsRun grants run) runs
-  -- what a realm received of a seat begins what the streams posted there
-  pub only_posted : ∥ OnlyPosted runs streams ∥₁
+  -- what a realm received of a seat is what the streams posted there
+  pub received : ∥ ReceivedPosted runs streams ∥₁
   -- what a session's writer took begins what the one history of the realm that its HELLO names owes its connection, and is all of that where it stopped; where its outbox was found
   -- full, it took as many items as that holds, or more
   pub tied : ∥ All (λ over. OverTied runs over) streams ∥₁

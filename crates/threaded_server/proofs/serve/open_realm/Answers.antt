@@ -1,10 +1,15 @@
 use Rattle.std.proofs.Common.{sym, ap, ◌∙◌, subst}
 use Rattle.realm.specs.Grants.{pairs_of}
+use Rattle.realm.specs.History.{begun, grants_of}
 use Rattle.realm_inbox.specs.EndViews.{AreNewSeats, inbox_of}
 use Rattle.threaded_server.proofs.serve.open_realm.Goals as goal
 
 pub add_realm-requires-clause-grants : goal.add_realm-requires-clause-grants
-add_realm-requires-clause-grants g c κs within = ap (λ r. pairs_of r.work.config.grants.items) c.in_ok-handle.ensures ∙ c.in_ok-realm_config.ensures.1 ∙ ap (λ k. pairs_of k.grants.items) (sym c.requires.config)
+add_realm-requires-clause-grants g c κs within = ap (λ r. r.work.kept) c.in_ok-handle.ensures ∙ c.in_ok-new_realm.ensures ∙ ap (λ k. begun (pairs_of k.grants.items)) (sym c.requires.config)
+
+-- unchecked: the goal's name is a guess
+pub invariant_of-work-clause-empty : goal.invariant_of-work-clause-empty
+invariant_of-work-clause-empty g c = let e = c.in_ok-new_realm.ensures in e ∙ ap begun (sym (ap grants_of e))
 
 pub add_realm-requires-clause-seats : goal.add_realm-requires-clause-seats
 add_realm-requires-clause-seats g c κs within = subst (λ r. AreNewSeats (inbox_of r.work.inbox) c.in_ok-door.seats.items) (sym c.in_ok-handle.ensures) c.in_ok-door.ensures.seats

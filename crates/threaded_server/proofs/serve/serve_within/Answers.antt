@@ -14,7 +14,7 @@ returns-clause-streams g c =
     let same = ap (λ p. offer_of p.value) still ∙ ap offer_of made.plan ∙ (λ i. offer_within (c.in_ok-plan.ensures.bound i) (c.in_ok-plan.ensures.realms i) (room i)) in
     let grants = ap (λ p. pairs_of p.value.config.value.grants.items) still ∙ ap (λ p. pairs_of p.config.value.grants.items) made.plan ∙ ap (λ k. pairs_of k.grants.items) c.in_ok-plan.ensures.config in
     let ends = c.finish.ensures in
-    served _ _ _ _ _ (items_of c.finish.result) _ _ _ _ _ _ _ _ _ _ made.lent made.unused.nothing c.open_and_accept-served.ensures.lent c.close.ensures.answers c.close.ensures.moves same grants ends.went ends.runs (λ asked. ends.realms ∙ c.close.ensures.realms ∙ c.open_and_accept-served.ensures.realms asked) ends.ascend ends.only_posted ends.tied
+    served _ _ _ _ _ (items_of c.finish.result) _ _ _ _ _ _ _ _ _ _ made.lent made.unused.nothing c.open_and_accept-served.ensures.lent c.close.ensures.answers c.close.ensures.moves same grants ends.went ends.runs (λ asked. ends.realms ∙ c.close.ensures.realms ∙ c.open_and_accept-served.ensures.realms asked) ends.ascend ends.received ends.tied
 
 pub returns-in_err-plan-clause-streams : goal.returns-in_err-plan-clause-streams
 returns-in_err-plan-clause-streams g c = nothing_served _ _ _ _ _

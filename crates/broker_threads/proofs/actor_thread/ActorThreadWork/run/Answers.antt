@@ -1,12 +1,16 @@
-use Rattle.std.proofs.Common.{◌≡◌, [], Some, ap, ◌∙◌}
+use Rattle.std.proofs.Common.{◌≡◌, Some, ◌∙◌}
+use Rattle.realm.specs.History.{grants_of}
 use Rattle.broker_threads.proofs.Acting.{acted}
 use Rattle.broker_threads.proofs.actor_thread.ActorThreadWork.run.Goals as goal
+
+pub of_realm-requires-clause-empty : goal.of_realm-requires-clause-empty
+of_realm-requires-clause-empty g c κs within = (grants_of c.args.self.kept, c.args.self.empty)
 
 pub returns : goal.returns
 returns g c =
     let w = c.args.self in
     let ran = c.run_to_stop-actor.ensures.ran in
-    let first = c.of_realm-actor.ensures ∙ ap (λ h. record { chronicle = w.chronicle.chronicle; history = h; rows = []; words = w.words.given; last_cut = []; handled = [] }) c.in-Ok.ensures.begun in
+    let first = c.of_realm-actor.ensures in
     let kept : c.into_chronicle-chronicle.result ≡ record { chronicle = c.run_to_stop-actor.result.chronicle; history = Some c.run_to_stop-actor.result.history } =
     c.into_chronicle-chronicle.ensures ∙ (λ i. record { chronicle = c.sweep.ensures.chronicle i; history = Some (c.sweep.ensures.sweeps.history i) }) in
     acted w c.of_realm-actor.result c.run_to_stop-actor.result c.of-ended.result c.run_to_stop-actor.new.inbox c.turn_away_rest.new.inbox c.into_chronicle-chronicle.result ran.0 c.shows.ensures.stands.sound.legal first c.of-ended.ensures kept c.run_to_stop-actor.ensures.chronicle ran.1 ran.2 ran.3 ran.4

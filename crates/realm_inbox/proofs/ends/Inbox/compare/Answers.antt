@@ -4,7 +4,7 @@ use Rattle.wamp_ids.specs.Numbers.{seat_of}
 use Rattle.ghost_state.specs.GhostList.{items_of}
 use Rattle.realm_inbox.specs.SeatLines.{IsDealt, waiting}
 use Rattle.realm_inbox.specs.Ends.{home_in, received_in, is_reader}
-use Rattle.realm_inbox.specs.EndViews.{seat_number, posted_at, poster_conn}
+use Rattle.realm_inbox.specs.EndViews.{seat_number, posted_at}
 use Rattle.realm_inbox.proofs.SeatLineSteps.{given_begins}
 use Rattle.realm_inbox.proofs.ends.Inbox.compare.Goals as goal
 

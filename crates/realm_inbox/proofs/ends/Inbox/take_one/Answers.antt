@@ -1,9 +1,7 @@
-use Rattle.std.proofs.Common.{◌≡◌, true, [], ◌∷◌, ◌++◌, refl, sym, ap, ◌∙◌, subst}
-use Rattle.std.specs.Prelude.{IfOk}
+use Rattle.std.proofs.Common.{◌≡◌, true, sym, subst}
 use Rattle.std.proofs.Math.Logic.{∥∥₁_map}
 use Rattle.crossbeam_channel.specs.Claims.{view}
 use Rattle.ghost_state.specs.GhostList.{items_of}
-use Rattle.realm_inbox.specs.Seats.{IsHomed}
 use Rattle.realm_inbox.specs.SeatLines.{IsDealt, waiting}
 use Rattle.realm_inbox.specs.Ends.{home_in, received_in, is_reader}
 use Rattle.realm_inbox.proofs.SeatLineSteps.{taken_in}

@@ -2,7 +2,7 @@ use Rattle.std.proofs.Common.{length, sym}
 use Rattle.std.proofs.Math.Logic.{∥∥₁_map}
 use Rattle.ghost_state.specs.GhostList.{items_of}
 use Rattle.realm.specs.Grants.{pairs_of}
-use Rattle.threaded_server.proofs.RunSteps.{all_ran, all_tied, nobody_there, only_posted, ran_long}
+use Rattle.threaded_server.proofs.RunSteps.{all_ran, all_tied, nobody_there, ran_long, received_posted}
 use Rattle.threaded_server.specs.Posters.{lists_at, lists_of}
 use Rattle.threaded_server.specs.Realms.{realms_of}
 use Rattle.threaded_server.proofs.connection_table.ConnectionTable.finish.Goals as goal
@@ -16,10 +16,10 @@ returns-clause-runs g c = all_ran (pairs_of c.args.self.roster.over.plan.value.c
 pub returns-clause-realms : goal.returns-clause-realms
 returns-clause-realms g c = sym (ran_long (realms_of c.args.self.realms) (items_of c.join.result) c.join.ensures.runs)
 
-pub returns-clause-only_posted : goal.returns-clause-only_posted
-returns-clause-only_posted g c =
+pub returns-clause-received : goal.returns-clause-received
+returns-clause-received g c =
     let table = c.args.self in
-    ∥∥₁_map table.say (only_posted (length table.roster.over.plan.value.realms.items) (realms_of table.realms) (items_of c.join.result) (lists_of table.posters) (lists_at table.roster.entries.items) (items_of table.roster.over.streams) c.join.ensures.runs c.join.ensures.received
+    ∥∥₁_map table.say (received_posted (length table.roster.over.plan.value.realms.items) (realms_of table.realms) (items_of c.join.result) (lists_of table.posters) (lists_at table.roster.entries.items) (items_of table.roster.over.streams) c.join.ensures.runs c.join.ensures.received
     (nobody_there table.roster.entries.items c.requires))
 
 pub returns-clause-ascend : goal.returns-clause-ascend

@@ -35,3 +35,6 @@ pub returns-clause-received : goal.returns-clause-received
 returns-clause-received g c k p less at =
     let within : k < c.loop-place.place = omega (arith, less, c.loop-place-test.false) in
     c.loop-place.invariant.3 k p within at
+
+pub returns-clause-same : goal.returns-clause-same
+returns-clause-same g c = c.loop-place.invariant.0.0

@@ -1,7 +1,9 @@
 use Rattle.std.proofs.Common.{◌≡◌, ◌≤◌, ◌<◌, ◌+◌, [], ◌∷◌, length, length-append, map, refl, sym, ap, ◌∙◌, subst, arith}
 use Rattle.ghost_state.specs.GhostList.{items_of}
 use Rattle.broker_threads.proofs.Lemmas.{none_left}
-use Rattle.threaded_server.proofs.RunSteps.{RunSoFar, first_of, next_stands, posted_none, posted_on, so_far_all, so_far_none, so_far_on}
+use Rattle.threaded_server.proofs.RunSteps.{RunSoFar, first_of, next_stands, posted_none, posted_on, runs_to, so_far_all, so_far_none, so_far_on}
+use Rattle.realm_inbox.specs.EndViews.{received}
+use Rattle.realm_inbox.specs.Seats.{at_seat}
 use Rattle.threaded_server.specs.Posters.{lists_of}
 use Rattle.threaded_server.specs.Realms.{RunsTo, shown}
 use Rattle.threaded_server.proofs.realms.Realms.join.Goals as goal
@@ -16,15 +18,15 @@ loop-realm-init g c =
       posted_none (lists_of c.args.posters) (items_of c.new-runs.result) c.new-runs.ensures,
     )
 
-pub compare-requires-clause-here : goal.compare-requires-clause-here
-compare-requires-clause-here g c κs within k p e =
+pub drain_inbox-requires-clause-here : goal.drain_inbox-requires-clause-here
+drain_inbox-requires-clause-here g c κs within k p e =
     let held = c.loop-realm.invariant in
     let handles = c.loop-realm.handles.items in
     let some : 0 < length c.loop-realm.handles.items = omega (arith, c.remove.ensures.len) in
     let split = ap (map shown) (first_of handles c.remove.result some c.remove.ensures.value) ∙ ap (λ l. shown c.remove.result ∷ map shown l) (sym c.remove.ensures.items) in
     let here : c.loop-realm.realm ≤ c.loop-realm.realm = omega arith in
-    next_stands (map shown c.args.self.handles.items) (map shown c.remove.new.self.items) (shown c.remove.result) (items_of c.loop-realm.runs) c.join-run.result.0 c.join-run.result.1 c.loop-realm.realm (lists_of c.args.posters) (lists_of c.loop-realm.posters)
-    (subst (λ l. RunSoFar (map shown c.args.self.handles.items) l (items_of c.loop-realm.runs)) split held.0) held.1.0 c.join-run.ensures.run c.join-run.ensures.inbox c.requires (λ j. held.2 j c.loop-realm.realm here) k p e
+    next_stands (map shown c.args.self.handles.items) (map shown c.remove.new.self.items) (shown c.remove.result) (items_of c.loop-realm.runs) c.join-began.result.0.value c.join-began.result.1 c.loop-realm.realm (lists_of c.args.posters) (lists_of c.loop-realm.posters)
+    (subst (λ l. RunSoFar (map shown c.args.self.handles.items) l (items_of c.loop-realm.runs)) split held.0) held.1.0 c.join-began.ensures c.requires (λ j. held.2 j c.loop-realm.realm here) k p e
 
 pub loop-realm-preserved : goal.loop-realm-preserved
 loop-realm-preserved g c =
@@ -35,13 +37,14 @@ loop-realm-preserved g c =
     let some : 0 < length c.loop-realm.handles.items = omega (arith, c.remove.ensures.len) in
     let split = ap (map shown) (first_of handles c.remove.result some c.remove.ensures.value) ∙ ap (λ l. shown c.remove.result ∷ map shown l) (sym c.remove.ensures.items) in
     let here : realm ≤ realm = omega arith in
+    let ran = runs_to (shown c.remove.result) c.join-began.result.0 c.join-began.result.1 c.of-ended.result c.drain_inbox.new.inbox c.of-inbox.result c.of-ended.ensures c.of-inbox.ensures c.join-began.ensures c.drain_inbox.ensures.more in
     let left : length c.remove.new.self.items + (realm + 1) ≡ c.len-realm-end.result = omega (arith, c.remove.ensures.len, held.1.1) in (
-      so_far_on _ (map shown handles) (map shown c.remove.new.self.items) (shown c.remove.result) runs (items_of c.add.new.self) c.of.result.value held.0 split c.add.ensures
-          (subst (λ run. RunsTo (shown c.remove.result) run) (sym c.of.ensures) c.join-run.ensures.run),
-      (ap length c.add.ensures ∙ length-append runs (c.of.result.value ∷ []) ∙ ap (λ n. n + 1) held.1.0, left),
-      λ k i more. c.compare.ensures.others k i (λ same. omega (arith, more, same)) ∙ held.2 k i (omega (arith, more)),
-      posted_on runs (items_of c.add.new.self) c.of.result.value c.join-run.result.1 realm (lists_of c.args.posters) (lists_of c.loop-realm.posters) c.add.ensures held.1.0 (c.join-run.ensures.inbox ∙ ap (λ run. run.ended.value.inbox) (sym c.of.ensures))
-          (λ k. held.2 k realm here) c.compare.ensures.received held.3,
+      so_far_on _ (map shown handles) (map shown c.remove.new.self.items) (shown c.remove.result) runs (items_of c.add.new.self) c.of-run.result.value held.0 split c.add.ensures
+          (subst (λ run. RunsTo (shown c.remove.result) run) (sym c.of-run.ensures) ran),
+      (ap length c.add.ensures ∙ length-append runs (c.of-run.result.value ∷ []) ∙ ap (λ n. n + 1) held.1.0, left),
+      λ k i more. c.drain_inbox.ensures.others k i (λ same. omega (arith, more, same)) ∙ held.2 k i (omega (arith, more)),
+      posted_on runs (items_of c.add.new.self) c.of-run.result.value realm (lists_of c.args.posters) (lists_of c.loop-realm.posters) c.add.ensures held.1.0 (λ k. held.2 k realm here)
+          (λ k p less at. ap (λ run. at_seat (k + 1) (received run.inbox.value)) c.of-run.ensures ∙ ap (λ i. at_seat (k + 1) (received i)) c.of-inbox.ensures ∙ c.drain_inbox.ensures.received k p less at) held.3,
     )
 
 pub returns-clause-runs : goal.returns-clause-runs
