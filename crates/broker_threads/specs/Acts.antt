@@ -7,13 +7,14 @@ use Rattle.realm_actor.specs.Run.{EndsInStop, Ran}
 use Rattle.realm_inbox.specs.EndViews.{received, inbox_of}
 use Rattle.realm_inbox.specs.Seats.{InOrder}
 use Rattle.realm_inbox.specs.declared.letter.Post.{Post}
+use Rattle.broker_threads.specs.Words.{AreInOrder}
 use Rattle.broker_threads.specs.declared.actor_thread.ActorThread.{ActorThread}
 use Rattle.broker_threads.specs.declared.actor_thread.Acted.{Acted}
 
 module _ {S : Type 0} where
   -- the actor that the thread begins with: of its realm, with no sessions
   abbrev pub first_of : ActorThread S → Acting S
-  first_of w = record { chronicle = w.chronicle.chronicle; history = w.kept; rows = []; words = w.words.given; last_cut = []; handled = [] }
+  first_of w = record { chronicle = w.chronicle.chronicle; history = w.kept; rows = []; words = w.words; last_cut = []; handled = [] }
 
   -- the actor ran on what its own inbox gave first, up to a stop and no further, and its chronicle has the history that this made, in which each entry may come after those before it; what the
   -- inbox gave then was turned away
@@ -27,3 +28,4 @@ module _ {S : Type 0} where
     pub ends : EndsInStop came
     pub history : done.chronicle.history ≡ Some done.actor.value.history
     pub legal : IsHistory done.actor.value.history
+    pub words : AreInOrder done.actor.value.words

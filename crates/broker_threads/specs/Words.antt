@@ -2,6 +2,7 @@
 use Rattle.std.specs.Prelude.{◌≡◌, ⊤, ℕ, zero, suc, ◌+◌, ◌%◌, ◌^◌, List, [], ◌∷◌, ◌++◌, Bool, true, false, length}
 use Rattle.broker_config.specs.declared.config.Ids.{Ids}
 use Rattle.broker_config.specs.declared.config.Ids.TheVariants as ids
+use Rattle.realm_actor.specs.Words.{Words}
 use Rattle.broker_threads.specs.declared.id_words.Origin.{Origin}
 use Rattle.broker_threads.specs.declared.id_words.Origin.TheVariants.{Random, Count}
 
@@ -10,10 +11,9 @@ abbrev pub counted : ℕ → List ℕ
 counted zero = []
 counted (suc n) = counted n ++ n % 2 ^ 64 ∷ []
 
--- what contracts see of a source of words: whether it counts, and the words that it gave
-pub record Words : Type 0 where
-  pub is_counting : Bool
-  pub given : List ℕ
+-- where they are counted, these words are the first so many
+abbrev pub AreInOrder : Words → Type 0
+AreInOrder words = words.is_counting ≡ true → words.given ≡ counted (length words.given)
 
 -- whether these ids come from words that are counted
 abbrev pub are_counted : Ids → Bool

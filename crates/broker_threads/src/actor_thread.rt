@@ -94,7 +94,8 @@ impl<R: Wait + Clock + CpuClock + Copy, S: Shut + Send + 'static> Work<R> for Ac
         actor.shows();
         let ended = Snapshot::of(&actor);
         actor.sweep();
-        let chronicle = actor.into_chronicle();
+        let (chronicle, words) = actor.into_parts();
+        words.shows();
         let _ = teller.send(&rt, ());
         turn_away_rest(&rt, &mut inbox);
         Acted {

@@ -1,6 +1,7 @@
 //! The words that a realm draws.
-ghost use Rattle.std.specs.Prelude.{◌≡◌, ◌++◌, ◌∷◌, [], true, length, IfOk};
-ghost use Rattle.broker_threads.specs.Words.{CountsOn, Draws, is_counting, are_counted, counted};
+ghost use Rattle.std.specs.Prelude.{◌≡◌, ◌∷◌, [], IfOk};
+ghost use Rattle.realm_actor.specs.Words.{◌⊕◌};
+ghost use Rattle.broker_threads.specs.Words.{AreInOrder, CountsOn, Draws, is_counting, are_counted};
 
 use broker_config::Ids;
 use rand::make_rng;
@@ -57,7 +58,8 @@ pub struct IdWords {
 
 impl Model for IdWords {
     ghost use Rattle.ghost_state.specs.GhostList.{items_of};
-    ghost use Rattle.broker_threads.specs.Words.{Words, CountsOn, is_counting};
+    ghost use Rattle.realm_actor.specs.Words.{Words};
+    ghost use Rattle.broker_threads.specs.Words.{CountsOn, is_counting};
 
     ghost Value = { Words };
 
@@ -79,16 +81,21 @@ impl IdWords {
             drawn: GhostList::new(),
         })
     }
+
+    /// Shows that words that are counted were given in order.
+    pub fn shows(&self)
+        ensures { AreInOrder self.now }
+    {
+        let _ = &self.origin;
+    }
 }
 
 impl IdSource for IdWords {
-    ghost given = { λ w. w.given };
+    ghost given = { λ w. w };
 
     fn next_word(&mut self) -> u64
-        ensures given { self.new.given ≡ self.old.given ++ result ∷ [] }
-        ensures kind { self.new.is_counting ≡ self.old.is_counting }
-        ensures counted { self.new.is_counting ≡ true
-            → self.new.given ≡ counted (length self.new.given) }
+        ensures given { self.new ≡ self.old ⊕ (result ∷ []) }
+        ensures counted { AreInOrder self.new }
     {
         let word = self.origin.next();
         self.drawn.add(Snapshot::of(&word));

@@ -1,5 +1,5 @@
 //! Words counted from 0.
-ghost use Rattle.std.specs.Prelude.{◌≡◌, ◌++◌, ◌∷◌, []};
+ghost use Rattle.std.specs.Prelude.{◌≡◌, ◌++◌, ◌∷◌, [], true};
 ghost use Rattle.ghost_state.specs.GhostList.{items_of};
 
 use realm_actor::IdSource;
@@ -24,7 +24,7 @@ impl Counted {
 }
 
 impl IdSource for Counted {
-    ghost given = { λ c. items_of c.past };
+    ghost given = { λ c. record { is_counting = true; given = items_of c.past } };
 
     fn next_word(&mut self) -> u64
         ensures { items_of self.new.past ≡ items_of self.old.past ++ result ∷ [] }

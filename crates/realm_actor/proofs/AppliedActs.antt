@@ -15,6 +15,8 @@ use Rattle.realm_inbox.specs.declared.joining.Joining.{Joining}
 use Rattle.realm_actor.specs.Rows.{box_in}
 use Rattle.realm_actor.specs.Tables.{EachMarked, EachWent, Sound, Standing}
 use Rattle.realm_actor.specs.ActorView.{Working, standing_in}
+use Rattle.realm_actor.specs.Words.{Words, ◌⊕◌}
+use Rattle.realm_actor.proofs.WordSteps.{none_more, more_on}
 use Rattle.realm_inbox.specs.declared.act.Act.{Act}
 use Rattle.realm_inbox.specs.declared.act.Act.TheVariants.{Said, Join, Ping, Spoilt, Gone}
 use Rattle.realm_inbox.specs.Joins.{is_join}
@@ -35,15 +37,15 @@ not_dropped Dropped A B is m = m
 not_dropped NoMemory A B is m = absurd (cc)
 
 -- a message enters with the word that it draws, or with none
-pub enters_said : (S : Type 0) (c : ℕ) (said : TheSaid) (word : ℕ) → says_with_word said ≡ true → (before after : List ℕ) → after ≡ before ++ word ∷ []
+pub enters_said : (S : Type 0) (c : ℕ) (said : TheSaid) (word : ℕ) → says_with_word said ≡ true → (before after : Words) → after ≡ before ⊕ (word ∷ [])
     → EntersAs {S = S} c (Said said) (entry.Said c word said) before after
 enters_said S c said word told before after is =
-    (word, ap (λ b. entry.Said c (cond b word 0) said) (sym told), is ∙ ap (λ b. before ++ cond b (word ∷ []) []) (sym told))
+    (word, ap (λ b. entry.Said c (cond b word 0) said) (sym told), is ∙ ap (λ b. before ⊕ cond b (word ∷ []) []) (sym told))
 
-pub enters_silently : (S : Type 0) (c : ℕ) (said : TheSaid) → says_with_word said ≡ false → (before : List ℕ)
+pub enters_silently : (S : Type 0) (c : ℕ) (said : TheSaid) → says_with_word said ≡ false → (before : Words)
     → EntersAs {S = S} c (Said said) (entry.Said c 0 said) before before
 enters_silently S c said quiet before =
-    (0, ap (λ b. entry.Said c (cond b 0 0) said) (sym quiet), sym (append-nil before) ∙ ap (λ b. before ++ cond b (0 ∷ []) []) (sym quiet))
+    (0, ap (λ b. entry.Said c (cond b 0 0) said) (sym quiet), sym (none_more before) ∙ ap (λ b. before ⊕ cond b (0 ∷ []) []) (sym quiet))
 
 -- an act that is no Join
 
@@ -87,20 +89,20 @@ module _ {S : Type 0} where
   stays c Gone rows other = refl
 
 -- the word of an act stands before those of the Cuts, where it has one
-drawn_before : (b : Bool) (before : List ℕ) (w : ℕ) (drawn : List ℕ) → (before ++ cond b (w ∷ []) []) ++ drawn ≡ before ++ cond b (w ∷ drawn) drawn
-drawn_before true before w drawn = append_assoc before (w ∷ []) drawn
-drawn_before false before w drawn = ap (λ s. s ++ drawn) (append-nil before)
+drawn_before : (b : Bool) (before : Words) (w : ℕ) (drawn : List ℕ) → ((before ⊕ cond b (w ∷ []) []) ⊕ drawn) ≡ (before ⊕ cond b (w ∷ drawn) drawn)
+drawn_before true before w drawn = more_on before (w ∷ []) drawn
+drawn_before false before w drawn = ap (λ s. s ⊕ drawn) (none_more before)
 
 module _ {S : Type 0} (c : ℕ) (act : Act S) (old new : Working S) (e : Entry) (other : is_join act ≡ false) where
-  pub applies_drawn : (w : ℕ) (start : List ℕ) → start ≡ old.words ++ cond (draws act) (w ∷ []) [] → e ≡ entry_of c act w
-      → (drawn : List ℕ) × Accepted (standing_in old) e drawn (standing_in new) × (new.words ≡ start ++ drawn) → Applies c act old new
+  pub applies_drawn : (w : ℕ) (start : Words) → start ≡ old.words ⊕ cond (draws act) (w ∷ []) [] → e ≡ entry_of c act w
+      → (drawn : List ℕ) × Accepted (standing_in old) e drawn (standing_in new) × (new.words ≡ start ⊕ drawn) → Applies c act old new
   applies_drawn w start begun is a = record {
     word = w;
     drawn = a.0;
     rows = old.rows;
     brought = stays c act old.rows other;
     accepted = subst (λ x. Accepted (standing_in old) x a.0 (standing_in new)) is a.1;
-    words = a.2 ∙ ap (λ s. s ++ a.0) begun ∙ drawn_before (draws act) old.words w a.0;
+    words = a.2 ∙ ap (λ s. s ⊕ a.0) begun ∙ drawn_before (draws act) old.words w a.0;
   }
 
 -- a word that is lost is the only one
@@ -109,11 +111,11 @@ few_drawn true w = refl
 few_drawn false w = refl
 
 module _ {S : Type 0} (c : ℕ) (act : Act S) (old new : Working S) where
-  pub loses_by : (lost : List ℕ) (start : List ℕ) → start ≡ old.words ++ lost → length lost ≡ cond (draws act) 1 0
+  pub loses_by : (lost : List ℕ) (start : Words) → start ≡ old.words ⊕ lost → length lost ≡ cond (draws act) 1 0
       → (word : ℕ) × (drawn : List ℕ) × (e : Entry) × (marked : List (Row S)) × IsCutOf c word e × EachMarked c old.rows marked
-      × Accepted (record (standing_in old) { rows = marked }) e drawn (standing_in new) × (new.words ≡ start ++ word ∷ drawn)
+      × Accepted (record (standing_in old) { rows = marked }) e drawn (standing_in new) × (new.words ≡ start ⊕ (word ∷ drawn))
       → Loses c act old new
-  loses_by lost start is few b = cut lost b.0 b.1 b.2 b.3 few b.4 b.5 b.6 (b.7 ∙ ap (λ s. s ++ b.0 ∷ b.1) is)
+  loses_by lost start is few b = cut lost b.0 b.1 b.2 b.3 few b.4 b.5 b.6 (b.7 ∙ ap (λ s. s ⊕ (b.0 ∷ b.1)) is)
 
 -- a Join
 
@@ -126,14 +128,14 @@ module _ {S : Type 0} (c : ℕ) (joining : Joining S) (old new : Working S) wher
       let is : old ≡ new = λ i. record { history = sym history i; rows = sym same i; words = sym words i } in
       subst (λ w. Loses c (Join joining) old w) is (nothing_drawn (not_live_yet old.history c may))
 
-  pub loses_join : (word : ℕ) → may_join old.history c ≡ true → new.history ≡ old.history → new.rows ≡ old.rows → new.words ≡ old.words ++ word ∷ [] → Loses c (Join joining) old new
+  pub loses_join : (word : ℕ) → may_join old.history c ≡ true → new.history ≡ old.history → new.rows ≡ old.rows → new.words ≡ old.words ⊕ (word ∷ []) → Loses c (Join joining) old new
   loses_join word may history same words =
-      let is : record old { words = old.words ++ word ∷ [] } ≡ new = λ i. record { history = sym history i; rows = sym same i; words = sym words i } in
+      let is : record old { words = old.words ⊕ (word ∷ []) } ≡ new = λ i. record { history = sym history i; rows = sym same i; words = sym words i } in
       subst (λ w. Loses c (Join joining) old w) is (not_live (word ∷ []) (not_live_yet old.history c may) refl refl)
 
-  pub applies_join : (held : List (Row S)) (mid : Standing S) (row : Row S) (place word : ℕ) (start drawn : List ℕ)
+  pub applies_join : (held : List (Row S)) (mid : Standing S) (row : Row S) (place word : ℕ) (start : Words) (drawn : List ℕ)
       → held ≡ old.rows → EachWent (insert held place row) mid.rows → mid.history ≡ old.history ▷ entry.Join c word joining.authid → Sound mid.history mid.rows
-      → Cuts mid drawn (standing_in new) → NoneFull new.rows → start ≡ old.words ++ word ∷ [] → new.words ≡ start ++ drawn
+      → Cuts mid drawn (standing_in new) → NoneFull new.rows → start ≡ old.words ⊕ (word ∷ []) → new.words ≡ start ⊕ drawn
       → row.conn ≡ c → box_in row ≡ Some joining.outbox → row.is_cut ≡ false → row.is_lost ≡ false → joining.outbox.full_finds ≡ 0
       → Applies c (Join joining) old new
   applies_join held mid row place word start drawn same went history sound cuts none_full is words conn outbox is_cut is_lost never = record {
@@ -148,5 +150,5 @@ module _ {S : Type 0} (c : ℕ) (joining : Joining S) (old new : Working S) wher
       cuts = subst (λ x. Cuts (record { history = x; rows = mid.rows }) drawn (standing_in new)) history cuts;
       none_full = none_full;
     };
-    words = words ∙ ap (λ s. s ++ drawn) is ∙ append_assoc old.words (word ∷ []) drawn;
+    words = words ∙ ap (λ s. s ⊕ drawn) is ∙ more_on old.words (word ∷ []) drawn;
   }

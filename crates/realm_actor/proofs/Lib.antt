@@ -1,3 +1,4 @@
+pub mod WordSteps
 pub mod OfferLemmas
 pub mod RowPlaces
 pub mod RowDelivery

@@ -9,6 +9,7 @@ use Rattle.realm_actor.specs.declared.row.Row.{Row}
 use Rattle.realm_actor.specs.declared.state.ActorState.{ActorState}
 use Rattle.realm_actor.specs.declared.table.Table.{Table}
 use Rattle.realm_actor.specs.Tables.{Standing}
+use Rattle.realm_actor.specs.Words.{Words}
 
 -- which chronicle the realm's history is told to, the history, the rows of its sessions, the words that were drawn, whom the last post found full, or cut, and the acts
 -- that were handled, each with its connection, the oldest first
@@ -16,7 +17,7 @@ pub record Acting (S : Type 0) : Type 0 where
   pub chronicle : TableId
   pub history : History
   pub rows : List (Row S)
-  pub words : List ℕ
+  pub words : Words
   pub last_cut : List ℕ
   pub handled : List (ℕ × Act S)
 
@@ -24,7 +25,7 @@ pub record Acting (S : Type 0) : Type 0 where
 pub record Working (S : Type 0) : Type 0 where
   pub history : History
   pub rows : List (Row S)
-  pub words : List ℕ
+  pub words : Words
 
 module _ {S : Type 0} where
   abbrev pub working_in : Acting S → Working S
@@ -34,13 +35,13 @@ module _ {S : Type 0} where
   standing_in w = record { history = w.history; rows = w.rows }
 
 -- what contracts see of an actor's fields, where these words were drawn
-abbrev pub acting : {S W : Type 0} → List ℕ → ActorState S W → Acting S
+abbrev pub acting : {S W : Type 0} → Words → ActorState S W → Acting S
 acting words s = record { chronicle = s.table.chronicle.chronicle; history = s.table.realm; rows = s.table.rows.items; words = words; last_cut = s.last_cut.items; handled = map said (items_of s.handled) }
 
 -- what the handling of a post works on: of a table, where these words were drawn
-abbrev pub working_on : {S : Type 0} → List ℕ → Table S → Working S
+abbrev pub working_on : {S : Type 0} → Words → Table S → Working S
 working_on words t = record { history = t.realm; rows = t.rows.items; words = words }
 
 -- the same of an actor's fields
-abbrev pub working : {S W : Type 0} → List ℕ → ActorState S W → Working S
+abbrev pub working : {S W : Type 0} → Words → ActorState S W → Working S
 working words s = working_on words s.table

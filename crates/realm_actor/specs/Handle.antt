@@ -20,6 +20,7 @@ use Rattle.realm_actor.specs.Tables.{Went, EachMarked}
 use Rattle.realm_actor.specs.LastCut.{Names, outbox_of}
 use Rattle.realm_actor.specs.Cuts.{Accepted, IsCutOf}
 use Rattle.realm_actor.specs.ActorView.{Working, standing_in}
+use Rattle.realm_actor.specs.Words.{Words, ◌⊕◌}
 
 abbrev pub MatchOutcome : Outcome → Type 0 → Type 0 → Type 0 → Type 0
 MatchOutcome Applied P Q R = P
@@ -44,8 +45,8 @@ module _ {S : Type 0} where
   entry_of c Gone word = entry.Gone c word
 
   -- the act enters as this entry; the words after it are those before it, and the one that it draws
-  abbrev pub EntersAs : ℕ → Act S → Entry → List ℕ → List ℕ → Type 0
-  EntersAs c act e before after = (word : ℕ) × (e ≡ entry_of c act word) × (after ≡ before ++ cond (draws act) (word ∷ []) [])
+  abbrev pub EntersAs : ℕ → Act S → Entry → Words → Words → Type 0
+  EntersAs c act e before after = (word : ℕ) × (e ≡ entry_of c act word) × (after ≡ before ⊕ cond (draws act) (word ∷ []) [])
 
   -- dropped: a Join of c where c may not join, or another act of c where c isn't live
   abbrev pub is_dropped : History → ℕ → Act S → Bool
@@ -81,22 +82,22 @@ module _ {S : Type 0} where
     pub rows : List (Row S)
     pub brought : WithRow c act old.rows rows
     pub accepted : Accepted (record { history = old.history; rows = rows }) (entry_of c act word) drawn (standing_in new)
-    pub words : new.words ≡ old.words ++ cond (draws act) (word ∷ drawn) drawn
+    pub words : new.words ≡ old.words ⊕ cond (draws act) (word ∷ drawn) drawn
 
   -- for want of memory the session of c is cut instead of the act, if it is live, and then who is found full; the words before,
   -- the act's own, which is lost, and those of the Cuts. A word is lost only where the act draws one, and always where c is live
   pub data Loses (c : ℕ) (act : Act S) (old : Working S) : Working S → Type 0 where
     not_live : (lost : List ℕ) → live old.history c ≡ false → draws act ≡ true → length lost ≡ 1
-        → Loses c act old (record old { words = old.words ++ lost })
+        → Loses c act old (record old { words = old.words ⊕ lost })
     nothing_drawn : live old.history c ≡ false → Loses c act old old
     cut : {new : Working S} (lost : List ℕ) (word : ℕ) (drawn : List ℕ) (e : Entry) (marked : List (Row S))
         → length lost ≡ cond (draws act) 1 0 → IsCutOf c word e → EachMarked c old.rows marked
         → Accepted (record { history = old.history; rows = marked }) e drawn (standing_in new)
-        → new.words ≡ (old.words ++ lost) ++ word ∷ drawn → Loses c act old new
+        → new.words ≡ (old.words ⊕ lost) ⊕ (word ∷ drawn) → Loses c act old new
 
   -- the entry e enters, and then who is found full is cut; the words before, and those of the Cuts
   abbrev pub TakesEntry : Entry → Working S → Working S → Type 0
-  TakesEntry e old new = (drawn : List ℕ) × Accepted (standing_in old) e drawn (standing_in new) × (new.words ≡ old.words ++ drawn)
+  TakesEntry e old new = (drawn : List ℕ) × Accepted (standing_in old) e drawn (standing_in new) × (new.words ≡ old.words ⊕ drawn)
 
   -- the session of c is marked as lost and cut instead, and then who is found full; the words before, and those of the Cuts
   abbrev pub CutsInstead : ℕ → Working S → Working S → Type 0
@@ -105,7 +106,7 @@ module _ {S : Type 0} where
       × IsCutOf c word e
       × EachMarked c old.rows marked
       × Accepted (record (standing_in old) { rows = marked }) e drawn (standing_in new)
-      × (new.words ≡ old.words ++ word ∷ drawn)
+      × (new.words ≡ old.words ⊕ (word ∷ drawn))
 
   -- an entry e of c, whose session is live, is taken in, by its outcome
   abbrev pub TakesIn : Outcome → ℕ → Entry → Working S → Working S → Type 0

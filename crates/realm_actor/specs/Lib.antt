@@ -1,3 +1,4 @@
+pub mod Words
 pub mod OutboxHistory
 pub mod Rows
 pub mod Tables

@@ -12,6 +12,7 @@ use Rattle.realm_actor.specs.Cuts.{Accepted, IsCutOf}
 use Rattle.realm_actor.specs.ActorView.{Working, standing_in}
 use Rattle.realm_actor.specs.Handle.{EachUnmarked}
 use Rattle.realm_actor.specs.LastCut.{Names, is_in, outbox_of}
+use Rattle.realm_actor.specs.Words.{◌⊕◌}
 
 module _ {S : Type 0} where
   -- what a stop does for the row at the place i, with the words that are drawn and the connection that is lost, if one is
@@ -51,7 +52,7 @@ module _ {S : Type 0} where
     pub closes : Closes (standing_in old) (length old.rows) words lost (record { history = new.history; rows = ends })
     pub outcome : result ≡ outcome_of lost
     pub unmarked : EachUnmarked ends new.rows
-    pub given : new.words ≡ old.words ++ words
+    pub given : new.words ≡ old.words ⊕ words
     pub names : Names (λ d. is_in d lost ≡ true) old.rows new.rows named
     pub held : (d : ℕ) (o : Box) → outbox_of old.rows d ≡ Some o → (p : Box) × (outbox_of new.rows d ≡ Some p) × Went o p
     pub none_live : (c : ℕ) → live new.history c ≡ false

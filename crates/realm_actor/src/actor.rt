@@ -234,16 +234,17 @@ impl<S: Shut, W: IdSource> Actor<S, W> {
         state.settle(rt, alloc, drain)
     }
 
-    /// The chronicle of the realm's history, which has the history of the actor. What a drain saw of it can be tied to it
-    /// ([`outbox_queue::tie`]).
-    pub fn into_chronicle(self) -> RealmChronicle
-        ensures { result ≡ record {
+    /// The chronicle of the realm's history, which has the history of the actor, and the source of its words. What a drain saw of
+    /// that history can be tied to it ([`outbox_queue::tie`]).
+    pub fn into_parts(self) -> (RealmChronicle, W)
+        ensures chronicle { result.0 ≡ record {
           chronicle = self.chronicle;
           history = Some self.history;
         } }
+        ensures words { W.given result.1 ≡ self.words }
     {
         let state = self.state;
         let table = state.table;
-        table.chronicle
+        (table.chronicle, state.words)
     }
 }

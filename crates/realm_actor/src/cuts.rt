@@ -1,9 +1,10 @@
 //! Sessions that were found full are cut.
-ghost use Rattle.std.specs.Prelude.{◌≡◌, true, false, ◌++◌, List, ℕ, MatchOption, OnOk, OnErr};
+ghost use Rattle.std.specs.Prelude.{◌≡◌, true, false, List, ℕ, MatchOption, OnOk, OnErr};
 ghost use Rattle.realm.specs.History.{◌▷◌};
 ghost use Rattle.realm.specs.Sessions.{conn_of, live, may_come};
 ghost use Rattle.realm_actor.specs.Rows.{Ascending, box_in};
 ghost use Rattle.realm_actor.specs.ActorView.{working_on};
+ghost use Rattle.realm_actor.specs.Words.{◌⊕◌};
 ghost use Rattle.realm_actor.specs.Handle.{CutsInstead, TakesEntry};
 ghost use Rattle.realm_actor.specs.Tables.{standing, EachMarked, EachWent, Ready};
 ghost use Rattle.realm_actor.specs.Cuts.{Cuts, IsCutOf, IsFull, IsLeastFull, NoneFull};
@@ -127,7 +128,7 @@ impl<S: Shut> Table<S> {
     pub fn cut_full<W: IdSource, R: Wait>(&mut self, rt: &R, alloc: Global, words: &mut W)
         requires { IsSound self.old }
         ensures cuts { (drawn : List ℕ) × Cuts (standing self.old) drawn (standing self.new)
-            × (W.given words.new ≡ W.given words.old ++ drawn) }
+            × (W.given words.new ≡ W.given words.old ⊕ drawn) }
         ensures none { NoneFull self.new.rows.items }
         ensures sound { IsSound self.new }
         ensures keeps { KeepsTable self.old self.new }
@@ -154,7 +155,7 @@ impl<S: Shut> Table<S> {
         requires sound { IsSound self.old }
         requires none { is_full ≡ false → NoneFull self.old.rows.items }
         ensures cuts { (drawn : List ℕ) × Cuts (standing self.old) drawn (standing self.new)
-            × (W.given words.new ≡ W.given words.old ++ drawn) }
+            × (W.given words.new ≡ W.given words.old ⊕ drawn) }
         ensures none { NoneFull self.new.rows.items }
         ensures sound { IsSound self.new }
         ensures keeps { KeepsTable self.old self.new }

@@ -1,6 +1,7 @@
 //! A stop closes each live session.
-ghost use Rattle.std.specs.Prelude.{◌≡◌, ◌&&◌, ◌++◌, ◌<◌, List, ℕ, length};
+ghost use Rattle.std.specs.Prelude.{◌≡◌, ◌&&◌, ◌<◌, List, ℕ, length};
 ghost use Rattle.realm_actor.specs.ActorView.{working};
+ghost use Rattle.realm_actor.specs.Words.{◌⊕◌};
 ghost use Rattle.realm_actor.specs.Tables.{standing};
 ghost use Rattle.realm_actor.specs.Cuts.{NoneFull};
 ghost use Rattle.realm_actor.specs.Stop.{Closes, ClosesOne, Stops, is_nil};
@@ -29,7 +30,7 @@ impl<S: Shut> Table<S> {
         requires inside { place < length self.old.rows.items }
         ensures closes { (drawn : List ℕ) × (lost : List ℕ)
             × ClosesOne place (standing self.old) drawn lost (standing self.new)
-            × (W.given words.new ≡ W.given words.old ++ drawn)
+            × (W.given words.new ≡ W.given words.old ⊕ drawn)
             × (result ≡ is_nil lost) }
         ensures sound { IsSound self.new }
         ensures none { NoneFull self.new.rows.items }
@@ -55,7 +56,7 @@ impl<S: Shut> Table<S> {
         requires none { NoneFull self.old.rows.items }
         ensures closes { (drawn : List ℕ) × (lost : List ℕ)
             × Closes (standing self.old) (length self.old.rows.items) drawn lost
-            (standing self.new) × (W.given words.new ≡ W.given words.old ++ drawn)
+            (standing self.new) × (W.given words.new ≡ W.given words.old ⊕ drawn)
             × (result ≡ is_nil lost) }
         ensures sound { IsSound self.new }
         ensures none { NoneFull self.new.rows.items }

@@ -19,6 +19,7 @@ pub mod ServeSteps
 pub mod TableSteps
 pub mod TableStanding
 pub mod CutSessions
+pub mod DrawnWords
 pub mod RunHistories
 pub mod ServedStreams
 pub mod OwnStreams

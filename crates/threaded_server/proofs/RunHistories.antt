@@ -2,7 +2,6 @@
 use Rattle.std.proofs.Common.{◌≡◌, ◌+◌, ◌≤◌, ℕ, false, List, [], ◌∷◌, ◌++◌, refl, ap, ◌∙◌, arith, subst}
 use mathlib.Core.List.{IsPrefix}
 use Rattle.outbox_queue.proofs.OwedBeginnings.{prefix-on}
-use Rattle.realm.specs.Grants.{Grants}
 use Rattle.realm.specs.History.{History}
 use Rattle.realm.specs.Sessions.{live}
 use Rattle.realm_actor.specs.ActorView.{Acting}
@@ -15,7 +14,11 @@ use Rattle.realm_inbox.specs.declared.letter.Halt.{Halt}
 use Rattle.realm_inbox.specs.declared.letter.Post.{Post}
 use Rattle.realm_inbox.specs.declared.letter.Post.TheVariants.{Act, Stop}
 use Rattle.threaded_server.proofs.CutSessions.{ran_on}
-use Rattle.threaded_server.specs.Histories.{HandlesAll, IsMade, IsRealm, Realm}
+use Rattle.threaded_server.proofs.DrawnWords.{ran_drew}
+use Rattle.realm_actor.specs.Words.{Words}
+use Rattle.threaded_server.specs.EntryWords.{HasWords, IsWithin, words_of}
+use Rattle.threaded_server.specs.EntryWords as of
+use Rattle.threaded_server.specs.Histories.{HandlesAll, IsMade, IsRealm, Realm, Start}
 use Rattle.threaded_server.specs.Ties.{IsRun, history_of}
 use Rattle.threaded_server.specs.declared.realm_run.RealmRun.{RealmRun}
 
@@ -45,9 +48,22 @@ module _ {S : Type 0} where
 abbrev pub realm_of : {S : Type 0} → RealmRun S → Realm S
 realm_of run = record { chronicle = run.began.value.chronicle.chronicle; history = history_of run; received = received run.inbox.value }
 
+-- the words of its entries are of those that its source gave
+words_made : {S : Type 0} (start : Start) (run : RealmRun S) → IsRun start run → HasWords start.ids (history_of run)
+words_made {S} start run h =
+    let drew = ran_drew h.acts.ran in
+    let begun = h.begins in
+    let first : words_of run.began.value.kept ≡ [] = ap words_of begun.history in
+    let none : run.began.value.words.given ≡ [] = ap (λ (w : Words). w.given) begun.words in
+    record {
+      given = run.ended.value.actor.value.words.given;
+      within = drew.within (subst (λ l. IsWithin l run.began.value.words.given) (sym first) (subst (λ l. IsWithin [] l) (sym none) of.IsWithin.none));
+      in_order = λ counts. h.acts.words (drew.kind ∙ ap (λ (w : Words). w.is_counting) begun.words ∙ counts);
+    }
+
 -- its history was made of what it received
-pub realm_made : {S : Type 0} (grants : Grants) (run : RealmRun S) → IsRun grants run → IsRealm grants (realm_of run)
-realm_made {S} grants run h =
+pub realm_made : {S : Type 0} (start : Start) (run : RealmRun S) → IsRun start run → IsRealm start (realm_of run)
+realm_made {S} start run h =
     let acts = h.acts in
     let until = acts.ends.0 in
     let halt = acts.ends.1 in
@@ -59,7 +75,8 @@ realm_made {S} grants run h =
       first = subst (λ came. IsPrefix came (received run.inbox.value)) acts.ends.2 (prefix-on acts.came (received run.ended.value.inbox) (received run.inbox.value) acts.received h.more);
       no_stop = stopped.no_stop;
       in_order = subst (λ came. InOrder [] came) acts.ends.2 acts.in_order;
-      made = subst (λ (g : History). HandlesAll g (until ++ Stop halt ∷ []) made) h.begins (subst (λ came. HandlesAll run.began.value.kept came made) acts.ends.2 (ran_on acts.ran refl));
+      made = subst (λ (g : History). HandlesAll g (until ++ Stop halt ∷ []) made) h.begins.history (subst (λ came. HandlesAll run.began.value.kept came made) acts.ends.2 (ran_on acts.ran refl));
       legal = acts.legal;
       none_live = stopped.none_live;
+      words = words_made start run h;
     }

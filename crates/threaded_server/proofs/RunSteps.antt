@@ -108,14 +108,14 @@ module _ {S : Type 0} where
   ran_at (first ∷ realms) (run ∷ runs) zero realm each at = (run, refl, subst (λ (r : Shown S). RunsTo r run) (same_Some first realm at) each.0)
   ran_at (first ∷ realms) (run ∷ runs) (suc i) realm each at = ran_at realms runs i realm each.1 at
 
-  pub all_ran : (grants : Grants) (realms : List (Shown S)) (runs : List (RealmRun S)) → EachRuns realms runs → All (λ r. r.work.kept ≡ begun grants) realms → All (λ run. IsRun grants run) runs
-  all_ran grants [] [] each h = All-nil (λ run. IsRun grants run)
-  all_ran grants [] (run ∷ runs) each h = absurd each
-  all_ran grants (realm ∷ realms) [] each h = absurd each
-  all_ran grants (realm ∷ realms) (run ∷ runs) each h =
-      let P = λ (r : Shown S). r.work.kept ≡ begun grants in
+  pub all_ran : (start : Start) (realms : List (Shown S)) (runs : List (RealmRun S)) → EachRuns realms runs → All (λ r. IsBegun start r.work) realms → All (λ run. IsRun start run) runs
+  all_ran start [] [] each h = All-nil (λ run. IsRun start run)
+  all_ran start [] (run ∷ runs) each h = absurd each
+  all_ran start (realm ∷ realms) [] each h = absurd each
+  all_ran start (realm ∷ realms) (run ∷ runs) each h =
+      let P = λ (r : Shown S). IsBegun start r.work in
       let back = each.0.back in
-      All-cons (λ x. IsRun grants x) run runs (record { begins = ap (λ (w : ActorThread S). w.kept) back.given ∙ All-head P realm realms h; acts = back.acts; more = each.0.more }) (all_ran grants realms runs each.1 (All-tail P realm realms h))
+      All-cons (λ x. IsRun start x) run runs (record { begins = subst (λ (w : ActorThread S). IsBegun start w) (sym back.given) (All-head P realm realms h); acts = back.acts; more = each.0.more }) (all_ran start realms runs each.1 (All-tail P realm realms h))
 
 -- of what was seen, what isn't left begins the history
 pub record SeenSoFar (own : Option History) (all rest : List (Kept History)) : Type 0 where

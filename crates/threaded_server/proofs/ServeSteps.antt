@@ -4,7 +4,6 @@ use Rattle.std.proofs.Math.Logic.{∥∥₁_elim, ∥∥₁_map}
 use Rattle.std.proofs.lemmas.List.Elements.{All-nil}
 use Rattle.std.proofs.lemmas.List.Sorted.{IsPermutation-refl}
 use Rattle.std.proofs.lemmas.Option.{none-some}
-use Rattle.realm.specs.Grants.{Grants}
 use Rattle.threaded_server.proofs.Accepting.{Accepting, one_came, one_failed}
 use Rattle.threaded_server.proofs.KeptNames.{over_keeps_names}
 use Rattle.threaded_server.proofs.Moving.{moves_on}
@@ -48,16 +47,16 @@ module _ {I O S : Type 0} where
       one_failed before now paused failures was lending taken had has left h (f ∙ e ∙ came) few (to_same 0 lending joined taken has left pause (from_same 0 lending accepted joined has left same reap))
 
   -- serving is over, and each stream is
-  pub served : (see : Sight I O) (shown offer : Offer) (had_grants grants : Grants) (runs : List (RealmRun S)) (before now closed : List Answer) (was lending returned : Lending I O) (had has left : Books I O S) (result : Result Unit Fault) → had.lent ≡ [] → had.over ≡ []
-      → LentUntil before now was lending had has result → closed ≡ now → Moves 0 lending returned has left → shown ≡ offer → had_grants ≡ grants → ∥ AllWent see shown left.lent left.over ∥₁
-      → All (λ run. IsRun had_grants run) runs → (result ≢ Err NoMemory → length runs ≡ length offer.names) → AscendAtSeats (conns_of left.over) → ∥ ReceivedPosted runs left.over ∥₁ → ∥ All (λ over. OverTied runs over) left.over ∥₁ → ∥ Served S see offer grants before closed was returned ∥₁
-  served see shown offer had_grants grants runs before now closed was lending returned had has left result none nobody h e m same alike all each_ran count ascend received tied =
+  pub served : (see : Sight I O) (shown offer : Offer) (had_start start : Start) (runs : List (RealmRun S)) (before now closed : List Answer) (was lending returned : Lending I O) (had has left : Books I O S) (result : Result Unit Fault) → had.lent ≡ [] → had.over ≡ []
+      → LentUntil before now was lending had has result → closed ≡ now → Moves 0 lending returned has left → shown ≡ offer → had_start ≡ start → ∥ AllWent see shown left.lent left.over ∥₁
+      → All (λ run. IsRun had_start run) runs → (result ≢ Err NoMemory → length runs ≡ length offer.names) → AscendAtSeats (conns_of left.over) → ∥ ReceivedPosted runs left.over ∥₁ → ∥ All (λ over. OverTied runs over) left.over ∥₁ → ∥ Served S see offer start before closed was returned ∥₁
+  served see shown offer had_start start runs before now closed was lending returned had has left result none nobody h e m same alike all each_ran count ascend received tied =
       let whole = moves_on (came_in h.serves.given) 0 was lending returned had has left h.moves m in
       let lent : left.lent ≡ whole.more = whole.lent_here ∙ ap (λ l. l ++ whole.more) none in
       let over : left.over ≡ whole.over = whole.over_here ∙ ap (λ l. l ++ whole.over) nobody in
       ∥∥₁_elim all squash₁ (λ each.
       let gone : AllWent see offer whole.more whole.over = subst (λ (l : List (I × O)). AllWent see offer l whole.over) lent (subst (λ o. AllWent see offer left.lent o) over (subst (λ (n : Offer). AllWent see n left.lent left.over) same each)) in
-      told see offer grants before closed was returned (record {
+      told see offer start before closed was returned (record {
         given = h.serves.given;
         lent = whole.more;
         streams = whole.over;
@@ -71,14 +70,14 @@ module _ {I O S : Type 0} where
         own = λ i d within. ∥∥₁_map (gone.went i d within) (over_keeps_names see offer (get_or whole.over i d));
         runs = runs;
         all_ran = λ asked. count (λ (refused : result ≡ Err NoMemory). asked (subst (λ (r : Result Unit Fault). EndsBy r h.serves.given) refused h.serves.ends));
-        each_ran = subst (λ (g : Grants). All (λ run. IsRun g run) runs) alike each_ran;
+        each_ran = subst (λ (s : Start). All (λ run. IsRun s run) runs) alike each_ran;
         ascend = subst (λ (o : List (Over I O S)). AscendAtSeats (conns_of o)) over ascend;
         received = subst (λ (o : List (Over I O S)). ∥ ReceivedPosted runs o ∥₁) over received;
         tied = subst (λ o. ∥ All (λ x. OverTied runs x) o ∥₁) over tied;
       }))
 
-  nothing : (see : Sight I O) (offer : Offer) (grants : Grants) (before : List Answer) (was : Lending I O) → ServedInParts S see offer grants before before was was
-  nothing see offer grants before was = record {
+  nothing : (see : Sight I O) (offer : Offer) (start : Start) (before : List Answer) (was : Lending I O) → ServedInParts S see offer start before before was was
+  nothing see offer start before was = record {
     given = [];
     lent = [];
     streams = [];
@@ -91,7 +90,7 @@ module _ {I O S : Type 0} where
     went = record { each = IsPermutation-refl []; went = All-nil (λ over. ∥ Went see offer over ∥₁); found = λ i over at. absurd (none-some over at) };
     runs = [];
     all_ran = λ asked. absurd (asked refl);
-    each_ran = All-nil (λ run. IsRun grants run);
+    each_ran = All-nil (λ run. IsRun start run);
     ascend = λ i j m n less at there same. absurd (none-some m at);
     received = ∣ (λ realm k run at less. absurd (none-some run at)) ∣₁;
     tied = ∣ All-nil (λ over. OverTied [] over) ∣₁;
@@ -99,5 +98,5 @@ module _ {I O S : Type 0} where
   }
 
   -- nothing was accepted
-  pub nothing_served : (see : Sight I O) (offer : Offer) (grants : Grants) (before : List Answer) (was : Lending I O) → ∥ Served S see offer grants before before was was ∥₁
-  nothing_served see offer grants before was = told see offer grants before before was was (nothing see offer grants before was)
+  pub nothing_served : (see : Sight I O) (offer : Offer) (start : Start) (before : List Answer) (was : Lending I O) → ∥ Served S see offer start before before was was ∥₁
+  nothing_served see offer start before was = told see offer start before before was was (nothing see offer start before was)

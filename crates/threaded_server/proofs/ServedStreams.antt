@@ -27,7 +27,6 @@ use Rattle.connection.specs.declared.reader.ReadEnd.TheVariants.{ActorGone, NoMe
 use Rattle.outbox_queue.specs.Outbox.{new_outbox}
 use Rattle.rawsocket.specs.Steps.{WriteSteps}
 use Rattle.rawsocket.specs.declared.handshake.Serializer.{Serializer}
-use Rattle.realm.specs.Grants.{Grants}
 use Rattle.realm.specs.Yield.{owed}
 use Rattle.realm_inbox.specs.EndViews.{home_of_poster, inbox_of_poster, posted, poster_conn}
 use Rattle.realm_inbox.specs.Ends.{Place}
@@ -38,7 +37,7 @@ use Rattle.realm_inbox.specs.declared.ends.Poster.{Poster}
 use Rattle.threaded_server.proofs.Places.{get_of_map, get_other, get_set, map_get, same_or_other}
 use Rattle.threaded_server.proofs.RunHistories.{realm_made, realm_of}
 use Rattle.threaded_server.specs.Conns.{conn_of, conns_of}
-use Rattle.threaded_server.specs.Histories.{IsRealm, Realm}
+use Rattle.threaded_server.specs.Histories.{IsRealm, Realm, Start}
 use Rattle.threaded_server.specs.Lending.{Lending, returned}
 use Rattle.threaded_server.specs.Overs.{Found, Went, after_of, before_of}
 use Rattle.threaded_server.specs.Posts.{ReceivedPosted, posts_at, posts_between, posts_of, since}
@@ -319,8 +318,8 @@ module _ {I O S : Type 0} where
       by_course (course.Served end written) is = absurd (let clash : fate.Served (record { read = end; write = written.end }) ≡ fate.NoSeat = is in cc)
 
   -- what was served, by the parts of it
-  pub told : (see : Sight I O) (offer : Offer) (grants : Grants) (before now : List Answer) (was lending : Lending I O) → ServedInParts S see offer grants before now was lending → ∥ Served S see offer grants before now was lending ∥₁
-  told see offer grants before now was lending h =
+  pub told : (see : Sight I O) (offer : Offer) (start : Start) (before now : List Answer) (was lending : Lending I O) → ServedInParts S see offer start before now was lending → ∥ Served S see offer start before now was lending ∥₁
+  told see offer start before now was lending h =
       ∥∥₁_elim (of_all (λ o. Went see offer o) h.streams h.went.went) squash₁ (λ went.
       ∥∥₁_elim h.tied squash₁ (λ tied.
       ∥∥₁_elim h.received squash₁ (λ received.
@@ -338,7 +337,7 @@ module _ {I O S : Type 0} where
         names = All-map (λ (s : LentStream I O S). KeepsNames see s.lent (s.back.source, s.back.sink)) stream_of h.streams own;
         realms = map realm_of h.runs;
         all_ran = λ asked. length-map h.runs realm_of ∙ h.all_ran asked;
-        histories = All-map (λ (realm : Realm S). IsRealm grants realm) realm_of h.runs (All-weaker (λ run. IsRun grants run) (λ run. IsRealm grants (realm_of run)) (realm_made grants) h.runs h.each_ran);
+        histories = All-map (λ (realm : Realm S). IsRealm start realm) realm_of h.runs (All-weaker (λ run. IsRun start run) (λ run. IsRealm start (realm_of run)) (realm_made start) h.runs h.each_ran);
         fates = all_fates see offer h.runs h.streams went tied;
         received = received_all see offer h.runs h.streams went tied received;
         no_seat = λ i s at is.

@@ -23,7 +23,7 @@ use Rattle.threaded_server.specs.Posts.{AllSay, AreIn, Say, posts_at, posts_of}
 use Rattle.threaded_server.specs.Realms.{IsAtHome, Shown, TakesIn, inbox_in, places_of, with_seen}
 use Rattle.threaded_server.specs.Roster.{Leaves}
 use Rattle.broker_threads.specs.Streams.{Reads, Sight, offer_of}
-use Rattle.threaded_server.specs.Ties.{HasGrants, OverKept}
+use Rattle.threaded_server.specs.Ties.{IsBegunBy, OverKept}
 use Rattle.threaded_server.specs.declared.entry.Connection.{Connection}
 use Rattle.threaded_server.specs.declared.over.Over.{Over}
 use Rattle.threaded_server.specs.declared.over.Over.TheVariants.{Seated, Untouched}
@@ -38,10 +38,10 @@ all_at : {A : Type 0} (P : A → Type 0) (xs : List A) (i : ℕ) (a : A) → sli
 all_at P xs i a e h = subst P (get_or_from_slice_get xs i a a e) (h i a (slice_get_within xs i a e))
 
 module _ {S : Type 0} where
-  takes_grants : (plan : Plan) (realms after : List (Shown S)) (seen : Option SeenHistory) → TakesIn realms seen after → All (λ r. HasGrants plan r) realms → All (λ r. HasGrants plan r) after
-  takes_grants plan realms after None e h = subst (λ (l : List (Shown S)). All (λ r. HasGrants plan r) l) (sym e) h
-  takes_grants plan realms after (Some seen) k h =
-      subst (λ (l : List (Shown S)). All (λ r. HasGrants plan r) l) (sym k.kept) (All-set (λ r. HasGrants plan r) realms seen.realm _ (all_at (λ r. HasGrants plan r) realms seen.realm k.realm k.at h) h)
+  takes_began : (plan : Plan) (realms after : List (Shown S)) (seen : Option SeenHistory) → TakesIn realms seen after → All (λ r. IsBegunBy plan r) realms → All (λ r. IsBegunBy plan r) after
+  takes_began plan realms after None e h = subst (λ (l : List (Shown S)). All (λ r. IsBegunBy plan r) l) (sym e) h
+  takes_began plan realms after (Some seen) k h =
+      subst (λ (l : List (Shown S)). All (λ r. IsBegunBy plan r) l) (sym k.kept) (All-set (λ r. IsBegunBy plan r) realms seen.realm _ (all_at (λ r. IsBegunBy plan r) realms seen.realm k.realm k.at h) h)
 
   -- posters that were taken
   pub taken_at : (places : List (Place S)) (conn : ℕ) (slots now : List (Option (List (Option (Poster S))))) (posters : List (Option (Poster S))) → IsTaken conn slots posters now → Stand places slots → AreAt places posters × AreOfSeat (seat_of conn - 1 + 1) posters
@@ -69,13 +69,13 @@ module _ {I O S : Type 0} where
   abbrev pub Said : Plan → List (Shown S) → List (Option (List (Option (Poster S)))) → List (Option (Connection I O S)) → List (Over I O S) → Type 0
   Said plan realms slots entries overs = AllSay posted (length plan.realms.items) (length realms) (λ realm number. posts_at realm number overs) slots (lists_at entries)
 
-  -- posters stand where they should, also those that readers were given, and say what was posted; each realm keeps what was seen of its history; and realms have the plan's grants
+  -- posters stand where they should, also those that readers were given, and say what was posted; each realm keeps what was seen of its history; and realms have the plan's began
   pub record Standing (plan : Plan) (realms : List (Shown S)) (slots : List (Option (List (Option (Poster S))))) (entries : List (Option (Connection I O S))) (overs : List (Over I O S)) : Type 0 where
     pub free : Stand (places_of realms) slots
     pub served : Stand (places_of realms) (lists_at entries)
     pub say : ∥ Said plan realms slots entries overs ∥₁
     pub kept : ∥ All (λ o. OverKept realms o) overs ∥₁
-    pub grants : All (λ r. HasGrants plan r) realms
+    pub began : All (λ r. IsBegunBy plan r) realms
 
   -- where nobody is at a seat its posters are there
   pub posters_there : (plan : Plan) (realms : List (Shown S)) (conn : ℕ) (slots : List (Option (List (Option (Poster S))))) (entries : List (Option (Connection I O S))) (overs : List (Over I O S)) → slice_get entries (seat_of conn - 1) ≡ Some None
@@ -100,7 +100,7 @@ module _ {I O S : Type 0} where
         say = ∣ subst (λ (l : List (Option (List (Option (Poster S))))). AllSay posted (length plan.realms.items) (length realms) said l (lists_at entries)) (sym plain)
             (subst (λ (n : ℕ). AllSay posted (length plan.realms.items) n said (replicate 256 (Some (replicate (length plan.realms.items) None))) (lists_at entries)) (sym (ap length e)) (none_said posted (length plan.realms.items) said (lists_at entries) (nobody_at entries long free))) ∣₁;
         kept = ∣ subst (λ (l : List (Over I O S)). All (λ o. OverKept realms o) l) (sym f) (All-nil (λ o. OverKept realms o)) ∣₁;
-        grants = subst (λ (l : List (Shown S)). All (λ r. HasGrants plan r) l) (sym e) (All-nil (λ r. HasGrants plan r));
+        began = subst (λ (l : List (Shown S)). All (λ r. IsBegunBy plan r) l) (sym e) (All-nil (λ r. IsBegunBy plan r));
       }
 
   -- the realms are the same
@@ -115,9 +115,9 @@ module _ {I O S : Type 0} where
 
   -- one realm more
   pub one_realm : (plan : Plan) (realms after : List (Shown S)) (realm : Shown S) (slots now : List (Option (List (Option (Poster S))))) (entries : List (Option (Connection I O S))) (overs : List (Over I O S)) → after ≡ realms ++ realm ∷ []
-      → length realms < length plan.realms.items → length entries ≡ 256 → All (λ slot. slot ≡ None) entries → overs ≡ [] → HasGrants plan realm → AllGain (inbox_in realm) (length realms) slots now
+      → length realms < length plan.realms.items → length entries ≡ 256 → All (λ slot. slot ≡ None) entries → overs ≡ [] → IsBegunBy plan realm → AllGain (inbox_in realm) (length realms) slots now
       → Standing plan realms slots entries overs → Standing plan after now entries overs
-  one_realm plan realms after realm slots now entries overs e room long nobody unlent grants gains h =
+  one_realm plan realms after realm slots now entries overs e room long nobody unlent began gains h =
       let longer = more_longer realms after (realm ∷ []) e in
       let here : slice_get (places_of after) (length realms) ≡ Some (inbox_in realm) = map_get inbox_in after (length realms) realm (ap (λ l. slice_get l (length realms)) e ∙ get_last realms realm) in
       let said = λ (i number : ℕ). posts_at i number overs in
@@ -128,7 +128,7 @@ module _ {I O S : Type 0} where
         say = ∥∥₁_map h.say (λ s. subst (λ (n : ℕ). AllSay posted (length plan.realms.items) n said now (lists_at entries)) (sym count)
             (one_said posted (length plan.realms.items) (length realms) said slots now (lists_at entries) room (nobody_at entries long nobody) (λ number. ap (posts_at (length realms) number) unlent) (λ k less. let g = gains.seats k less in (g.poster, g.posted, g.slot)) s));
         kept = ∥∥₁_map h.kept (overs_longer realms after overs longer);
-        grants = subst (λ (l : List (Shown S)). All (λ r. HasGrants plan r) l) (sym e) (All-push (λ r. HasGrants plan r) realms realm h.grants grants);
+        began = subst (λ (l : List (Shown S)). All (λ r. IsBegunBy plan r) l) (sym e) (All-push (λ r. IsBegunBy plan r) realms realm h.began began);
       }
 
   -- a connection takes its seat
@@ -149,7 +149,7 @@ module _ {I O S : Type 0} where
             (subst (λ l. AllSay posted whole (length realms) (λ realm number. posts_at realm number overs) l (set (lists_at entries) number (Some posters))) (sym t.left)
             (seat_taken posted whole (length realms) number (λ realm number. posts_at realm number overs) slots (lists_at entries) t.were posters t.there (said_relabelled conn whole (length realms) (λ realm. posts_at realm (number + 1) overs) t.were posters t.relabels) s)))));
         kept = subst (λ (l : List (Over I O S)). ∥ All (λ o. OverKept realms o) l ∥₁) (sym k) h.kept;
-        grants = subst (λ (p : Snapshot Plan). All (λ r. HasGrants p.value r) realms) (sym e) h.grants;
+        began = subst (λ (p : Snapshot Plan). All (λ r. IsBegunBy p.value r) realms) (sym e) h.began;
       }
 
   -- or doesn't: its posters are put where they were
@@ -167,7 +167,7 @@ module _ {I O S : Type 0} where
         say = ∥∥₁_map h.say (λ s. subst (λ l. AllSay posted whole (length realms) said l (lists_at entries)) (sym put)
             (seat_back posted whole (length realms) number said said slots (lists_at entries) t.were posters t.there (λ i j other. refl) (said_relabelled conn whole (length realms) (λ realm. posts_at realm (number + 1) overs) t.were posters t.relabels) s));
         kept = h.kept;
-        grants = h.grants;
+        began = h.began;
       }
 
   -- a stream goes over, of which nothing has to be kept
@@ -179,7 +179,7 @@ module _ {I O S : Type 0} where
     say = subst (λ (p : Snapshot Plan). ∥ Said p.value realms slots same now ∥₁) (sym e) (subst (λ (l : List (Option (Connection I O S))). ∥ Said plan.value realms slots l now ∥₁) (sym f)
         (∥∥₁_map h.say (all_said posted (length plan.value.realms.items) (length realms) (λ realm number. posts_at realm number overs) (λ realm number. posts_at realm number now) slots (lists_at entries) (λ i number. posts_still i number overs now o g (nothing i number)))));
     kept = ∥∥₁_map h.kept (one_kept realms overs now o g kept);
-    grants = subst (λ (p : Snapshot Plan). All (λ r. HasGrants p.value r) realms) (sym e) h.grants;
+    began = subst (λ (p : Snapshot Plan). All (λ r. IsBegunBy p.value r) realms) (sym e) h.began;
   }
 
   -- as one that is let go of
@@ -237,7 +237,7 @@ module _ {I O S : Type 0} (see : Sight I O) where
             (seat_left posted whole (length realms) place said says slots (lists_at entries) were ended.posters.items held (λ i j other. posts_elsewhere (place + 1) (j + 1) i overs now began l.left l.over stood.1 (λ same. other (omega (arith, same))))
             (posters_say see whole (length realms) (place + 1) overs now began l.left ended l.over l.left_is l.reads stood.1) s)))));
         kept = ∥∥₁_map h.kept (seat_kept see realms after overs now began l.left ended l.over l.left_is l.reads stood.0 own t);
-        grants = subst (λ (p : Snapshot Plan). All (λ r. HasGrants p.value r) after) (sym e) (takes_grants plan.value realms after (seen_of ended.course) t h.grants);
+        began = subst (λ (p : Snapshot Plan). All (λ r. IsBegunBy p.value r) after) (sym e) (takes_began plan.value realms after (seen_of ended.course) t h.began);
       }
 
   -- a reader for which there was no thread gave back what it had
@@ -266,5 +266,5 @@ module _ {I O S : Type 0} (see : Sight I O) where
             (seat_back posted whole (length realms) number said says slots (lists_at entries) taken.were ended.posters.items taken.there (λ i j other. posts_elsewhere (number + 1) (j + 1) i overs now began left more own (λ same. other (omega (arith, same))))
             (λ w. posters_say see whole (length realms) (number + 1) overs now began left ended more shows reads own (subst (λ l. Say posted whole (length realms) (λ i. posts_at i (number + 1) overs) l) (sym is) (said_relabelled conn whole (length realms) (λ i. posts_at i (number + 1) overs) taken.were posters taken.relabels w))) s)))));
         kept = ∥∥₁_map h.kept (seat_kept see realms after overs now began left ended more shows reads home of t);
-        grants = subst (λ (p : Snapshot Plan). All (λ r. HasGrants p.value r) after) (sym e) (takes_grants plan.value realms after (seen_of ended.course) t h.grants);
+        began = subst (λ (p : Snapshot Plan). All (λ r. IsBegunBy p.value r) after) (sym e) (takes_began plan.value realms after (seen_of ended.course) t h.began);
       }

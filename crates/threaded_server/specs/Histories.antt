@@ -2,7 +2,9 @@
 use Rattle.std.specs.Prelude.{◌≡◌, ◌≤◌, ◌+◌, ℕ, true, false, List, [], ◌∷◌, ◌++◌, Option, Some, length, slice_get}
 use mathlib.Core.List.{IsPrefix}
 use Rattle.atomic_table.specs.Seated.{TableId}
-use Rattle.realm.specs.Grants.{Grants}
+use Rattle.broker_config.specs.declared.config.Config.{Config}
+use Rattle.broker_config.specs.declared.config.Ids.{Ids}
+use Rattle.realm.specs.Grants.{Grants, pairs_of}
 use Rattle.realm.specs.History.{History, begun, ◌▷◌}
 use Rattle.realm.specs.Sessions.{IsHistory, live}
 use Rattle.realm.specs.Yield.{owed}
@@ -15,6 +17,15 @@ use Rattle.realm_inbox.specs.declared.letter.Halt.{Halt}
 use Rattle.realm_inbox.specs.declared.letter.Letter.{Letter}
 use Rattle.realm_inbox.specs.declared.letter.Post.{Post}
 use Rattle.realm_inbox.specs.declared.letter.Post.TheVariants.{Act, Stop}
+use Rattle.threaded_server.specs.EntryWords.{HasWords}
+
+-- what each realm begins with: an empty history with these grants on, and ids of this kind
+pub record Start : Type 0 where
+  pub grants : Grants
+  pub ids : Ids
+
+abbrev pub start_of : Config → Start
+start_of config = record { grants = pairs_of config.grants.items; ids = config.ids }
 
 -- a realm: the chronicle of its history, that history, and what it received, the oldest first: what its inbox gave until it was emptied
 pub record Realm (S : Type 0) : Type 0 where
@@ -63,16 +74,17 @@ module _ {S : Type 0} where
 
   -- The history was made, from an empty one with these grants on, of what was received first: up to the first stop, and no further. Each post was the next of its seat; each entry could
   -- come when it came; and in the end nobody is live
-  pub record IsMade (grants : Grants) (received : List (Post S)) (h : History) : Type 0 where
+  pub record IsMade (start : Start) (received : List (Post S)) (h : History) : Type 0 where
     pub until : List (Post S)
     pub halt : Halt
     pub first : IsPrefix (until ++ Stop halt ∷ []) received
     pub no_stop : stops_of until ≡ 0
     pub in_order : InOrder [] (until ++ Stop halt ∷ [])
-    pub made : HandlesAll (begun grants) (until ++ Stop halt ∷ []) h
+    pub made : HandlesAll (begun start.grants) (until ++ Stop halt ∷ []) h
     pub legal : IsHistory h
     pub none_live : (c : ℕ) → live h c ≡ false
+    pub words : HasWords start.ids h
 
   -- a realm's history was made of what it received
-  abbrev pub IsRealm : Grants → Realm S → Type 0
-  IsRealm grants realm = IsMade grants realm.received realm.history
+  abbrev pub IsRealm : Start → Realm S → Type 0
+  IsRealm start realm = IsMade start realm.received realm.history

@@ -1,5 +1,6 @@
 pub mod Served
 pub mod Sessions
+pub mod EntryWords
 pub mod Histories
 pub mod SeatRules
 pub mod Answers

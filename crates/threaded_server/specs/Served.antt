@@ -7,14 +7,13 @@ use Rattle.broker_threads.specs.declared.stream_fate.SessionEnds.{SessionEnds}
 use Rattle.broker_threads.specs.declared.stream_fate.StreamFate.{StreamFate}
 use Rattle.broker_threads.specs.declared.stream_fate.StreamFate.TheVariants as fate
 use Rattle.connection.specs.declared.writer.WriteEnd.TheVariants.{Full, Stopped}
-use Rattle.realm.specs.Grants.{Grants}
 use Rattle.realm.specs.Yield.{owed}
 use Rattle.realm_inbox.specs.Seats.{at_seat}
 use Rattle.realm_inbox.specs.declared.act.Act.{Act}
 use Rattle.realm_inbox.specs.declared.joining.Joining.{Joining}
 use Rattle.session.specs.Opened.{Session}
 use Rattle.threaded_server.specs.Answers.{came_in}
-use Rattle.threaded_server.specs.Histories.{IsRealm, Realm}
+use Rattle.threaded_server.specs.Histories.{IsRealm, Realm, Start}
 use Rattle.threaded_server.specs.Lending.{Lending, Returned}
 use Rattle.threaded_server.specs.SeatRules.{AscendAtSeats, FoundNoSeat, IsTurnedAway}
 use Rattle.threaded_server.specs.Sessions.{IsWritten, Joins, SaysSome, halves}
@@ -74,7 +73,7 @@ module _ {I O S : Type 0} where
   ReceivedAll realms streams = (i k : ℕ) (realm : Realm S) → slice_get realms i ≡ Some realm → k < 256 → at_seat (k + 1) realm.received ≡ flat_map (λ s. posts_by i (k + 1) s s.conn) streams
 
 -- what was served between two states of an acceptor
-pub record Served {I O : Type 0} (S : Type 0) (see : Sight I O) (offer : Offer) (grants : Grants) (before now : List Answer) (was lending : Lending I O) : Type 0 where
+pub record Served {I O : Type 0} (S : Type 0) (see : Sight I O) (offer : Offer) (start : Start) (before now : List Answer) (was lending : Lending I O) : Type 0 where
   -- what accepting answered meanwhile: each stream that came was lent, or couldn't be taken apart, for want of memory
   pub given : List Answer
   pub answered : now ≡ before ++ given
@@ -91,7 +90,7 @@ pub record Served {I O : Type 0} (S : Type 0) (see : Sight I O) (offer : Offer) 
   -- each realm has its history, which was made of what it received. Where accepting was asked there are as many as names
   pub realms : List (Realm S)
   pub all_ran : given ≢ [] → length realms ≡ length offer.names
-  pub histories : All (λ realm. IsRealm grants realm) realms
+  pub histories : All (λ realm. IsRealm start realm) realms
   pub fates : All (λ s. IsFate see offer realms s s.back.fate) streams
   pub received : ReceivedAll realms streams
   -- one was told that no seat is free only where none was; and the numbers of connections ascend at each seat, so no two had one number

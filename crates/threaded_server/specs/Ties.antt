@@ -1,15 +1,17 @@
 -- What a session was written, and the history of its realm.
-use Rattle.std.specs.Prelude.{◌≡◌, ◌≤◌, ⊤, ℕ, List, Option, None, Some, Contains, length, slice_get}
+use Rattle.std.specs.Prelude.{◌≡◌, ◌≤◌, ⊤, ℕ, List, [], Option, None, Some, Contains, length, slice_get}
 use mathlib.Core.List.{IsPrefix}
 use Rattle.connection.specs.declared.writer.WriteEnd.TheVariants.{Stopped, Full}
 use Rattle.outbox_queue.specs.Ends.{Owes, TookFull, TookWhole, newest}
 use Rattle.outbox_queue.specs.Tied.{Kept}
-use Rattle.realm.specs.Grants.{Grants, pairs_of}
 use Rattle.realm.specs.History.{History, begun}
 use Rattle.realm.specs.Yield.{owed}
 use Rattle.realm_inbox.specs.EndViews.{inbox_of, inbox_of_poster, received}
 use Rattle.realm_inbox.specs.declared.ends.Poster.{Poster}
 use Rattle.broker_threads.specs.Acts.{Acts}
+use Rattle.broker_threads.specs.Words.{are_counted}
+use Rattle.broker_threads.specs.declared.actor_thread.ActorThread.{ActorThread}
+use Rattle.threaded_server.specs.Histories.{Start, start_of}
 use Rattle.threaded_server.specs.Realms.{Shown, inbox_in}
 use Rattle.wamp_messages.specs.declared.item.Item.{Item}
 use Rattle.broker_threads.specs.Writes.{over_kept, owed_kept}
@@ -83,12 +85,17 @@ module _ {I O S : Type 0} where
   OverTied runs (Untouched halves) = ⊤
 
 module _ {S : Type 0} where
-  -- nothing has entered a realm yet, which has the grants of the plan's configuration
-  abbrev pub HasGrants : Plan → Shown S → Type 0
-  HasGrants plan realm = realm.work.kept ≡ begun (pairs_of plan.config.value.grants.items)
+  -- a realm's actor begins so: nothing has entered, and no word is drawn
+  pub record IsBegun (start : Start) (work : ActorThread S) : Type 0 where
+    pub history : work.kept ≡ begun start.grants
+    pub words : work.words ≡ record { is_counting = are_counted start.ids; given = [] }
 
-  -- a realm ran, from an empty history with these grants on, and then its inbox was emptied
-  pub record IsRun (grants : Grants) (run : RealmRun S) : Type 0 where
-    pub begins : run.began.value.kept ≡ begun grants
+  -- as the plan's configuration asks for
+  abbrev pub IsBegunBy : Plan → Shown S → Type 0
+  IsBegunBy plan realm = IsBegun (start_of plan.config.value) realm.work
+
+  -- a realm began so and ran, and then its inbox was emptied
+  pub record IsRun (start : Start) (run : RealmRun S) : Type 0 where
+    pub begins : IsBegun start run.began.value
     pub acts : Acts run.began.value run.ended.value
     pub more : IsPrefix (received run.ended.value.inbox) (received run.inbox.value)

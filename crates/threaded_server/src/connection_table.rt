@@ -4,13 +4,13 @@ ghost use Rattle.std.specs.Prelude.{◌≡◌, ◌<◌, ◌+◌, ℕ, [], ◌∷
 ghost use Rattle.threaded_server.specs.Seats.{free_at, given_back};
 ghost use Rattle.ghost_state.specs.GhostList.{items_of};
 ghost use Rattle.message_tree.specs.Code.{data_code, entries_code};
-ghost use Rattle.realm.specs.Grants.{pairs_of};
 ghost use Rattle.realm.specs.body.HistoryCode.{history_code};
 ghost use Rattle.std.specs.Arc.{arc_value};
 ghost use Rattle.realm_inbox.specs.EndViews.{AreNewSeats, inbox_of, posted};
 ghost use Rattle.threaded_server.specs.Conns.{Numbered, conns_of};
 ghost use Rattle.broker_threads.specs.Courses.{fate_of, seen_of, sink_of};
 ghost use Rattle.threaded_server.specs.SeatRules.{AscendAtSeats, TellsRefusal};
+ghost use Rattle.threaded_server.specs.Histories.{start_of};
 ghost use Rattle.threaded_server.specs.Overs.{AllWent, GoesOver};
 ghost use Rattle.threaded_server.specs.Posters.{Stand, lists_at, lists_of};
 ghost use Rattle.threaded_server.specs.Posts.{AllSay, ReceivedPosted, posts_at};
@@ -19,7 +19,7 @@ ghost use Rattle.threaded_server.specs.Seating.{AreSeated};
 ghost use Rattle.broker_threads.specs.Streams.{offer_of, sight};
 ghost use Rattle.threaded_server.specs.Table.{IsUnused};
 ghost use Rattle.threaded_server.specs.TrailCode.{trail_code};
-ghost use Rattle.threaded_server.specs.Ties.{HasGrants, IsRun, OverKept, OverTied};
+ghost use Rattle.threaded_server.specs.Ties.{IsBegunBy, IsRun, OverKept, OverTied};
 
 use crate::acceptor::Parts;
 use crate::over::{Gone, Over};
@@ -80,7 +80,7 @@ pub struct ConnectionTable<
     ghost seated: { AreSeated seats roster.entries.items (items_of roster.lent) },
     ghost kept: { ∥ All (λ over. OverKept (realms_of realms) over)
         (items_of roster.over.streams) ∥₁ },
-    ghost grants: { All (λ realm. HasGrants roster.over.plan.value realm) (realms_of realms) }
+    ghost began: { All (λ realm. IsBegunBy roster.over.plan.value realm) (realms_of realms) }
         by { Prim.hlevel (codes, history_code, data_code, entries_code, trail_code) },
 }
 
@@ -169,7 +169,7 @@ impl<
             < length self.old.roster.over.plan.value.realms.items }
         requires unused { IsUnused self.old.roster.entries.items
             (items_of self.old.roster.over.streams) }
-        requires grants { HasGrants self.old.roster.over.plan.value (shown handle) }
+        requires began { IsBegunBy self.old.roster.over.plan.value (shown handle) }
         requires count { length seats.items ≡ 256 }
         requires seats { AreNewSeats (inbox_of (shown handle).work.inbox) seats.items }
         ensures roster { self.new.roster ≡ self.old.roster }
@@ -198,7 +198,7 @@ impl<
     pub fn finish<R: Threads + Wait>(self, rt: &R) -> GhostList<RealmRun<S>>
         requires { All (λ slot. slot ≡ None) self.roster.entries.items }
         ensures runs { All
-            (λ run. IsRun (pairs_of self.roster.over.plan.value.config.value.grants.items) run)
+            (λ run. IsRun (start_of self.roster.over.plan.value.config.value) run)
             (items_of result) }
         ensures realms { length (items_of result) ≡ length (realms_of self.realms) }
         ensures received { ∥ ReceivedPosted (items_of result)

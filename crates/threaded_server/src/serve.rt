@@ -4,6 +4,7 @@ ghost use Rattle.ghost_state.specs.GhostList.{items_of};
 ghost use Rattle.realm.specs.Grants.{pairs_of};
 ghost use Rattle.realm.specs.History.{begun};
 ghost use Rattle.threaded_server.specs.Answers.{Serves};
+ghost use Rattle.threaded_server.specs.Histories.{start_of};
 ghost use Rattle.threaded_server.specs.Lending.{returned, with_returned};
 ghost use Rattle.threaded_server.specs.Overs.{GoesOver, Moves};
 ghost use Rattle.threaded_server.specs.Realms.{realms_of};
@@ -65,7 +66,7 @@ pub fn serve_on<
     ensures answers { Serves (A.answers acceptor.old) (A.answers acceptor.new) result }
     ensures streams { ∥ Served (Marked A.Shut)
         (sight A.Source.seen A.Sink.seen)
-        (offer config.now.realms.items config.now.outbox) (pairs_of config.now.grants.items)
+        (offer config.now.realms.items config.now.outbox) (start_of config.now)
         (A.answers acceptor.old) (A.answers acceptor.new) (A.lending acceptor.old)
         (A.lending acceptor.new) ∥₁ }
 {
@@ -86,7 +87,7 @@ pub fn serve_logged<
     ensures answers { Serves (A.answers acceptor.old) (A.answers acceptor.new) result }
     ensures streams { ∥ Served (Marked A.Shut)
         (sight A.Source.seen A.Sink.seen)
-        (offer config.now.realms.items config.now.outbox) (pairs_of config.now.grants.items)
+        (offer config.now.realms.items config.now.outbox) (start_of config.now)
         (A.answers acceptor.old) (A.answers acceptor.new) (A.lending acceptor.old)
         (A.lending acceptor.new) ∥₁ }
 {
@@ -115,8 +116,7 @@ pub fn serve_within<
     ensures answers { Serves (A.answers acceptor.old) (A.answers acceptor.new) result }
     ensures streams { ∥ Served (Marked A.Shut)
         (sight A.Source.seen A.Sink.seen)
-        (offer_within bound config.now.realms.items config.now.outbox)
-        (pairs_of config.now.grants.items)
+        (offer_within bound config.now.realms.items config.now.outbox) (start_of config.now)
         (A.answers acceptor.old) (A.answers acceptor.new) (A.lending acceptor.old)
         (A.lending acceptor.new) ∥₁ }
 {

@@ -1,9 +1,9 @@
 -- What a broker served, as its accepting thread knows it.
 use Rattle.std.specs.Prelude.{◌≡◌, ◌≢◌, ◌+◌, ℕ, List, [], ◌++◌, Result, All, length, map}
-use Rattle.realm.specs.Grants.{Grants}
 use Rattle.threaded_server.specs.Answers.{Serves, came_in}
 use Rattle.threaded_server.specs.SeatRules.{AscendAtSeats}
 use Rattle.threaded_server.specs.Conns.{conns_of}
+use Rattle.threaded_server.specs.Histories.{Start}
 use Rattle.threaded_server.specs.Lending.{Lending}
 use Rattle.threaded_server.specs.Overs.{AllWent, Books, Moves, after_of, before_of}
 use Rattle.threaded_server.specs.Posts.{ReceivedPosted}
@@ -21,7 +21,7 @@ module _ {I O S : Type 0} where
     pub moves : Moves (came_in serves.given) was lending had has
 
 -- what was served between two states of an acceptor, in parts: by what each reader's thread, each writer's and each actor's was given, and gave back
-pub record ServedInParts {I O : Type 0} (S : Type 0) (see : Sight I O) (offer : Offer) (grants : Grants) (before now : List Answer) (was lending : Lending I O) : Type 0 where
+pub record ServedInParts {I O : Type 0} (S : Type 0) (see : Sight I O) (offer : Offer) (start : Start) (before now : List Answer) (was lending : Lending I O) : Type 0 where
   -- what accepting answered meanwhile
   pub given : List Answer
   pub answered : now ≡ before ++ given
@@ -40,10 +40,10 @@ pub record ServedInParts {I O : Type 0} (S : Type 0) (see : Sight I O) (offer : 
   pub own : All (λ over. ∥ KeepsNames see (before_of over) ((after_of over).source, (after_of over).sink) ∥₁) streams
   -- the numbers of connections ascend at each seat, so no two had one number
   pub ascend : AscendAtSeats (conns_of streams)
-  -- each realm that serves a session ran, from an empty history with these grants on; where accepting was asked, as many ran as have names
+  -- each realm that serves a session ran, and began so; where accepting was asked, as many ran as have names
   pub runs : List (RealmRun S)
   pub all_ran : given ≢ [] → length runs ≡ length offer.names
-  pub each_ran : All (λ run. IsRun grants run) runs
+  pub each_ran : All (λ run. IsRun start run) runs
   -- what a realm received of a seat is what the streams posted there
   pub received : ∥ ReceivedPosted runs streams ∥₁
   -- what a session's writer took begins what the one history of the realm that its HELLO names owes its connection, and is all of that where it stopped; where its outbox was found

@@ -1,5 +1,6 @@
 use Rattle.std.proofs.Common.{refl, sym, append-nil}
 use Rattle.realm_actor.proofs.AppliedActs.{enters_said, enters_silently}
+use Rattle.realm_actor.proofs.WordSteps.{none_more}
 use Rattle.realm_actor.proofs.entries.entry_of.Goals as goal
 
 pub returns-then-says_with_word : goal.returns-then-says_with_word
@@ -9,7 +10,7 @@ pub returns-else-says_with_word : goal.returns-else-says_with_word
 returns-else-says_with_word g c = rw c.in-Said.is (enters_silently g.row.S.Denot c.args.conn c.in-Said.said (sym c.if-says_with_word.ensures) _)
 
 pub returns-in-Ping : goal.returns-in-Ping
-returns-in-Ping g c = rw c.in-Ping.is (0, refl, sym (append-nil (g.W.IdSource.given c.args.words.now)))
+returns-in-Ping g c = rw c.in-Ping.is (0, refl, sym (none_more (g.W.IdSource.given c.args.words.now)))
 
 pub returns-in-Spoilt : goal.returns-in-Spoilt
 returns-in-Spoilt g c = rw c.in-Spoilt.is (c.next_word-word-in-Spoilt.result, refl, c.next_word-word-in-Spoilt.ensures)

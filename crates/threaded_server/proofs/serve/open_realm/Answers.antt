@@ -1,11 +1,15 @@
-use Rattle.std.proofs.Common.{sym, ap, ◌∙◌, subst}
+use Rattle.std.proofs.Common.{[], sym, ap, ◌∙◌, subst}
 use Rattle.realm.specs.Grants.{pairs_of}
+use Rattle.broker_threads.specs.Words.{are_counted}
 use Rattle.realm.specs.History.{begun, grants_of}
 use Rattle.realm_inbox.specs.EndViews.{AreNewSeats, inbox_of}
 use Rattle.threaded_server.proofs.serve.open_realm.Goals as goal
 
-pub add_realm-requires-clause-grants : goal.add_realm-requires-clause-grants
-add_realm-requires-clause-grants g c κs within = ap (λ r. r.work.kept) c.in_ok-handle.ensures ∙ c.in_ok-new_realm.ensures ∙ ap (λ k. begun (pairs_of k.grants.items)) (sym c.requires.config)
+pub add_realm-requires-clause-began : goal.add_realm-requires-clause-began
+add_realm-requires-clause-began g c κs within = record {
+  history = ap (λ r. r.work.kept) c.in_ok-handle.ensures ∙ c.in_ok-new_realm.ensures ∙ ap (λ k. begun (pairs_of k.grants.items)) (sym c.requires.config);
+  words = ap (λ r. r.work.words) c.in_ok-handle.ensures ∙ c.in-Ok.ensures ∙ ap (λ k. record { is_counting = are_counted k.ids; given = [] }) (sym c.requires.config);
+}
 
 -- unchecked: the goal's name is a guess
 pub invariant_of-work-clause-empty : goal.invariant_of-work-clause-empty

@@ -1,7 +1,7 @@
 use Rattle.std.proofs.Common.{ap, ◌∙◌}
 use Rattle.ghost_state.specs.GhostList.{items_of}
 use Rattle.broker_threads.specs.Streams.{offer_of, offer_within}
-use Rattle.realm.specs.Grants.{pairs_of}
+use Rattle.threaded_server.specs.Histories.{start_of}
 use Rattle.threaded_server.proofs.ServeSteps.{nothing_served, served}
 use Rattle.threaded_server.proofs.serve.serve_within.Goals as goal
 
@@ -12,9 +12,9 @@ returns-clause-streams g c =
     let plan = c.in_ok-plan.plan in
     let room = plan.room ∙ ap (λ k. k.outbox) c.in_ok-plan.ensures.config in
     let same = ap (λ p. offer_of p.value) still ∙ ap offer_of made.plan ∙ (λ i. offer_within (c.in_ok-plan.ensures.bound i) (c.in_ok-plan.ensures.realms i) (room i)) in
-    let grants = ap (λ p. pairs_of p.value.config.value.grants.items) still ∙ ap (λ p. pairs_of p.config.value.grants.items) made.plan ∙ ap (λ k. pairs_of k.grants.items) c.in_ok-plan.ensures.config in
+    let start = ap (λ p. start_of p.value.config.value) still ∙ ap (λ p. start_of p.config.value) made.plan ∙ ap start_of c.in_ok-plan.ensures.config in
     let ends = c.finish.ensures in
-    served _ _ _ _ _ (items_of c.finish.result) _ _ _ _ _ _ _ _ _ _ made.lent made.unused.nothing c.open_and_accept-served.ensures.lent c.close.ensures.answers c.close.ensures.moves same grants ends.went ends.runs (λ asked. ends.realms ∙ c.close.ensures.realms ∙ c.open_and_accept-served.ensures.realms asked) ends.ascend ends.received ends.tied
+    served _ _ _ _ _ (items_of c.finish.result) _ _ _ _ _ _ _ _ _ _ made.lent made.unused.nothing c.open_and_accept-served.ensures.lent c.close.ensures.answers c.close.ensures.moves same start ends.went ends.runs (λ asked. ends.realms ∙ c.close.ensures.realms ∙ c.open_and_accept-served.ensures.realms asked) ends.ascend ends.received ends.tied
 
 pub returns-in_err-plan-clause-streams : goal.returns-in_err-plan-clause-streams
 returns-in_err-plan-clause-streams g c = nothing_served _ _ _ _ _

@@ -10,6 +10,7 @@ use Rattle.realm_actor.specs.Cuts.{NoneFull}
 use Rattle.realm_actor.proofs.AppliedActs.{loses_early, loses_join, applies_join}
 use Rattle.realm_actor.proofs.LastCutLemmas.{insert_length, length_all}
 use Rattle.realm_actor.proofs.TableInvariant.{keeps_rest, keeps_on}
+use Rattle.realm_actor.specs.Words.{◌⊕◌}
 use Rattle.realm_actor.proofs.state.ActorState.join.Goals as goal
 
 pub admit-requires-clause-sound : goal.admit-requires-clause-sound
@@ -33,7 +34,7 @@ returns-in-Err-clause-outcome g c =
     let may : may_join old.history c.args.conn ≡ true = sym c.may_join.ensures ∙ c.if-not-may_join.false in
     let same = c.in-Err.ensures.err in
     loses_join c.args.conn c.args.joining old (record { history = admit.realm; rows = admit.rows.items; words = g.W.IdSource.given c.next_word-word.new.self }) c.next_word-word.result may
-    (ap (λ t. t.realm) same ∙ m.realm) (ap (λ t. t.rows.items) same ∙ m.rows) (c.next_word-word.ensures ∙ ap (λ w. g.W.IdSource.given w ++ c.next_word-word.result ∷ []) m.words)
+    (ap (λ t. t.realm) same ∙ m.realm) (ap (λ t. t.rows.items) same ∙ m.rows) (c.next_word-word.ensures ∙ ap (λ w. g.W.IdSource.given w ⊕ (c.next_word-word.result ∷ [])) m.words)
 
 pub returns-in-Ok-clause-outcome : goal.returns-in-Ok-clause-outcome
 returns-in-Ok-clause-outcome g c =
@@ -44,7 +45,7 @@ returns-in-Ok-clause-outcome g c =
     let cuts = c.cut_found.ensures.cuts in
     applies_join c.args.conn c.args.joining old (record { history = cut.realm; rows = cut.rows.items; words = g.W.IdSource.given c.cut_found.new.words }) c.make_room.new.self.table.rows.items (standing c.admit.new.self)
     c.new-row.result admitted.rows.0 c.next_word-word.result (g.W.IdSource.given c.next_word-word.new.self) cuts.0
-    m.rows admitted.rows.1 (admitted.history ∙ ap (λ h. h ▷ Join c.args.conn c.next_word-word.result c.args.joining.authid) m.realm) admitted.sound cuts.1 c.cut_found.ensures.none (c.next_word-word.ensures ∙ ap (λ w. g.W.IdSource.given w ++ c.next_word-word.result ∷ []) m.words) cuts.2 c.new-row.ensures.conn c.new-row.ensures.outbox c.new-row.ensures.is_cut c.new-row.ensures.is_lost (c.shows.ensures.finds c.args.joining.empty)
+    m.rows admitted.rows.1 (admitted.history ∙ ap (λ h. h ▷ Join c.args.conn c.next_word-word.result c.args.joining.authid) m.realm) admitted.sound cuts.1 c.cut_found.ensures.none (c.next_word-word.ensures ∙ ap (λ w. g.W.IdSource.given w ⊕ (c.next_word-word.result ∷ [])) m.words) cuts.2 c.new-row.ensures.conn c.new-row.ensures.outbox c.new-row.ensures.is_cut c.new-row.ensures.is_lost (c.shows.ensures.finds c.args.joining.empty)
 
 pub returns-in-Err-clause-room : goal.returns-in-Err-clause-room
 returns-in-Err-clause-room g c = λ before.

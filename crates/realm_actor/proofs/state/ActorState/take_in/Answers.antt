@@ -3,6 +3,7 @@ use Rattle.realm_actor.specs.Tables.{standing, EachMarked}
 use Rattle.realm_actor.specs.Cuts.{Accepted}
 use Rattle.realm_actor.proofs.FoundFull.{ready_live}
 use Rattle.realm_actor.proofs.TableInvariant.{keeps_on}
+use Rattle.realm_actor.specs.Words.{◌⊕◌}
 use Rattle.realm_actor.proofs.state.ActorState.take_in.Goals as goal
 
 pub accept-requires-clause-ready : goal.accept-requires-clause-ready
@@ -20,7 +21,7 @@ returns-in-Err-clause-outcome g c =
       t.4,
       subst (λ x. EachMarked c.args.conn x.rows.items t.3) same t.5,
       subst (λ x. Accepted (record (standing x) { rows = t.3 }) t.2 t.1 (standing c.lose.new.self)) same t.6,
-      t.7 ∙ ap (λ w. g.W.IdSource.given w ++ t.0 ∷ t.1) c.in-Err.ensures.words,
+      t.7 ∙ ap (λ w. g.W.IdSource.given w ⊕ (t.0 ∷ t.1)) c.in-Err.ensures.words,
     )
 
 pub returns-in-Ok-clause-keeps : goal.returns-in-Ok-clause-keeps

@@ -3,10 +3,12 @@ use Rattle.realm_actor.specs.Rows.{Ascending}
 use Rattle.realm_actor.specs.Cuts.{none, one_more, IsLeastFull}
 use Rattle.realm_actor.proofs.FoundFull.{full_live}
 use Rattle.realm_actor.proofs.TableInvariant.{keeps_none, keeps_on}
+use Rattle.realm_actor.specs.Words.{◌⊕◌}
+use Rattle.realm_actor.proofs.WordSteps.{more_on, none_more}
 use Rattle.realm_actor.proofs.table.Table.cut_full.Goals as goal
 
 pub loop-init : goal.loop-init
-loop-init g c = ((tt, tt), ([], none, sym (append-nil (g.W.IdSource.given c.args.words.now))), c.requires, keeps_none c.args.self.now)
+loop-init g c = ((tt, tt), ([], none, sym (none_more (g.W.IdSource.given c.args.words.now))), c.requires, keeps_none c.args.self.now)
 
 pub loop-preserved : goal.loop-preserved
 loop-preserved g c =
@@ -20,7 +22,7 @@ loop-preserved g c =
       (
         so_far.0 ++ word ∷ [],
         one_more conn word so_far.1 i.2 least entered.1 entered.2 c.cut.ensures.rows,
-        c.next_word-word.ensures ∙ ap (λ l. l ++ word ∷ []) so_far.2 ∙ append_assoc (g.W.IdSource.given c.args.words.now) so_far.0 (word ∷ []),
+        c.next_word-word.ensures ∙ ap (λ l. l ⊕ (word ∷ [])) so_far.2 ∙ more_on (g.W.IdSource.given c.args.words.now) so_far.0 (word ∷ []),
       ),
       c.cut.ensures.sound,
       keeps_on i.3 c.cut.ensures.keeps,

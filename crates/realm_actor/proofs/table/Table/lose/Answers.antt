@@ -5,6 +5,8 @@ use Rattle.realm_actor.specs.Tables.{standing, Sound}
 use Rattle.realm_actor.specs.Cuts.{Cuts}
 use Rattle.realm_actor.proofs.HandleLemmas.{sound_same, same_marked}
 use Rattle.realm_actor.proofs.TableInvariant.{keeps_on}
+use Rattle.realm_actor.specs.Words.{◌⊕◌}
+use Rattle.realm_actor.proofs.WordSteps.{more_on}
 use Rattle.realm_actor.proofs.table.Table.lose.Goals as goal
 
 pub cut-requires-clause-sound : goal.cut-requires-clause-sound
@@ -37,7 +39,7 @@ returns-clause-lost g c =
         cuts = subst (λ h. Cuts (record { history = h; rows = c.cut.new.self.rows.items }) cuts.0 (standing news)) is cuts.1;
         none_full = c.cut_full.ensures.none;
       },
-      cuts.2 ∙ ap (λ l. l ++ cuts.0) c.next_word-word.ensures ∙ append_assoc (g.W.IdSource.given c.args.words.now) (word ∷ []) cuts.0,
+      cuts.2 ∙ ap (λ l. l ⊕ cuts.0) c.next_word-word.ensures ∙ more_on (g.W.IdSource.given c.args.words.now) (word ∷ []) cuts.0,
     )
 
 pub shut_transport-requires : goal.shut_transport-requires

@@ -28,7 +28,7 @@ invariant_of-self g c =
       numbered = took_numbered table.seats c.take.new.self c.take.result table.roster.entries.items (items_of table.roster.over.streams) c.take.ensures.ok c.take.ensures.err table.numbered;
       seated = still_seated table.seats c.take.new.self table.roster.entries.items table.roster.entries.items (items_of table.roster.lent) (items_of table.roster.lent) c.in_default.ensures.err refl refl table.seated;
       kept = table.kept;
-      grants = table.grants;
+      began = table.began;
     }
 
 pub turn_away-requires-clause-full : goal.turn_away-requires-clause-full
@@ -53,7 +53,7 @@ invariant_of-self-in-Runs g c =
     let conn = c.in-Ok.conn in
     let number = taken_numbered table.seats c.take.new.self c.in-Ok.conn table.roster.entries.items (items_of table.roster.over.streams) c.in-Ok.ensures.ok table.numbered in
     let s = seat_standing table.roster.over.plan c.seat.new.self.over.plan (realms_of table.realms) conn c.take-posters.result.items (lists_of table.posters) (lists_of c.take-posters.new.self) table.roster.entries.items c.seat.new.self.entries.items (items_of table.roster.over.streams)
-    (items_of c.seat.new.self.over.streams) c.seat_index-place.result c.in-Runs.entry c.take-posters.ensures c.seat_index-place.ensures c.in-Runs.ensures.1.posts c.seat.ensures.plan c.seat.ensures.entries c.seat.ensures.over (record { free = table.free; served = table.served; say = table.say; kept = table.kept; grants = table.grants }) in
+    (items_of c.seat.new.self.over.streams) c.seat_index-place.result c.in-Runs.entry c.take-posters.ensures c.seat_index-place.ensures c.in-Runs.ensures.1.posts c.seat.ensures.plan c.seat.ensures.entries c.seat.ensures.over (record { free = table.free; served = table.served; say = table.say; kept = table.kept; began = table.began }) in
     record {
       same = table.same ∙ ap (λ p. p.value) (sym c.seat.ensures.plan);
       free = s.free;
@@ -64,7 +64,7 @@ invariant_of-self-in-Runs g c =
       seated = seat_given table.seats c.take.new.self conn table.roster.entries.items c.seat.new.self.entries.items (items_of table.roster.lent) (items_of c.seat.new.self.lent) (halves_of c.in-Runs.entry) c.seat_index-place.result c.in-Runs.entry table.numbered.long c.in-Ok.ensures.ok c.seat_index-place.ensures
           c.in-Runs.ensures.1.number c.seat.ensures.entries c.seat.ensures.lent table.seated;
       kept = s.kept;
-      grants = s.grants;
+      began = s.began;
     }
 
 pub pass-requires-clause-halves : goal.pass-requires-clause-halves
@@ -97,7 +97,7 @@ invariant_of-self-in-Ended g c =
     let same = ap (λ v. v.items) c.pass.ensures.entries in
     let s = ended_standing (sight g.I.Source.seen g.O.Sink.seen) table.roster.over.plan c.pass.new.self.over.plan (realms_of table.realms) (realms_of c.take_in-gone.new.realms) conn c.take-posters.result.items (lists_of table.posters) (lists_of c.take-posters.new.self) (lists_of c.take_in-gone.new.posters)
     table.roster.entries.items c.pass.new.self.entries.items (items_of table.roster.over.streams) (items_of c.pass.new.self.over.streams) c.seat_index-place.result c.in-Ended.began c.of.result c.in-Ended.ended c.of-in-Ended.result.value c.take-posters.ensures c.seat_index-place.ensures
-    c.in-Ended.ensures.1.number c.in-Ended.ensures.1.posts c.pass.ensures.plan same c.pass.ensures.over c.of-in-Ended.ensures c.of.ensures c.in-Ended.ensures.2 c.take_in-gone.ensures.realms c.take_in-gone.ensures.posters (record { free = table.free; served = table.served; say = table.say; kept = table.kept; grants = table.grants }) in
+    c.in-Ended.ensures.1.number c.in-Ended.ensures.1.posts c.pass.ensures.plan same c.pass.ensures.over c.of-in-Ended.ensures c.of.ensures c.in-Ended.ensures.2 c.take_in-gone.ensures.realms c.take_in-gone.ensures.posters (record { free = table.free; served = table.served; say = table.say; kept = table.kept; began = table.began }) in
     record {
       same = table.same ∙ ap (λ p. p.value) (sym c.pass.ensures.plan);
       free = s.free;
@@ -108,7 +108,7 @@ invariant_of-self-in-Ended g c =
           c.pass.ensures.over c.of-in-Ended.ensures c.in-Ended.ensures.1.number number.1 number.0);
       seated = seat_kept table.seats c.take.new.self c.vacate.new.seats conn table.roster.entries.items c.pass.new.self.entries.items (items_of table.roster.lent) (items_of c.pass.new.self.lent) c.in-Ended.halves.value table.numbered.long c.in-Ok.ensures.ok c.vacate.ensures same c.pass.ensures.lent table.seated;
       kept = s.kept;
-      grants = s.grants;
+      began = s.began;
     }
 
 pub invariant_of-self-in-Refused : goal.invariant_of-self-in-Refused
@@ -118,7 +118,7 @@ invariant_of-self-in-Refused g c =
     let number = taken_numbered table.seats c.take.new.self c.in-Ok.conn table.roster.entries.items (items_of table.roster.over.streams) c.in-Ok.ensures.ok table.numbered in
     let same = ap (λ v. v.items) c.let_go-gone.ensures.entries in
     let b = back_standing table.roster.over.plan.value (realms_of table.realms) conn c.take-posters.result.items c.in-Refused.posters.items (lists_of table.posters) (lists_of c.take-posters.new.self) (lists_of c.put.new.self) table.roster.entries.items (items_of table.roster.over.streams) c.seat_index-place.result
-    c.take-posters.ensures c.seat_index-place.ensures c.in-Refused.ensures.1 c.put.ensures (record { free = table.free; served = table.served; say = table.say; kept = table.kept; grants = table.grants }) in
+    c.take-posters.ensures c.seat_index-place.ensures c.in-Refused.ensures.1 c.put.ensures (record { free = table.free; served = table.served; say = table.say; kept = table.kept; began = table.began }) in
     let s = untouched_standing table.roster.over.plan c.let_go-gone.new.self.over.plan (realms_of table.realms) (lists_of c.put.new.self) table.roster.entries.items c.let_go-gone.new.self.entries.items (items_of table.roster.over.streams) (items_of c.let_go-gone.new.self.over.streams) c.in-Refused.halves
     c.let_go-gone.ensures.plan same c.let_go-gone.ensures.over b in
     record {
@@ -130,7 +130,7 @@ invariant_of-self-in-Refused g c =
           (over_numbered c.take.new.self table.roster.entries.items c.let_go-gone.new.self.entries.items (items_of table.roster.over.streams) (items_of c.let_go-gone.new.self.over.streams) (Untouched c.let_go-gone.ensures.over.shown) same c.let_go-gone.ensures.over.added refl number.0);
       seated = seat_kept table.seats c.take.new.self c.vacate-in-Refused.new.seats conn table.roster.entries.items c.let_go-gone.new.self.entries.items (items_of table.roster.lent) (items_of c.let_go-gone.new.self.lent) c.in-Refused.halves table.numbered.long c.in-Ok.ensures.ok c.vacate-in-Refused.ensures same c.let_go-gone.ensures.lent table.seated;
       kept = s.kept;
-      grants = s.grants;
+      began = s.began;
     }
 
 pub returns-in-Runs-clause-lent : goal.returns-in-Runs-clause-lent

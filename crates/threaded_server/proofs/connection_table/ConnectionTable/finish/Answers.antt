@@ -1,7 +1,7 @@
 use Rattle.std.proofs.Common.{length, sym}
 use Rattle.std.proofs.Math.Logic.{∥∥₁_map}
 use Rattle.ghost_state.specs.GhostList.{items_of}
-use Rattle.realm.specs.Grants.{pairs_of}
+use Rattle.threaded_server.specs.Histories.{start_of}
 use Rattle.threaded_server.proofs.RunSteps.{all_ran, all_tied, nobody_there, ran_long, received_posted}
 use Rattle.threaded_server.specs.Posters.{lists_at, lists_of}
 use Rattle.threaded_server.specs.Realms.{realms_of}
@@ -11,7 +11,7 @@ pub join-requires-after_bounds : goal.join-requires-after_bounds
 join-requires-after_bounds g c κs within = c.args.self.free
 
 pub returns-clause-runs : goal.returns-clause-runs
-returns-clause-runs g c = all_ran (pairs_of c.args.self.roster.over.plan.value.config.value.grants.items) (realms_of c.args.self.realms) (items_of c.join.result) c.join.ensures.runs c.args.self.grants
+returns-clause-runs g c = all_ran (start_of c.args.self.roster.over.plan.value.config.value) (realms_of c.args.self.realms) (items_of c.join.result) c.join.ensures.runs c.args.self.began
 
 pub returns-clause-realms : goal.returns-clause-realms
 returns-clause-realms g c = sym (ran_long (realms_of c.args.self.realms) (items_of c.join.result) c.join.ensures.runs)

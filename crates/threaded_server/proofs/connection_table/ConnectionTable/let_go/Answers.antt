@@ -18,7 +18,7 @@ invariant_of-self g c =
     let table = c.args.self.now in
     let same = ap (λ v. v.items) c.let_go.ensures.entries in
     let s = untouched_standing table.roster.over.plan c.let_go.new.self.over.plan (realms_of table.realms) (lists_of table.posters) table.roster.entries.items c.let_go.new.self.entries.items (items_of table.roster.over.streams) (items_of c.let_go.new.self.over.streams) c.args.halves
-    c.let_go.ensures.plan same c.let_go.ensures.over (record { free = table.free; served = table.served; say = table.say; kept = table.kept; grants = table.grants }) in
+    c.let_go.ensures.plan same c.let_go.ensures.over (record { free = table.free; served = table.served; say = table.say; kept = table.kept; began = table.began }) in
     record {
       same = table.same ∙ ap (λ p. p.value) (sym c.let_go.ensures.plan);
       free = s.free;
@@ -27,5 +27,5 @@ invariant_of-self g c =
       numbered = over_numbered table.seats table.roster.entries.items c.let_go.new.self.entries.items (items_of table.roster.over.streams) (items_of c.let_go.new.self.over.streams) (Untouched c.let_go.ensures.over.shown) same c.let_go.ensures.over.added refl table.numbered;
       seated = more_lent table.seats table.roster.entries.items c.let_go.new.self.entries.items (items_of table.roster.lent) (items_of c.let_go.new.self.lent) c.args.halves same c.let_go.ensures.lent table.seated;
       kept = s.kept;
-      grants = s.grants;
+      began = s.began;
     }

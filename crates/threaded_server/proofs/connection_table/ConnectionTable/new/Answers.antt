@@ -16,4 +16,4 @@ invariant_of-result g c =
     let zero : ℕ = 0 in
     let given : length c.new-6.result.given ≡ 256 = ap (λ t. length t.given) c.new-6.ensures ∙ length-replicate 256 zero in
     let s = none_yet roster.over.plan.value (realms_of c.in_ok-realms.realms) (lists_of c.in_ok-posters.posters) roster.entries.items (items_of roster.over.streams) c.in_ok-realms.ensures plain c.in_ok-roster.ensures.long c.in_ok-roster.ensures.none c.in_ok-roster.ensures.over in
-    record { same = search rules; free = s.free; served = s.served; say = s.say; numbered = none_numbered c.new-6.result roster.entries.items (items_of roster.over.streams) given c.in_ok-roster.ensures.none c.in_ok-roster.ensures.over; seated = none_seated c.new-6.result roster.entries.items (items_of roster.lent) (ap (λ t. t.given) c.new-6.ensures) (ap (λ t. t.is_out) c.new-6.ensures) c.in_ok-roster.ensures.long c.in_ok-roster.ensures.none; kept = s.kept; grants = s.grants }
+    record { same = search rules; free = s.free; served = s.served; say = s.say; numbered = none_numbered c.new-6.result roster.entries.items (items_of roster.over.streams) given c.in_ok-roster.ensures.none c.in_ok-roster.ensures.over; seated = none_seated c.new-6.result roster.entries.items (items_of roster.lent) (ap (λ t. t.given) c.new-6.ensures) (ap (λ t. t.is_out) c.new-6.ensures) c.in_ok-roster.ensures.long c.in_ok-roster.ensures.none; kept = s.kept; began = s.began }

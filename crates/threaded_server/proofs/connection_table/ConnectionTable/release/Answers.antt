@@ -15,8 +15,8 @@ pub invariant_of-self : goal.invariant_of-self
 invariant_of-self g c =
     let table = c.args.self.now in
     let s = nobody_left table.roster.over.plan c.join.new.self.over.plan (realms_of table.realms) (lists_of table.posters) table.roster.entries.items c.join.new.self.entries.items (items_of table.roster.over.streams) (items_of c.join.new.self.over.streams)
-    c.join.ensures.plan c.in_err-conn.ensures.over.1 c.in_err-conn.ensures.over.0 (record { free = table.free; served = table.served; say = table.say; kept = table.kept; grants = table.grants }) in
-    record { same = table.same ∙ ap (λ p. p.value) (sym c.join.ensures.plan); free = s.free; served = s.served; say = s.say; numbered = still_numbered table.seats table.roster.entries.items c.join.new.self.entries.items (items_of table.roster.over.streams) (items_of c.join.new.self.over.streams) c.in_err-conn.ensures.over.1 c.in_err-conn.ensures.over.0 table.numbered; seated = still_seated table.seats table.seats table.roster.entries.items c.join.new.self.entries.items (items_of table.roster.lent) (items_of c.join.new.self.lent) refl c.in_err-conn.ensures.over.1 c.join.ensures.lent table.seated; kept = s.kept; grants = s.grants }
+    c.join.ensures.plan c.in_err-conn.ensures.over.1 c.in_err-conn.ensures.over.0 (record { free = table.free; served = table.served; say = table.say; kept = table.kept; began = table.began }) in
+    record { same = table.same ∙ ap (λ p. p.value) (sym c.join.ensures.plan); free = s.free; served = s.served; say = s.say; numbered = still_numbered table.seats table.roster.entries.items c.join.new.self.entries.items (items_of table.roster.over.streams) (items_of c.join.new.self.over.streams) c.in_err-conn.ensures.over.1 c.in_err-conn.ensures.over.0 table.numbered; seated = still_seated table.seats table.seats table.roster.entries.items c.join.new.self.entries.items (items_of table.roster.lent) (items_of c.join.new.self.lent) refl c.in_err-conn.ensures.over.1 c.join.ensures.lent table.seated; kept = s.kept; began = s.began }
 
 pub take_in-gone-requires-after_bounds : goal.take_in-gone-requires-after_bounds
 take_in-gone-requires-after_bounds g c κs within =
@@ -31,8 +31,8 @@ invariant_of-self-2 g c =
     let table = c.args.self.now in
     let left = c.in_ok-conn.ensures.over in
     let s = left_standing (sight g.I.Source.seen g.O.Sink.seen) table.roster.over.plan c.join.new.self.over.plan (realms_of table.realms) (realms_of c.take_in-gone.new.realms) (lists_of table.posters) (lists_of c.take_in-gone.new.posters) table.roster.entries.items c.join.new.self.entries.items
-    (items_of table.roster.over.streams) (items_of c.join.new.self.over.streams) c.args.place c.in_ok-conn.conn c.in_ok-conn.ended c.join.ensures.plan c.join.ensures.entries left (table.numbered.served c.args.place left.entry left.held).own c.take_in-gone.ensures.realms c.take_in-gone.ensures.posters (record { free = table.free; served = table.served; say = table.say; kept = table.kept; grants = table.grants }) in
-    record { same = table.same ∙ ap (λ p. p.value) (sym c.join.ensures.plan); free = s.free; served = s.served; say = s.say; numbered = back_numbered table.seats c.vacate.new.seats c.in_ok-conn.conn c.join.new.self.entries.items (items_of c.join.new.self.over.streams) c.vacate.ensures (left_numbered table.seats table.roster.entries.items c.join.new.self.entries.items (items_of table.roster.over.streams) (items_of c.join.new.self.over.streams) c.args.place left.entry left.left c.join.ensures.entries left.held left.over table.numbered); seated = seat_left table.seats c.vacate.new.seats table.roster.entries.items c.join.new.self.entries.items (items_of table.roster.lent) (items_of c.join.new.self.lent) c.in_ok-conn.conn c.args.place left.entry left.held (table.numbered.served c.args.place left.entry left.held).seat left.number c.vacate.ensures c.join.ensures.entries c.join.ensures.lent table.seated; kept = s.kept; grants = s.grants }
+    (items_of table.roster.over.streams) (items_of c.join.new.self.over.streams) c.args.place c.in_ok-conn.conn c.in_ok-conn.ended c.join.ensures.plan c.join.ensures.entries left (table.numbered.served c.args.place left.entry left.held).own c.take_in-gone.ensures.realms c.take_in-gone.ensures.posters (record { free = table.free; served = table.served; say = table.say; kept = table.kept; began = table.began }) in
+    record { same = table.same ∙ ap (λ p. p.value) (sym c.join.ensures.plan); free = s.free; served = s.served; say = s.say; numbered = back_numbered table.seats c.vacate.new.seats c.in_ok-conn.conn c.join.new.self.entries.items (items_of c.join.new.self.over.streams) c.vacate.ensures (left_numbered table.seats table.roster.entries.items c.join.new.self.entries.items (items_of table.roster.over.streams) (items_of c.join.new.self.over.streams) c.args.place left.entry left.left c.join.ensures.entries left.held left.over table.numbered); seated = seat_left table.seats c.vacate.new.seats table.roster.entries.items c.join.new.self.entries.items (items_of table.roster.lent) (items_of c.join.new.self.lent) c.in_ok-conn.conn c.args.place left.entry left.held (table.numbered.served c.args.place left.entry left.held).seat left.number c.vacate.ensures c.join.ensures.entries c.join.ensures.lent table.seated; kept = s.kept; began = s.began }
 
 pub returns-clause-realms : goal.returns-clause-realms
 returns-clause-realms g c = takes_long (realms_of c.args.self.now.realms) (seen_of c.in_ok-conn.ended.course) (realms_of c.take_in-gone.new.realms) c.take_in-gone.ensures.realms

@@ -33,5 +33,5 @@ pub invariant_of-self : goal.invariant_of-self
 invariant_of-self g c =
     let table = c.args.self.now in
     let s = over_standing table.roster.over.plan c.pass.new.self.over.plan (realms_of table.realms) (lists_of table.posters) table.roster.entries.items c.pass.new.self.entries.items (items_of table.roster.over.streams) (items_of c.pass.new.self.over.streams) c.of-3.result.value
-    c.pass.ensures.plan (ap (λ v. v.items) c.pass.ensures.entries) c.pass.ensures.over (subst (λ o. OverKept (realms_of table.realms) o) (sym c.of-3.ensures) tt) (λ realm number. ap (posts_of realm number) c.of-3.ensures) (record { free = table.free; served = table.served; say = table.say; kept = table.kept; grants = table.grants }) in
-    record { same = table.same ∙ ap (λ p. p.value) (sym c.pass.ensures.plan); free = s.free; served = s.served; say = s.say; numbered = over_numbered table.seats table.roster.entries.items c.pass.new.self.entries.items (items_of table.roster.over.streams) (items_of c.pass.new.self.over.streams) c.of-3.result.value (ap (λ v. v.items) c.pass.ensures.entries) c.pass.ensures.over (ap conn_of c.of-3.ensures) table.numbered; seated = more_lent table.seats table.roster.entries.items c.pass.new.self.entries.items (items_of table.roster.lent) (items_of c.pass.new.self.lent) c.of-lent.result.value (ap (λ v. v.items) c.pass.ensures.entries) c.pass.ensures.lent table.seated; kept = s.kept; grants = s.grants }
+    c.pass.ensures.plan (ap (λ v. v.items) c.pass.ensures.entries) c.pass.ensures.over (subst (λ o. OverKept (realms_of table.realms) o) (sym c.of-3.ensures) tt) (λ realm number. ap (posts_of realm number) c.of-3.ensures) (record { free = table.free; served = table.served; say = table.say; kept = table.kept; began = table.began }) in
+    record { same = table.same ∙ ap (λ p. p.value) (sym c.pass.ensures.plan); free = s.free; served = s.served; say = s.say; numbered = over_numbered table.seats table.roster.entries.items c.pass.new.self.entries.items (items_of table.roster.over.streams) (items_of c.pass.new.self.over.streams) c.of-3.result.value (ap (λ v. v.items) c.pass.ensures.entries) c.pass.ensures.over (ap conn_of c.of-3.ensures) table.numbered; seated = more_lent table.seats table.roster.entries.items c.pass.new.self.entries.items (items_of table.roster.lent) (items_of c.pass.new.self.lent) c.of-lent.result.value (ap (λ v. v.items) c.pass.ensures.entries) c.pass.ensures.lent table.seated; kept = s.kept; began = s.began }
