@@ -22,3 +22,8 @@ counts_on (Count next) word new given draws before = subst (λ o. CountsOn o (gi
 pub are_counted_words : (origin : Origin) (given : List ℕ) → CountsOn origin given → is_counting origin ≡ true → given ≡ counted (length given)
 are_counted_words (Random _) given goes counts = absurd (cc)
 are_counted_words (Count next) given goes counts = goes.0
+
+-- it goes on as it began
+pub same_kind : (old : Origin) (word : ℕ) (new : Origin) → Draws old word new → is_counting new ≡ is_counting old
+same_kind (Random _) word new draws = draws
+same_kind (Count next) word new draws = ap is_counting draws.1

@@ -8,8 +8,7 @@ use Rattle.chronicle.specs.Recorded.{Reaches, Recorded}
 use Rattle.outbox_queue.proofs.OwedBeginnings.{prefix-on}
 use Rattle.outbox_queue.specs.Ends.{IsVouched, Last, Owes, Taking, TookFull, TookWhole, Vouches, came_with, newest, or_else}
 use Rattle.outbox_queue.specs.Tied.{Kept}
-use Rattle.realm.specs.Grants.{Grants}
-use Rattle.realm.specs.History.{History, Begins, begun}
+use Rattle.realm.specs.History.{History, Begins}
 use Rattle.realm.specs.Sessions.{IsHistory}
 use Rattle.realm.specs.Yield.{owed}
 use Rattle.realm_inbox.specs.HistoryBeginnings.{owed_more}
@@ -28,7 +27,8 @@ use Rattle.broker_threads.specs.Acts.{Acts}
 use Rattle.threaded_server.specs.Posters.{IsOfInbox, Stand, lists_at, poster_at, trace_at}
 use Rattle.threaded_server.specs.Posts.{AllSay, AreIn, ReceivedPosted, posts_at}
 use Rattle.threaded_server.specs.Realms.{AllReceived, EachRuns, GivesBack, RunsTo, Shown, inbox_in, places_of, shown}
-use Rattle.threaded_server.specs.Ties.{CourseKept, CourseTied, IsKept, IsKeptIn, IsRun, IsTied, OverKept, OverTied, history_of}
+use Rattle.threaded_server.specs.Histories.{Start}
+use Rattle.threaded_server.specs.Ties.{CourseKept, CourseTied, IsBegun, IsKept, IsKeptIn, IsRun, IsTied, OverKept, OverTied, history_of}
 use Rattle.broker_threads.specs.Writes.{over_kept, owed_kept}
 use Rattle.broker_threads.specs.declared.actor_thread.Acted.{Acted}
 use Rattle.broker_threads.specs.declared.actor_thread.ActorThread.{ActorThread}
