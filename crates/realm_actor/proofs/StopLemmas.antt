@@ -21,6 +21,7 @@ use Rattle.realm_actor.specs.Invariant.{Stands}
 use Rattle.realm_actor.proofs.RowPlaces.{same_place, below_or, beside}
 use Rattle.realm_actor.proofs.LastCutLemmas.{EachMoved, EachWent-same, accepted_went, moved_went, moved_marked, moved_on, names_moved}
 use Rattle.realm_actor.proofs.HandleLemmas.{held_by, one_in}
+use Rattle.realm_actor.specs.Words.{◌⊕◌}
 
 -- who isn't live stays so
 
@@ -122,7 +123,7 @@ module _ {S : Type 0} where
 
   pub stops : (result : Outcome) (old new : Working S) (ends : List (Row S)) (words lost named : List ℕ) → Stands old.history old.rows → Sound new.history ends
       → Closes (standing_in old) (length old.rows) words lost (record { history = new.history; rows = ends })
-      → result ≡ outcome_of lost → EachUnmarked ends new.rows → new.words ≡ old.words ++ words → named ≡ named_conns ends → Stops result old new named
+      → result ≡ outcome_of lost → EachUnmarked ends new.rows → new.words ≡ old.words ⊕ words → named ≡ named_conns ends → Stops result old new named
   stops result old new ends words lost named s sound closes outcome u given is =
       let olds = old.rows in
       let news = new.rows in

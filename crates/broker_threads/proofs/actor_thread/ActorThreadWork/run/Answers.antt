@@ -5,8 +5,8 @@ use Rattle.broker_threads.specs.Words.{AreInOrder}
 use Rattle.realm_actor.specs.Words.{Words}
 use Rattle.broker_threads.proofs.actor_thread.ActorThreadWork.run.Goals as goal
 
-pub of_realm-requires-clause-empty : goal.of_realm-requires-clause-empty
-of_realm-requires-clause-empty g c κs within = (grants_of c.args.self.kept, c.args.self.empty)
+pub of_realm-actor-requires-clause-empty : goal.of_realm-actor-requires-clause-empty
+of_realm-actor-requires-clause-empty g c = (grants_of c.args.self.kept, c.args.self.empty)
 
 pub returns : goal.returns
 returns g c =
