@@ -12,7 +12,8 @@ use session::{CarriedArgs, Said};
 use std::alloc::{AllocError, Global};
 use std::io;
 use std::snapshot::Snapshot;
-use std::sync::Wait;
+use std::sync::atomic::{AtomicU64, Ordering};
+use std::sync::{Arc, Wait};
 
 /// The most acts that a log has room for.
 const ROOM: usize = 64;
@@ -29,10 +30,15 @@ impl Shut for Nowhere {
     }
 }
 
-/// The acts that were posted, while there was room. Later ones come back.
+/// So many acts may be posted before who receives them is woken.
+const MOST_ASLEEP: u64 = 32;
+
+/// The acts that were posted, while there was room, and no more than 32 before a wake. Later ones come back.
 #[derive(Drop)]
 pub struct Log {
     acts: Vec<Act<Nowhere>>,
+    // How many of them were posted since who receives was woken.
+    asleep: Arc<AtomicU64>,
     room: usize,
     // The most octets that one of them counted for.
     heaviest: usize,
@@ -46,6 +52,7 @@ impl Log {
     pub fn new(alloc: Global, room: usize) -> Result<Log, AllocError> {
         Ok(Log {
             acts: Vec::with_capacity(alloc, ROOM)?,
+            asleep: Arc::new(alloc, AtomicU64::new(0))?,
             room: room.min(ROOM),
             heaviest: 0,
             weights: GhostList::new(),
@@ -53,10 +60,20 @@ impl Log {
         })
     }
 
-    /// The acts, each in words behind a space.
+    /// How many acts were posted since who receives was woken.
+    pub fn asleep(&self) -> Result<Arc<AtomicU64>, AllocError> {
+        Arc::try_clone(&self.asleep)
+    }
+
+    /// The acts for which who receives was woken, each in words behind a space.
     pub fn told(&self, alloc: Global) -> io::Result<String> {
         let mut words = String::new(alloc);
-        for act in &self.acts {
+        let asleep = self.asleep.load(Ordering::SeqCst) as usize;
+        for act in self
+            .acts
+            .iter()
+            .take(self.acts.len().saturating_sub(asleep))
+        {
             words.push_str("posted ")?;
             tell_act(&mut words, act)?;
             words.push('\n')?;
@@ -93,11 +110,15 @@ impl Log {
         ensures same { (self.new.weights ≡ self.old.weights)
             × (self.new.returned ≡ self.old.returned) }
     {
-        if self.acts.len() >= self.room {
+        let is_late = self.asleep.load(Ordering::SeqCst) >= MOST_ASLEEP;
+        if is_late || self.acts.len() >= self.room {
             return Err(act);
         }
         match self.acts.push(act) {
-            Ok(()) => Ok(()),
+            Ok(()) => {
+                self.asleep.fetch_add(1, Ordering::SeqCst);
+                Ok(())
+            }
             Err(refused) => Err(refused.value),
         }
     }
@@ -133,6 +154,10 @@ impl Posting<Nowhere> for Log {
             Err(_) => self.returned.tick(),
         }
         posted
+    }
+
+    fn rouse(&self) {
+        self.asleep.store(0, Ordering::SeqCst);
     }
 }
 

@@ -93,6 +93,7 @@ impl Case {
             "slowly" => self.devices.manner = Manner::Slow,
             "held" => self.devices.manner = Manner::Held,
             "fed" => self.devices.manner = Manner::Fed,
+            "heard" => self.devices.manner = Manner::Heard,
             "goodbye" => self.owe(alloc, word)?,
             "leave" => self.sessions.leave(),
             "shared" => return self.sessions.shared(alloc),

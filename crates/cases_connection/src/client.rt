@@ -55,6 +55,8 @@ pub enum Manner {
     Held,
     /// The same, and each item is owed only once all before it was passed on.
     Fed,
+    /// They give one octet at a time, and only once who receives was woken behind all that was posted.
+    Heard,
 }
 
 /// The devices of a case, and which of their calls fails.

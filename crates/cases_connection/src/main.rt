@@ -20,7 +20,8 @@
 //!   many were posted each time.
 //! - `slowly`: devices give and take one octet at a time. `held`: the device written to holds octets back until it is
 //!   told to pass them on, and only those passed on are told. `fed`: the same, and each item is owed only once all
-//!   before it was passed on.
+//!   before it was passed on. `heard`: the device that is read gives one octet at a time, and each only once who
+//!   receives was woken behind all that was posted.
 //! - `fails N`: the call of this number fails, from 0.
 //! - `reads`, `writes`: the same for each call that fails, the first one first, until none does.
 #![tactic(auto)]
@@ -29,6 +30,7 @@ mod acts;
 mod case;
 mod client;
 mod fed;
+mod heard;
 mod items;
 mod owed;
 mod pongs;

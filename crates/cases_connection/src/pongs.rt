@@ -22,13 +22,14 @@ use std::thread::Threads;
 /// How often it is looked whether more is posted that isn't to be.
 const LOOKS: u64 = 2_000_000;
 
-/// Counts what is posted, and keeps none of it.
+/// Counts what is posted, keeps none of it, and tells of it once who receives is woken.
 #[derive(Drop)]
 pub struct Counter {
     // They take no bytes.
     acts: GhostList<Act<Nowhere>>,
     weights: GhostList<usize>,
     returned: GhostCount,
+    posted: u64,
     count: Arc<AtomicU64>,
 }
 
@@ -57,8 +58,12 @@ impl Posting<Nowhere> for Counter {
     {
         self.weights.add(Snapshot::of(&octets));
         self.acts.add(Snapshot::of(&act));
-        self.count.fetch_add(1, Ordering::SeqCst);
+        self.posted = self.posted.wrapping_add(1);
         Ok(())
+    }
+
+    fn rouse(&self) {
+        self.count.store(self.posted, Ordering::SeqCst);
     }
 }
 
@@ -91,6 +96,7 @@ impl<R: Wait + Copy> Work<R, bool> for Pinger {
             };
             let _ = poster.post(&rt, Act::Ping(payload), octets);
         }
+        poster.rouse();
         true
     }
 }
@@ -161,6 +167,7 @@ pub fn hold_back<R: Threads + Wait + Copy + Send + 'static>(
         acts: GhostList::new(),
         weights: GhostList::new(),
         returned: GhostCount::new(),
+        posted: 0,
         count: Arc::try_clone(&count)?,
     };
     let pinger = Pinger {

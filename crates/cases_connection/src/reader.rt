@@ -1,6 +1,7 @@
 //! The reader's end of a case.
 use crate::acts::{Log, Nowhere};
 use crate::client::{Client, Devices, Manner};
+use crate::heard::Heard;
 use case_devices::{FailsAt, OneByOne};
 use connection::{EncodingPoster, InUse, ReadEnd, read_posts};
 use rawsocket::Deframer;
@@ -76,7 +77,7 @@ impl Stream {
     }
 
     // Posts what the octets say.
-    fn run<R: Wait>(
+    fn run<R: Wait + Copy>(
         &self,
         rt: &R,
         alloc: Global,
@@ -84,26 +85,39 @@ impl Stream {
         client: Client,
         devices: Devices,
     ) -> io::Result<(Log, ReadEnd)> {
+        let log = Log::new(alloc, self.room)?;
+        let asleep = log.asleep()?;
         let poster = EncodingPoster {
             alloc,
             in_use,
             own: client.serializer,
             using: None,
-            poster: Log::new(alloc, self.room)?,
+            poster: log,
         };
         let source = MemorySource::new(self.octets.as_slice().to_vec(alloc)?);
         let opened = opened(alloc, client, self.early.as_slice())?;
-        if devices.manner == Manner::Slow {
-            let mut source = FailsAt::new(OneByOne::new(source), devices.failing);
-            Ok(post_all(rt, alloc, &mut source, opened, poster))
-        } else {
-            let mut source = FailsAt::new(source, devices.failing);
-            Ok(post_all(rt, alloc, &mut source, opened, poster))
+        match devices.manner {
+            Manner::Slow => {
+                let mut source = FailsAt::new(OneByOne::new(source), devices.failing);
+                Ok(post_all(rt, alloc, &mut source, opened, poster))
+            }
+            Manner::Heard => {
+                let mut source = Heard {
+                    rt: *rt,
+                    device: OneByOne::new(source),
+                    asleep,
+                };
+                Ok(post_all(rt, alloc, &mut source, opened, poster))
+            }
+            _ => {
+                let mut source = FailsAt::new(source, devices.failing);
+                Ok(post_all(rt, alloc, &mut source, opened, poster))
+            }
         }
     }
 
     /// Posts what the octets say, and tells it.
-    pub fn read<R: Wait>(
+    pub fn read<R: Wait + Copy>(
         &self,
         rt: &R,
         alloc: Global,
@@ -118,7 +132,7 @@ impl Stream {
     }
 
     /// Posts what the octets say, and tells for how many octets the heaviest post counted.
-    pub fn weigh<R: Wait>(
+    pub fn weigh<R: Wait + Copy>(
         &self,
         rt: &R,
         alloc: Global,
@@ -136,7 +150,7 @@ impl Stream {
     }
 
     /// The arguments of what the octets publish, as they are posted.
-    pub fn published<R: Wait>(
+    pub fn published<R: Wait + Copy>(
         &self,
         rt: &R,
         alloc: Global,
@@ -151,7 +165,7 @@ impl Stream {
     }
 
     /// The same for each call that fails: how many acts are posted, and how it ends.
-    pub fn read_failing<R: Wait>(
+    pub fn read_failing<R: Wait + Copy>(
         &self,
         rt: &R,
         alloc: Global,

@@ -83,7 +83,7 @@ impl Debt {
         let owing = Owing::of(alloc, self.items(alloc)?)?;
         match devices.manner {
             Manner::Whole => to_whole(rt, alloc, client, devices.failing, owing),
-            Manner::Slow => to_slow(rt, alloc, client, devices.failing, owing),
+            Manner::Slow | Manner::Heard => to_slow(rt, alloc, client, devices.failing, owing),
             Manner::Held => to_held(rt, alloc, client, devices.failing, owing),
             Manner::Fed => to_fed(rt, alloc, client, devices.failing, owing),
         }

@@ -31,4 +31,4 @@ pub numbered_send : IsSend Numbered.the_row
 numbered_send = declared_send Numbered.the_type (poster_send, (search sendable, (search sendable, (search (crosses, sendable) depth 60, tt))))
 
 pub paced_send : IsSend Paced.the_row
-paced_send = declared_send Paced.the_type (poster_send, (search sendable, (search (crosses, sendable) depth 60, (search (crosses, sendable) depth 60, tt))))
+paced_send = declared_send Paced.the_type (poster_send, (door_send, (search sendable, (search (crosses, sendable) depth 60, (search (crosses, sendable) depth 60, tt)))))

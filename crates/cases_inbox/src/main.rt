@@ -20,6 +20,8 @@
 //!   a thread posts so many PINGs, numbered from 0, each of them as if it was read from so many octets. So many are
 //!   received and kept, and one more is looked for; then those are handled, and all others.
 //!   `strand CONN COUNT OCTETS KEPT`: the same, but that the inbox goes in place of that.
+//! - `paced CAP CONN COUNT`: a thread posts so many PINGs, each once the one before was received, and then a stop and
+//!   a Join in the same way.
 //! - `crossing`: what may go to other threads.
 #![tactic(auto)]
 

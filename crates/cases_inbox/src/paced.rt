@@ -1,11 +1,12 @@
-//! A thread posts each PING once the one before was received.
+//! A thread posts each PING once the one before was received, and then a stop and a Join.
 ghost use Rattle.std.specs.Prelude.{◌≤◌};
 
+use crate::acts::joining_of;
 use crate::room::{Room, post};
 use crate::threads::ping_of;
 use crate::wire::Wire;
 use case_text::{Work, start};
-use realm_inbox::{Inbox, Poster};
+use realm_inbox::{Act, Door, Inbox, Poster};
 use std::alloc::{AllocError, Global};
 use std::sync::atomic::{AtomicU64, Ordering};
 use std::sync::{Arc, Wait};
@@ -16,10 +17,11 @@ use wamp_ids::{Conn, seat};
 /// is about to sleep.
 const PAUSES: u64 = 128;
 
-/// A poster, how many PINGs it is to post, and how many were received.
+/// A poster, the door of its inbox, how many PINGs it is to post, and how many posts were received.
 #[derive(Drop)]
 pub struct Paced {
     poster: Poster<Wire>,
+    door: Door<Wire>,
     count: u64,
     received: Arc<AtomicU64>,
     alloc: Global,
@@ -43,10 +45,11 @@ fn pause(received: &AtomicU64, looks: u64) {
 }
 
 impl<R: Wait + Copy> Work<R, bool> for Paced {
-    /// Posts them, numbered from 0.
+    /// Posts them, numbered from 0, and what ends a case.
     fn run(self, rt: R) -> bool {
         let Paced {
             mut poster,
+            mut door,
             count,
             received,
             alloc,
@@ -61,8 +64,22 @@ impl<R: Wait + Copy> Work<R, bool> for Paced {
             await_received(&rt, &received, number);
             pause(&received, number % PAUSES);
         }
-        true
+        let _ = door.stop(&rt);
+        await_received(&rt, &received, count);
+        let has_joined = join(&rt, alloc, &mut poster);
+        await_received(&rt, &received, count.saturating_add(1));
+        has_joined
     }
+}
+
+// Posts a Join. Where there is no memory for one it is posted that the client is gone.
+fn join<R: Wait>(rt: &R, alloc: Global, poster: &mut Poster<Wire>) -> bool {
+    let Ok(joining) = joining_of(alloc, poster.conn(), "-", 1) else {
+        let _ = post(rt, poster, Act::Gone, 0);
+        return false;
+    };
+    let _ = poster.post(rt, Act::Join(joining), 0);
+    true
 }
 
 // What a connection is to post, and where it arrives. None where its seat isn't free.
@@ -75,9 +92,10 @@ fn work_of(
 ) -> Option<(Paced, Inbox<Wire>)> {
     let at = room.take_seat(seat(conn))?;
     let poster = at.into_poster(conn).ok()?;
-    let Room { inbox, .. } = room;
+    let Room { door, inbox, .. } = room;
     let work = Paced {
         poster,
+        door: door?,
         count,
         received,
         alloc,
@@ -96,8 +114,8 @@ fn receive_all<R: Wait>(rt: &R, inbox: &mut Inbox<Wire>, received: &AtomicU64) {
     unreachable!()
 }
 
-/// Posts so many PINGs through an inbox of this capacity, each once the one before was received. How many came; none where the
-/// connection's seat isn't free.
+/// Posts so many PINGs through an inbox of this capacity, each once the one before was received, and then a stop and a Join. How many
+/// posts came; none where the connection's seat isn't free.
 pub fn pass_paced<R: Threads + Wait + Copy + Send + 'static>(
     rt: R,
     alloc: Global,

@@ -20,8 +20,8 @@ pub struct Room {
     pub inbox: Option<Inbox<Wire>>,
 }
 
-/// Posts an act that is no Join, as if it was read from so many octets.
-pub fn post<R: Wait>(
+/// Posts an act that is no Join, as if it was read from so many octets. Who receives it may sleep on.
+pub fn post_quietly<R: Wait>(
     rt: &R,
     poster: &mut Poster<Wire>,
     act: Act<Wire>,
@@ -30,6 +30,20 @@ pub fn post<R: Wait>(
     requires { is_join act ≡ false }
 {
     Posting::post(poster, rt, act, octets)
+}
+
+/// The same, and who receives it is woken.
+pub fn post<R: Wait>(
+    rt: &R,
+    poster: &mut Poster<Wire>,
+    act: Act<Wire>,
+    octets: usize,
+) -> Result<(), Act<Wire>>
+    requires { is_join act ≡ false }
+{
+    let posted = post_quietly(rt, poster, act, octets);
+    poster.rouse();
+    posted
 }
 
 impl Room {

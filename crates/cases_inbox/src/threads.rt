@@ -2,7 +2,7 @@
 ghost use Rattle.std.specs.Prelude.{◌≡◌, ◌≤◌, false, IfOk};
 ghost use Rattle.realm_inbox.specs.Joins.{is_join};
 
-use crate::room::{Room, post};
+use crate::room::{Room, post_quietly};
 use crate::tally::{Received, Tally};
 use crate::wire::Wire;
 use case_text::{Work, start};
@@ -31,7 +31,7 @@ pub fn ping_of(alloc: Global, number: u64) -> Result<Act<Wire>, AllocError>
 }
 
 impl<R: Wait + Copy> Work<R, bool> for Numbered {
-    /// Posts them, numbered from 0.
+    /// Posts them, numbered from 0, and wakes who receives them by none: so that is woken before each wait, or never.
     fn run(self, rt: R) -> bool {
         let Numbered {
             mut poster,
@@ -43,7 +43,7 @@ impl<R: Wait + Copy> Work<R, bool> for Numbered {
             let Ok(ping) = ping_of(alloc, number) else {
                 return false;
             };
-            if post(&rt, &mut poster, ping, octets).is_err() {
+            if post_quietly(&rt, &mut poster, ping, octets).is_err() {
                 break;
             }
         }

@@ -53,6 +53,10 @@ impl<S: Shut, P: Posting<S>> Posting<S> for EncodingPoster<'_, P> {
         let act = encoded(self.alloc, self.in_use, own, act);
         self.poster.post(rt, act, octets)
     }
+
+    fn rouse(&self) {
+        self.poster.rouse();
+    }
 }
 
 // What the client uses, where it is counted: from its first SUBSCRIBE on.

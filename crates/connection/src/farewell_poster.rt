@@ -44,6 +44,10 @@ impl<S: Shut, P: Posting<S>> Posting<S> for FarewellPoster<P> {
         self.received = self.received.wrapping_add(sent_by(&act));
         self.poster.post(rt, act, octets)
     }
+
+    fn rouse(&self) {
+        self.poster.rouse();
+    }
 }
 
 // How many messages and PINGs the client sends by this: one, or none.

@@ -12,6 +12,7 @@
 
 mod encoding_poster;
 mod farewell_poster;
+mod frames;
 mod in_use;
 mod long_turns;
 mod pongs;

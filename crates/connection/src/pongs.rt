@@ -74,7 +74,7 @@ impl Drop for OwedPongs {
 /// Who ends that wait is the writer: with each PONG that it writes, and for good when it ends, or never came to be, since its
 /// [`OwedPongs`] are dropped then. A PING whose PONG never comes is one of a session that isn't live any more, or never was, or of
 /// which memory was refused, and that was cut for it; or it was turned away behind a stop. The outbox of each such session is closed,
-/// so its writer ends. And a client that takes none of its PONGs holds up its own reader and writer, until its stream is at its end.
+/// so its writer ends. Who receives is woken before each PING, as a writer waits for what it makes of those before. And a client that takes none of its PONGs holds up its own reader and writer, until its stream is at its end.
 #[derive(Drop)]
 pub struct PongPoster<P> {
     /// The PONGs of the connection.
@@ -103,8 +103,13 @@ impl<S: Shut, P: Posting<S>> Posting<S> for PongPoster<P> {
             (λ _. P.returned self.new.poster ≡ P.returned self.old.poster + 1) }
     {
         if let Act::Ping(payload) = &act {
+            self.poster.rouse();
             self.pongs.waiting.take_on(rt, payload.as_slice().len());
         }
         self.poster.post(rt, act, octets)
+    }
+
+    fn rouse(&self) {
+        self.poster.rouse();
     }
 }

@@ -1,4 +1,5 @@
 //! How much of a client waits for another thread, and how the client is held back while that is too much.
+use crate::bells::Bells;
 use crate::room_bell::RoomBell;
 use crate::spent::Spent;
 use message_tree::Shared;
@@ -65,10 +66,15 @@ impl Backlog {
             return;
         }
         self.spent.let_go();
-        if self.waiting.load(Ordering::SeqCst) >= MOST_WAITING {
+        if self.is_laden() {
             self.wait(rt);
         }
         self.waiting.fetch_add(octets as u64, Ordering::SeqCst);
+    }
+
+    // Whether whoever takes something on waits before. Nobody else makes it so.
+    fn is_laden(&self) -> bool {
+        self.waiting.load(Ordering::SeqCst) >= MOST_WAITING
     }
 
     // Waits for room. It listens, and only then looks: so where it finds no room, whoever makes it, or closes, does so after the look,
@@ -155,14 +161,15 @@ impl PostCount {
         }
     }
 
-    /// Counts one post more, and waits before while [`MOST_POSTS_WAITING`] of the seat aren't given.
+    /// Counts one post more, and waits before while [`MOST_POSTS_WAITING`] of the seat aren't given: by a receiving end that is awake.
     ///
     /// It looks at its own two numbers first: what others tell is read once in 128 posts.
-    pub(crate) fn count_one<R: Wait>(&mut self, rt: &R, backlog: &Backlog) {
+    pub(crate) fn count_one<R: Wait>(&mut self, rt: &R, backlog: &Backlog, bells: &Bells) {
         if self.posted.wrapping_sub(self.given) >= MOST_POSTS_WAITING {
             self.given = backlog.given.load(Ordering::SeqCst);
         }
         if self.posted.wrapping_sub(self.given) >= MOST_POSTS_WAITING {
+            bells.wake_receiver();
             self.given = backlog.await_given(rt, self.posted);
         }
         self.posted = self.posted.wrapping_add(1);
@@ -189,15 +196,20 @@ enum GivenBack {
 const _: () = prove!(size_of::<Weight>() == 16);
 
 impl Weight {
-    /// The weight of what was read from so many octets, once there is room for it.
-    pub(crate) fn of<R: Wait>(rt: &R, backlog: &Arc<Backlog>, octets: usize) -> Weight {
+    /// The weight of what was read from so many octets, once there is room for it: the receiving end is woken before a wait.
+    pub(crate) fn of<R: Wait>(
+        rt: &R,
+        backlog: &Arc<Backlog>,
+        bells: &Bells,
+        octets: usize,
+    ) -> Weight {
         if octets < LEAST_COUNTED {
             return Weight {
                 held: GivenBack::Nothing,
             };
         }
         Weight {
-            held: held_of(rt, backlog, octets),
+            held: held_of(rt, backlog, bells, octets),
         }
     }
 
@@ -221,11 +233,14 @@ impl Weight {
 }
 
 // So many octets, once there is room for them. Nothing where the count of those who share the backlog can't grow.
-fn held_of<R: Wait>(rt: &R, backlog: &Arc<Backlog>, octets: usize) -> GivenBack {
+fn held_of<R: Wait>(rt: &R, backlog: &Arc<Backlog>, bells: &Bells, octets: usize) -> GivenBack {
     let Ok(backlog) = Arc::try_clone(backlog) else {
         return GivenBack::Nothing;
     };
     let octets = octets.min(u32::MAX as usize) as u32;
+    if backlog.is_laden() {
+        bells.wake_receiver();
+    }
     backlog.take_on(rt, octets as usize);
     GivenBack::Octets(octets, backlog)
 }

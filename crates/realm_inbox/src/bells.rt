@@ -20,7 +20,7 @@ pub(crate) struct Bells {
 
 impl Bells {
     /// Wakes the receiving end, if it sleeps.
-    fn wake_receiver(&self) {
+    pub(crate) fn wake_receiver(&self) {
         if self.room.ends_sleep() {
             self.receiver.unpark();
         }
@@ -52,13 +52,35 @@ pub(crate) fn send<T: Drop, V, P: Protocol<T, V>, M: Outcome<T, V> + Lesson<T, V
     ensures rule { MatchResult result (λ _. M.then (view pass.old) message (view pass.new))
         (λ back. (back ≡ message) × (view pass.new ≡ view pass.old)) }
 {
+    let sent = send_quietly::<T, V, P, M, R>(rt, sender, bells, pass, message);
+    if sent.is_ok() {
+        bells.wake_receiver();
+    }
+    sent
+}
+
+/// The same, but that the receiving end is woken only before a wait: whoever sends wakes it behind its last message.
+pub(crate) fn send_quietly<T: Drop, V, P: Protocol<T, V>, M: Outcome<T, V> + Lesson<T, V>, R: Wait>(
+    rt: &R,
+    sender: &RuledSender<T, V, P>,
+    bells: &Bells,
+    pass: &mut Pass<T, V>,
+    message: T,
+) -> Result<(), T>
+    requires channel { IsSeatAt (sends_on sender.now) pass.old }
+    requires rule { Pushes P.holds (ruled_capacity (sends_on sender.now))
+        pass.old.id (view pass.old) message (M.then (view pass.old) message)
+        × Learns P.holds pass.old.id (view pass.old) (M.fact (view pass.old)) }
+    ensures channel { IsSeatAt (sends_on sender.now) pass.new × (pass.new.id ≡ pass.old.id) }
+    ensures rule { MatchResult result (λ _. M.then (view pass.old) message (view pass.new))
+        (λ back. (back ≡ message) × (view pass.new ≡ view pass.old)) }
+{
     let mut message = message;
     let mut heard = None;
     for _ in rt.forever() {
         match sender.try_send_as::<M, R>(rt, pass, message) {
             Ok(()) => {
                 bells.room.leave(heard);
-                bells.wake_receiver();
                 return Ok(());
             }
             Err(TrySendError::Full(back)) => message = back,
@@ -70,6 +92,7 @@ pub(crate) fn send<T: Drop, V, P: Protocol<T, V>, M: Outcome<T, V> + Lesson<T, V
         heard = match heard {
             None => Some(bells.room.listen()),
             Some(rings) => {
+                bells.wake_receiver();
                 bells.room.wait(rt, rings);
                 None
             }

@@ -11,7 +11,7 @@ ghost use Rattle.realm_inbox.specs.Ends.{home_in, place_of as place_in, posted_i
 
 use crate::act::Act;
 use crate::backlog::{Backlog, PostCount, Weight};
-use crate::bells::{Bells, send};
+use crate::bells::{Bells, send_quietly};
 use crate::letter::{Letter, Post};
 use crate::rule::{Beside, InTurn, InboxView, Posts, Receives};
 use crate::seat_lines::{SeatLines, place_of};
@@ -376,8 +376,8 @@ impl<S: Shut> Seat<S> {
         compare_passes(&self.sender, reading, &mut self.pass);
     }
 
-    // Posts an act of a connection of this seat, which was read from so many octets.
-    fn post<R: Wait>(
+    // Posts an act of a connection of this seat, which was read from so many octets. The receiving end is woken only before a wait.
+    pub(crate) fn post<R: Wait>(
         &mut self,
         rt: &R,
         conn: Conn,
@@ -393,8 +393,8 @@ impl<S: Shut> Seat<S> {
         ensures same { (seat_number self.new ≡ seat_number self.old)
             × (inbox_of_seat self.new ≡ inbox_of_seat self.old) }
     {
-        self.count.count_one(rt, &self.backlog);
-        let weight = Weight::of(rt, &self.backlog, octets);
+        self.count.count_one(rt, &self.backlog, &self.bells);
+        let weight = Weight::of(rt, &self.backlog, &self.bells, octets);
         let before = Snapshot::of(&self.past);
         let said = (conn, act);
         let last = Snapshot::of(&said);
@@ -406,7 +406,13 @@ impl<S: Shut> Seat<S> {
             weight,
         };
         let post = Post::Act(letter);
-        match send::<_, _, _, Posts, R>(rt, &self.sender, &self.bells, &mut self.pass, post) {
+        match send_quietly::<_, _, _, Posts, R>(
+            rt,
+            &self.sender,
+            &self.bells,
+            &mut self.pass,
+            post,
+        ) {
             Ok(()) => {
                 self.past.add(last);
                 Ok(())
@@ -465,11 +471,8 @@ impl<S: Shut> Poster<S> {
         ensures returned { MatchResult result (λ _. returned_by self.new ≡ returned_by self.old)
             (λ _. returned_by self.new ≡ returned_by self.old + 1) }
     {
-        let posted = self.seat.post(rt, self.conn, act, octets);
-        match &posted {
-            Ok(()) => self.weights.add(Snapshot::of(&octets)),
-            Err(_) => self.returned.tick(),
-        }
+        let posted = self.post_quietly(rt, act, octets);
+        self.seat.bells.wake_receiver();
         posted
     }
 

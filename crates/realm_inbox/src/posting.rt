@@ -2,10 +2,12 @@
 ghost use Rattle.std.specs.Prelude.{◌≡◌, ◌∷◌, ◌++◌, ◌+◌, [], List, ℕ, MatchResult, false};
 ghost use Rattle.realm_inbox.specs.Joins.{is_join};
 ghost use Rattle.realm_inbox.specs.Posted.{Posted, with_acts};
+ghost use Rattle.realm_inbox.specs.Seats.{BringsHome, BringsOwn};
 
 use crate::act::Act;
 use crate::ends::Poster;
 use crate::transport::Shut;
+use std::snapshot::Snapshot;
 use std::sync::Wait;
 
 /// Where the acts of one connection go once it has asked for its session, one after another.
@@ -19,7 +21,8 @@ pub trait Posting<S: Shut> {
     /// How many acts came back.
     ghost returned: { Self → ℕ };
 
-    /// Posts an act that is no Join, and may wait for room. It was read from so many octets of the client's, or from none.
+    /// Posts an act that is no Join, and may wait for room. It was read from so many octets of the client's, or from none. Who receives
+    /// it may sleep on until [`Posting::rouse`] is called.
     ///
     /// # Errors
     /// The act, where nobody receives it any more. Nothing was posted then.
@@ -33,6 +36,10 @@ pub trait Posting<S: Shut> {
             (λ _. weights self.new ≡ weights self.old) }
         ensures returned { MatchResult result (λ _. returned self.new ≡ returned self.old)
             (λ _. returned self.new ≡ returned self.old + 1) };
+
+    /// Wakes who receives what was posted, if it sleeps. Whoever posts calls this behind the last of several posts, and before it waits
+    /// for anything else or takes long.
+    fn rouse(&self);
 }
 
 impl<S: Shut> Posting<S> for Poster<S> {
@@ -55,6 +62,42 @@ impl<S: Shut> Posting<S> for Poster<S> {
         ensures returned { MatchResult result (λ _. returned_by self.new ≡ returned_by self.old)
             (λ _. returned_by self.new ≡ returned_by self.old + 1) }
     {
-        Poster::post(self, rt, act, octets)
+        self.post_quietly(rt, act, octets)
+    }
+
+    fn rouse(&self) {
+        self.seat.bells.wake_receiver();
+    }
+}
+
+impl<S: Shut> Poster<S> {
+    ghost use Rattle.realm_inbox.specs.EndViews.{posted, poster_conn, home_of_poster, inbox_of_poster, weights_by, returned_by};
+
+    // Posts an act, as `post` does, but wakes the receiving end only before a wait.
+    pub(crate) fn post_quietly<R: Wait>(
+        &mut self,
+        rt: &R,
+        act: Act<S>,
+        octets: usize,
+    ) -> Result<(), Act<S>>
+        requires own { BringsOwn (poster_conn self.old) act }
+        requires home { BringsHome (home_of_poster self.old) act }
+        ensures posted { MatchResult result (λ _.
+            posted self.new ≡ posted self.old ++ (poster_conn self.old, act) ∷ [])
+            (λ back. (back ≡ act) × (posted self.new ≡ posted self.old)) }
+        ensures same { (poster_conn self.new ≡ poster_conn self.old)
+            × (inbox_of_poster self.new ≡ inbox_of_poster self.old) }
+        ensures weighed { MatchResult result
+            (λ _. weights_by self.new ≡ weights_by self.old ++ octets ∷ [])
+            (λ _. weights_by self.new ≡ weights_by self.old) }
+        ensures returned { MatchResult result (λ _. returned_by self.new ≡ returned_by self.old)
+            (λ _. returned_by self.new ≡ returned_by self.old + 1) }
+    {
+        let posted = self.seat.post(rt, self.conn, act, octets);
+        match &posted {
+            Ok(()) => self.weights.add(Snapshot::of(&octets)),
+            Err(_) => self.returned.tick(),
+        }
+        posted
     }
 }

@@ -3,8 +3,8 @@ use Rattle.ghost_state.specs.GhostList.{items_of}
 use Rattle.realm_inbox.proofs.StepEffects.{posts_by, post_told}
 use Rattle.realm_inbox.proofs.ends.Seat.post.Goals as goal
 
-pub send-requires-clause-rule : goal.send-requires-clause-rule
-send-requires-clause-rule g c = let p = c.args.self.now in posts_by _ _ p.number _ _ p.sits c.requires.seat (ap items_of c.of-before.ensures ∙ p.told) c.requires.home
+pub send_quietly-requires-clause-rule : goal.send_quietly-requires-clause-rule
+send_quietly-requires-clause-rule g c = let p = c.args.self.now in posts_by _ _ p.number _ _ p.sits c.requires.seat (ap items_of c.of-before.ensures ∙ p.told) c.requires.home
 
 pub invariant_of-self : goal.invariant_of-self
 invariant_of-self g c =
@@ -12,7 +12,7 @@ invariant_of-self g c =
     let t = post_told _ _ _ _ p.sits c.requires.seat c.in-Ok.ensures.rule in
     record {
       in_range = p.in_range;
-      at = c.send.ensures.channel.0;
+      at = c.send_quietly.ensures.channel.0;
       sits = t.0;
       told = c.add.ensures ∙ ap (λ x. items_of p.past ++ x ∷ []) c.of-last.ensures ∙ ap (λ l. l ++ (c.args.conn, c.args.act) ∷ []) p.told ∙ sym t.1;
     }
@@ -22,5 +22,5 @@ returns-in-Ok-clause-posted g c = (post_told _ _ _ _ c.args.self.now.sits c.requ
 
 pub returns-in-Ok-clause-same : goal.returns-in-Ok-clause-same
 returns-in-Ok-clause-same g c =
-    let now = c.send.ensures.channel.0 in let old = c.args.self.now.at in let home = (post_told _ _ _ _ c.args.self.now.sits c.requires.seat c.in-Ok.ensures.rule).2 in
+    let now = c.send_quietly.ensures.channel.0 in let old = c.args.self.now.at in let home = (post_told _ _ _ _ c.args.self.now.sits c.requires.seat c.in-Ok.ensures.rule).2 in
     (refl, λ i. ((now.0 ∙ sym old.0) i, (now.1 ∙ sym old.1) i, home i))

@@ -2,7 +2,7 @@ use Rattle.std.proofs.Common.{rules, arith, refl, sym, ◌∙◌, None, [], ◌�
 use Rattle.realm_inbox.specs.declared.act.Act.TheVariants.{Said, Spoilt}
 use Rattle.connection.proofs.FramesPosted.{back_posted, says_more, says_farewell, says_nothing}
 use Rattle.connection.proofs.WeightsCounted.{counts_none, counts_one}
-use Rattle.connection.proofs.reader.post_message.Goals as goal
+use Rattle.connection.proofs.frames.post_message.Goals as goal
 
 pub returns-in-Err-clause-posted : goal.returns-in-Err-clause-posted
 returns-in-Err-clause-posted g c = record { acts = Spoilt ∷ []; posted = c.in_default.ensures.posted; posts = says_nothing c.args.serializer c.in-Err.fault c.args.payload.now (c.in-Err.ensures.bad (search rules)) }

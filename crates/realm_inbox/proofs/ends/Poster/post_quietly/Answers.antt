@@ -2,7 +2,7 @@ use Rattle.std.proofs.Common.{◌≡◌, [], ◌∷◌, ◌++◌, MatchResult, s
 use Rattle.std.specs.declared.result.Result.{Result}
 use Rattle.ghost_state.specs.GhostList.{items_of}
 use Rattle.realm_inbox.specs.declared.act.Act.{Act}
-use Rattle.realm_inbox.proofs.ends.Poster.post.Goals as goal
+use Rattle.realm_inbox.proofs.ends.Poster.post_quietly.Goals as goal
 
 pub returns-in-Ok-clause-weighed : goal.returns-in-Ok-clause-weighed
 returns-in-Ok-clause-weighed g c =

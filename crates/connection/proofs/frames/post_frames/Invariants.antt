@@ -2,7 +2,7 @@ use Rattle.std.proofs.Common.{◌≡◌, length}
 use Rattle.rawsocket.specs.Frames.{contents}
 use Rattle.connection.proofs.FramesPosted.{Halfway}
 use Rattle.connection.specs.Reader.{CountsSince}
-use Rattle.connection.proofs.reader.post_frames.Given as goal
+use Rattle.connection.proofs.frames.post_frames.Given as goal
 
 abbrev pub invariant-frames : goal.invariant-frames
 invariant-frames g l = record {

@@ -3,7 +3,7 @@ use Rattle.rawsocket.specs.Frames.{content, contents}
 use Rattle.rawsocket.specs.declared.frame.Frame.{Frame}
 use Rattle.connection.proofs.FramesPosted.{Halfway, Halfway-start, Halfway-more, Halfway-ends, Halfway-done}
 use Rattle.connection.proofs.WeightsCounted.{counts_none, counts_then}
-use Rattle.connection.proofs.reader.post_frames.Goals as goal
+use Rattle.connection.proofs.frames.post_frames.Goals as goal
 
 none_left : (frames : List Frame) → length frames ≡ 0 → contents frames ≡ []
 none_left [] e = refl

@@ -2,7 +2,7 @@ use Rattle.std.proofs.Common.{Ok, Err, refl, arith}
 use Rattle.rawsocket.specs.Frames.{Content}
 use Rattle.connection.proofs.PiecePosted.{front_next, front_start}
 use Rattle.connection.proofs.WeightsCounted.{counts_none, counts_then}
-use Rattle.connection.proofs.reader.post_whole.Goals as goal
+use Rattle.connection.proofs.frames.post_whole.Goals as goal
 
 pub frames-init : goal.frames-init
 frames-init g c = record {

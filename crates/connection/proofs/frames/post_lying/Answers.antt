@@ -2,7 +2,7 @@ use Rattle.std.proofs.Common.{refl, sym}
 use Rattle.rawsocket.specs.declared.frame.Kind.TheVariants.{Ping}
 use Rattle.connection.proofs.FramesPosted.{posted_as}
 use Rattle.connection.proofs.WeightsCounted.{counts_none}
-use Rattle.connection.proofs.reader.post_lying.Goals as goal
+use Rattle.connection.proofs.frames.post_lying.Goals as goal
 
 pub returns-in-Ok-clause-posted : goal.returns-in-Ok-clause-posted
 returns-in-Ok-clause-posted g c =

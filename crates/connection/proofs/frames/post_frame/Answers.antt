@@ -1,7 +1,7 @@
 use Rattle.std.proofs.Common.{sym}
 use Rattle.rawsocket.specs.declared.frame.Kind.TheVariants.{Ping}
 use Rattle.connection.proofs.FramesPosted.{posted_as}
-use Rattle.connection.proofs.reader.post_frame.Goals as goal
+use Rattle.connection.proofs.frames.post_frame.Goals as goal
 
 pub returns-in-Ping-clause-posted : goal.returns-in-Ping-clause-posted
 returns-in-Ping-clause-posted g c =

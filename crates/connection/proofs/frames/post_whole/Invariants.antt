@@ -1,6 +1,6 @@
 use Rattle.std.proofs.Common.{◌≡◌, length, Ok}
 use Rattle.connection.specs.Reader.{CountsSince, PostsFront}
-use Rattle.connection.proofs.reader.post_whole.Given as goal
+use Rattle.connection.proofs.frames.post_whole.Given as goal
 
 abbrev pub invariant-frames : goal.invariant-frames
 invariant-frames g l = record {
