@@ -252,6 +252,13 @@ pub(crate) fn post_frames<R: Wait, S: Shut, P: Posting<S>>(
     Ok(())
 }
 
+// Wakes who receives, if so many posts of a read are enough for that.
+fn rouse_in_time<S: Shut, P: Posting<S>>(poster: &P, posts: u32) {
+    if posts % MOST_QUIET == 0 {
+        poster.rouse();
+    }
+}
+
 // Posts what the frames are that lie whole at the front of octets, each from where it lies, and gives what stands behind them.
 pub(crate) fn post_whole<'p, R: Wait, S: Shut, P: Posting<S>>(
     rt: &R,
@@ -280,9 +287,7 @@ pub(crate) fn post_whole<'p, R: Wait, S: Shut, P: Posting<S>>(
         }
         rest = after;
         posts = posts.wrapping_add(1);
-        if posts % MOST_QUIET == 0 {
-            poster.rouse();
-        }
+        rouse_in_time::<S, P>(poster, posts);
     }
     Ok(rest)
 }
