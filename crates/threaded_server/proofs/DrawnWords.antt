@@ -50,6 +50,23 @@ said_within : (b : Bool) (word : ℕ) {xs given : List ℕ} → IsWithin xs give
 said_within true word w = of.IsWithin.taken word w
 said_within false word w = same_within w
 
+-- the source is as it was, but for the words that it gave meanwhile; and the words of the entries that entered meanwhile are of these
+pub record Drew (h k : History) (before after : Words) : Type 0 where
+  pub kind : after.is_counting ≡ before.is_counting
+  pub within : IsWithin (words_of h) before.given → IsWithin (words_of k) after.given
+
+drew_none : {h k : History} {before after : Words} → k ≡ h → after ≡ before → Drew h k before after
+drew_none {h} {k} {before} {after} same stays = record {
+  kind = ap (λ (w : Words). w.is_counting) stays;
+  within = λ w. subst (λ l. IsWithin (words_of l) after.given) (sym same) (subst (λ (s : Words). IsWithin (words_of h) s.given) (sym stays) w);
+}
+
+drew_then : {h k l : History} {first second third : Words} → Drew h k first second → Drew k l second third → Drew h l first third
+drew_then a b = record { kind = b.kind ∙ a.kind; within = λ w. b.within (a.within w) }
+
+drew_more : {h k : History} {before after : Words} (more : List ℕ) → after ≡ (before ⊕ more) → (IsWithin (words_of h) before.given → IsWithin (words_of k) (before.given ++ more)) → Drew h k before after
+drew_more {k = k} more is on = record { kind = ap (λ (w : Words). w.is_counting) is; within = λ w. subst (λ (s : Words). IsWithin (words_of k) s.given) (sym is) (on w) }
+
 module _ {S : Type 0} where
   enters_within : (act : the.Act S) (h : History) (c word : ℕ) {given : List ℕ} → IsWithin (words_of h) given → IsWithin (words_of (h ▷ entry_of c act word)) (given ++ cond (draws act) (word ∷ []) [])
   enters_within (Join joining) h c word w = of.IsWithin.taken word w
@@ -61,28 +78,11 @@ module _ {S : Type 0} where
   cuts_within : {old new : Standing S} {drawn : List ℕ} → Cuts old drawn new → {given : List ℕ} → IsWithin (words_of old.history) given → IsWithin (words_of new.history) (given ++ drawn)
   cuts_within cutting.Cuts.none w = within_more w []
   cuts_within {new = new} (cutting.Cuts.one_more {mid = mid} {words = words} {e = e} c word so_far sound least is entered went) {given = given} w =
-      subst (λ h. IsWithin (words_of h) (given ++ words ++ word ∷ [])) (sym entered)
+      subst (λ h. IsWithin (words_of h) (given ++ (words ++ word ∷ []))) (sym entered)
       (subst (λ l. IsWithin (words_of (mid.history ▷ e)) l) (append_assoc given words (word ∷ [])) (cut_within mid.history e c word is (cuts_within so_far w)))
 
   accepted_within : (old new : Standing S) (e : Entry) (drawn : List ℕ) → Accepted old e drawn new → {given : List ℕ} → IsWithin (words_of (old.history ▷ e)) given → IsWithin (words_of new.history) (given ++ drawn)
   accepted_within old new e drawn a w = cuts_within a.cuts w
-
-  -- the source is as it was, but for the words that it gave meanwhile; and the words of the entries that entered meanwhile are of these
-  pub record Drew (h k : History) (before after : Words) : Type 0 where
-    pub kind : after.is_counting ≡ before.is_counting
-    pub within : IsWithin (words_of h) before.given → IsWithin (words_of k) after.given
-
-  drew_none : {h k : History} {before after : Words} → k ≡ h → after ≡ before → Drew h k before after
-  drew_none {h} {k} {before} {after} same stays = record {
-    kind = ap (λ (w : Words). w.is_counting) stays;
-    within = λ w. subst (λ l. IsWithin (words_of l) after.given) (sym same) (subst (λ (s : Words). IsWithin (words_of h) s.given) (sym stays) w);
-  }
-
-  drew_then : {h k l : History} {first second third : Words} → Drew h k first second → Drew k l second third → Drew h l first third
-  drew_then a b = record { kind = b.kind ∙ a.kind; within = λ w. b.within (a.within w) }
-
-  drew_more : {h k : History} {before after : Words} (more : List ℕ) → after ≡ (before ⊕ more) → (IsWithin (words_of h) before.given → IsWithin (words_of k) (before.given ++ more)) → Drew h k before after
-  drew_more {k = k} more is on = record { kind = ap (λ (w : Words). w.is_counting) is; within = λ w. subst (λ (s : Words). IsWithin (words_of k) s.given) (sym is) (on w) }
 
   applies_drew : (c : ℕ) (act : the.Act S) (old new : Working S) → Applies c act old new → Drew old.history new.history old.words new.words
   applies_drew c act old new a = drew_more (cond (draws act) (a.word ∷ a.drawn) a.drawn) a.words

@@ -1,5 +1,5 @@
 -- What the histories of realms were made of.
-use Rattle.std.proofs.Common.{◌≡◌, ◌+◌, ◌≤◌, ℕ, false, List, [], ◌∷◌, ◌++◌, refl, ap, ◌∙◌, arith, subst}
+use Rattle.std.proofs.Common.{◌≡◌, ◌+◌, ◌≤◌, ℕ, false, List, [], ◌∷◌, ◌++◌, refl, sym, ap, ◌∙◌, arith, subst}
 use mathlib.Core.List.{IsPrefix}
 use Rattle.outbox_queue.proofs.OwedBeginnings.{prefix-on}
 use Rattle.realm.specs.History.{History}

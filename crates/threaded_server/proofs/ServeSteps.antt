@@ -11,6 +11,7 @@ use Rattle.threaded_server.proofs.ServedStreams.{told}
 use Rattle.threaded_server.specs.Answers.{EndsBy, came_in}
 use Rattle.threaded_server.specs.SeatRules.{AscendAtSeats}
 use Rattle.threaded_server.specs.Conns.{conns_of}
+use Rattle.threaded_server.specs.Histories.{Start}
 use Rattle.threaded_server.specs.Lending.{Lending}
 use Rattle.threaded_server.specs.Overs.{AllWent, Books, Moves, Went, after_of, before_of}
 use Rattle.threaded_server.specs.Posts.{ReceivedPosted}

@@ -19,7 +19,7 @@ returns-in-Some-clause-received g c p e =
     let poster = c.in-Some.poster in
     let now = c.drain_beside.new.poster in
     let is = same_Some poster p (sym c.in-Some.ensures.there ∙ e) in
-    received_by now p (received c.drain_beside.new.inbox) (same_trace poster now c.drain_beside.ensures.poster ∙ ap trace is) c.drain_beside.ensures.all
+    received_by now p (received c.drain_beside.new.self) (same_trace poster now c.drain_beside.ensures.poster ∙ ap trace is) c.drain_beside.ensures.all
 
 pub returns-in-Some-clause-more : goal.returns-in-Some-clause-more
 returns-in-Some-clause-more g c = c.drain_beside.ensures.more

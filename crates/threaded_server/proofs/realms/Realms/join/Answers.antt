@@ -37,14 +37,14 @@ loop-realm-preserved g c =
     let some : 0 < length c.loop-realm.handles.items = omega (arith, c.remove.ensures.len) in
     let split = ap (map shown) (first_of handles c.remove.result some c.remove.ensures.value) ∙ ap (λ l. shown c.remove.result ∷ map shown l) (sym c.remove.ensures.items) in
     let here : realm ≤ realm = omega arith in
-    let ran = runs_to (shown c.remove.result) c.join-began.result.0 c.join-began.result.1 c.of-ended.result c.drain_inbox.new.inbox c.of-inbox.result c.of-ended.ensures c.of-inbox.ensures c.join-began.ensures c.drain_inbox.ensures.more in
+    let ran = runs_to (shown c.remove.result) c.join-began.result.0 c.join-began.result.1 c.of-ended.result c.drain_inbox.new.inbox c.of.result c.of-ended.ensures c.of.ensures c.join-began.ensures c.drain_inbox.ensures.more in
     let left : length c.remove.new.self.items + (realm + 1) ≡ c.len-realm-end.result = omega (arith, c.remove.ensures.len, held.1.1) in (
-      so_far_on _ (map shown handles) (map shown c.remove.new.self.items) (shown c.remove.result) runs (items_of c.add.new.self) c.of-run.result.value held.0 split c.add.ensures
-          (subst (λ run. RunsTo (shown c.remove.result) run) (sym c.of-run.ensures) ran),
-      (ap length c.add.ensures ∙ length-append runs (c.of-run.result.value ∷ []) ∙ ap (λ n. n + 1) held.1.0, left),
+      so_far_on _ (map shown handles) (map shown c.remove.new.self.items) (shown c.remove.result) runs (items_of c.add.new.self) c.of-in-loop-realm.result.value held.0 split c.add.ensures
+          (subst (λ run. RunsTo (shown c.remove.result) run) (sym c.of-in-loop-realm.ensures) ran),
+      (ap length c.add.ensures ∙ length-append runs (c.of-in-loop-realm.result.value ∷ []) ∙ ap (λ n. n + 1) held.1.0, left),
       λ k i more. c.drain_inbox.ensures.others k i (λ same. omega (arith, more, same)) ∙ held.2 k i (omega (arith, more)),
-      posted_on runs (items_of c.add.new.self) c.of-run.result.value realm (lists_of c.args.posters) (lists_of c.loop-realm.posters) c.add.ensures held.1.0 (λ k. held.2 k realm here)
-          (λ k p less at. ap (λ run. at_seat (k + 1) (received run.inbox.value)) c.of-run.ensures ∙ ap (λ i. at_seat (k + 1) (received i)) c.of-inbox.ensures ∙ c.drain_inbox.ensures.received k p less at) held.3,
+      posted_on runs (items_of c.add.new.self) c.of-in-loop-realm.result.value realm (lists_of c.args.posters) (lists_of c.loop-realm.posters) c.add.ensures held.1.0 (λ k. held.2 k realm here)
+          (λ k p less at. ap (λ run. at_seat (k + 1) (received run.inbox.value)) c.of-in-loop-realm.ensures ∙ ap (λ i. at_seat (k + 1) (received i)) c.of.ensures ∙ c.drain_inbox.ensures.received k p less at) held.3,
     )
 
 pub returns-clause-runs : goal.returns-clause-runs
