@@ -80,8 +80,7 @@ pub struct ConnectionTable<
     ghost seated: { AreSeated seats roster.entries.items (items_of roster.lent) },
     ghost kept: { ∥ All (λ over. OverKept (realms_of realms) over)
         (items_of roster.over.streams) ∥₁ },
-    ghost began: { All (λ realm. IsBegunBy roster.over.plan.value realm) (realms_of realms) }
-        by { Prim.hlevel (codes, history_code, data_code, entries_code, trail_code) },
+    ghost began: { All (λ realm. IsBegunBy roster.over.plan.value realm) (realms_of realms) } by { Prim.hlevel (codes, history_code, data_code, entries_code, trail_code) },
 }
 
 impl<

@@ -234,12 +234,7 @@ fn drain_slot<S: Shut, R: Wait>(
     }
 }
 
-fn drain_by<S: Shut, R: Wait>(
-    rt: &R,
-    posters: &mut Posters<S>,
-    realm: usize,
-    inbox: &mut Inbox<S>,
-)
+fn drain_by<S: Shut, R: Wait>(rt: &R, posters: &mut Posters<S>, realm: usize, inbox: &mut Inbox<S>)
     requires here { (p : Poster S) → option_flatten (slice_get posters.old.items realm) ≡ Some p
         → inbox_of inbox.old ≡ inbox_of_poster p }
     ensures traces { traces posters.new.items ≡ traces posters.old.items }
