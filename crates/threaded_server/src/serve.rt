@@ -3,6 +3,7 @@ ghost use Rattle.std.specs.Prelude.{◌≡◌, ◌≢◌, ◌≤◌, ◌<◌, �
 ghost use Rattle.ghost_state.specs.GhostList.{items_of};
 ghost use Rattle.realm.specs.Grants.{pairs_of};
 ghost use Rattle.realm.specs.History.{begun};
+ghost use Rattle.broker_threads.specs.Words.{are_counted};
 ghost use Rattle.threaded_server.specs.Answers.{Serves};
 ghost use Rattle.threaded_server.specs.Histories.{start_of};
 ghost use Rattle.threaded_server.specs.Lending.{returned, with_returned};
@@ -216,12 +217,22 @@ fn realm_config(alloc: Global, name: &Topic, config: &Config) -> Result<RealmCon
     })
 }
 
-// A realm of this name, which nothing has entered yet.
-fn new_realm(alloc: Global, name: &Topic, config: &Config) -> Result<Realm, AllocError>
-    ensures { IfOk result (λ realm. realm ≡ begun (pairs_of config.now.grants.items)) }
+// A realm of this name, which nothing has entered yet, and where its ids come from.
+fn new_realm<R: RandomSource>(
+    rt: &R,
+    alloc: Global,
+    name: &Topic,
+    config: &Config,
+) -> Result<(Realm, IdWords), AllocError>
+    ensures realm { IfOk result (λ made. made.0 ≡ begun (pairs_of config.now.grants.items)) }
+    ensures words { IfOk result (λ made. made.1
+        ≡ record { is_counting = are_counted config.now.ids; given = [] }) }
 {
-    match Realm::new(alloc, realm_config(alloc, name, config)?) {
-        Ok(realm) => Ok(realm),
+    let Ok(realm) = Realm::new(alloc, realm_config(alloc, name, config)?) else {
+        return Err(AllocError);
+    };
+    match IdWords::new(rt, config.ids) {
+        Ok(words) => Ok((realm, words)),
         Err(_) => Err(AllocError),
     }
 }
@@ -270,22 +281,22 @@ fn open_realm<
         ≡ length (realms_of connection_table.old.realms) + 1) }
 {
     let alloc = connection_table.alloc;
+    let plan = Arc::try_clone(&connection_table.plan)?;
+    let marks = Arc::try_clone(&connection_table.marks)?;
     let chronicle = RealmChronicle::new(alloc)?;
     let (door, seats, inbox) = inbox_of_chronicle::<S>(alloc, MOST_POSTS, &chronicle)?;
     let (teller, told) = bounded(alloc, 1)?;
-    let Ok(words) = IdWords::new(&rt, config.ids) else {
-        return Err(AllocError);
-    };
+    let (kept, words) = new_realm(&rt, alloc, name, config)?;
     let work = ActorThread {
         alloc,
-        plan: Arc::try_clone(&connection_table.plan)?,
+        plan,
         realm: connection_table.count_realms(),
-        kept: new_realm(alloc, name, config)?,
+        kept,
         words,
         chronicle,
         inbox,
         teller,
-        marks: Arc::try_clone(&connection_table.marks)?,
+        marks,
     };
     let handle = RealmHandle::start(rt, alloc, door, told, work)?;
     connection_table.add_realm(&rt, handle, seats)
