@@ -12,6 +12,11 @@ pub popped : {A : Type 0} (r : Option A) (old new : List A) (a b : ℕ) → old 
 popped None old new a b is few count = let none : new ≡ [] = nil_from_length new (sym count ∙ few.1) in (is ∙ none, none)
 popped (Some p) old new a b is few count = is
 
+-- the same, where what is left keeps its items
+pub popped_kept : {A : Type 0} (r : Option A) (old new kept : List A) (a b : ℕ) → old ≡ option_to_list r ++ new → MatchOption r ((a ≡ 0) × (b ≡ 0)) (λ x. b + 1 ≡ a) → b ≡ length new → kept ≡ new
+    → MatchOption r ((old ≡ []) × (kept ≡ [])) (λ p. old ≡ p ∷ kept)
+popped_kept {A} r old new kept a b is few count same = subst (λ (items : List A). MatchOption r ((old ≡ []) × (items ≡ [])) (λ p. old ≡ p ∷ items)) (sym same) (popped r old new a b is few count)
+
 -- what holds anyhow holds where nothing was found
 pub anyhow : {A B : Type 0} (r : Option A) → B → IfNone r B
 anyhow None b = b
