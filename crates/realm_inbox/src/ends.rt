@@ -1,13 +1,15 @@
 //! The ends of an inbox: seats with their posters, and the receiving end.
-ghost use Rattle.std.specs.Prelude.{◌≡◌, ◌≢◌, ◌≤◌, [], ◌∷◌, ◌++◌, ◌+◌, true, IfSome, IfOk, IfErr, MatchOption, MatchResult};
+ghost use Rattle.std.specs.Prelude.{◌≡◌, ◌≢◌, ◌≤◌, [], ◌∷◌, ◌++◌, ◌+◌, length, true, IfSome, IfOk, IfErr, MatchOption, MatchResult};
 ghost use Rattle.crossbeam_channel.specs.Claims.{view, IsSeatAt};
 ghost use Rattle.crossbeam_channel.specs.Ends.{sends_on, receives_on};
 ghost use Rattle.wamp_ids.specs.Numbers.{seat_of};
 ghost use Rattle.ghost_state.specs.GhostList.{items_of};
 ghost use mathlib.Core.List.{IsPrefix};
 ghost use Rattle.realm_inbox.specs.Seats.{IsNext, IsHomed, BringsHome, BringsOwn, at_seat};
+ghost use Rattle.realm_inbox.specs.Behind.{IsBehind};
 ghost use Rattle.realm_inbox.specs.SeatLines.{IsDealt, waiting};
-ghost use Rattle.realm_inbox.specs.Ends.{home_in, place_of as place_in, posted_in, received_in, number_in, is_seat, is_reader, reads_any, posts_any};
+ghost use Rattle.realm_inbox.specs.InTurn.{Agrees, beside};
+ghost use Rattle.realm_inbox.specs.Ends.{home_in, place_of as place_in, posted_in, received_in, number_in, is_seat, is_reader, reads_any, lends_any};
 
 use crate::act::Act;
 use crate::backlog::{Backlog, PostCount, Weight};
@@ -36,6 +38,8 @@ pub(crate) type Ticket<S> = Pass<Post<S>, InboxView<S>>;
 pub struct Seat<S: Shut> {
     pub(crate) number: u64,
     pub(crate) past: GhostList<(Conn, Act<S>)>,
+    // How many acts these are.
+    pub(crate) posted: GhostCount,
     // What was posted here and isn't handled yet.
     pub(crate) backlog: Arc<Backlog>,
     pub(crate) count: PostCount,
@@ -46,6 +50,7 @@ pub struct Seat<S: Shut> {
     ghost at: { IsSeatAt (sends_on sender) pass },
     ghost sits: { is_seat number (view pass) ≡ true },
     ghost told: { items_of past ≡ posted_in (view pass) },
+    ghost counted: { posted ≡ length (posted_in (view pass)) },
 }
 
 /// Posts the acts of one connection at its seat. While it lives the inbox has a sender.
@@ -88,7 +93,8 @@ impl<S: Shut> Inbox<S> {
     ghost use Rattle.realm_inbox.specs.EndViews.{received, capacity, posted, poster_conn, home_of, inbox_of, inbox_of_poster};
 
     /// Waits for a post. It is the next of its seat: what had been posted there before it is exactly what was received of the seat.
-    /// A Join brings an outbox of the inbox's chronicle, or one for which none is picked. `None` once each sender is gone: the door,
+    /// A Join brings an outbox of the inbox's chronicle, or one for which none is picked. A stop comes behind all that its door was shown
+    /// ([`Door::sees`](crate::Door::sees)): that was received before. `None` once each sender is gone: the door,
     /// each poster and each seat, and nothing waits. It wakes who waits for room: with each post that it gives, and before it waits
     /// itself.
     ///
@@ -99,6 +105,7 @@ impl<S: Shut> Inbox<S> {
             (λ p. received self.new ≡ received self.old ++ p ∷ []) }
         ensures in_turn { IfSome result (λ p. IsNext (received self.old) p) }
         ensures home { IfSome result (λ p. IsHomed (home_of self.old) p) }
+        ensures behind { IfSome result (λ p. IsBehind (received self.old) p) }
         ensures same { (inbox_of self.new ≡ inbox_of self.old)
             × (capacity self.new ≡ capacity self.old) }
     {
@@ -127,6 +134,7 @@ impl<S: Shut> Inbox<S> {
             (λ p. received self.new ≡ received self.old ++ p ∷ []) }
         ensures in_turn { IfSome result (λ p. IsNext (received self.old) p) }
         ensures home { IfSome result (λ p. IsHomed (home_of self.old) p) }
+        ensures behind { IfSome result (λ p. IsBehind (received self.old) p) }
         ensures same { (inbox_of self.new ≡ inbox_of self.old)
             × (capacity self.new ≡ capacity self.old) }
     {
@@ -139,6 +147,7 @@ impl<S: Shut> Inbox<S> {
             (λ _. received self.new ≡ received self.old) }
         ensures in_turn { IfOk result (λ p. IsNext (received self.old) p) }
         ensures home { IfOk result (λ p. IsHomed (home_of self.old) p) }
+        ensures behind { IfOk result (λ p. IsBehind (received self.old) p) }
         ensures same { (inbox_of self.new ≡ inbox_of self.old)
             × (capacity self.new ≡ capacity self.old) }
     {
@@ -156,13 +165,14 @@ impl<S: Shut> Inbox<S> {
         self.turns.is_calm(&self.lines) && self.lines.is_open()
     }
 
-    // The next post of the channel, if nothing of its seat waits.
+    // The next post of the channel, if nothing of its seat waits; a stop, if nothing waits at all.
     fn give_as_it_comes<R: Wait>(&mut self, rt: &R) -> Result<Post<S>, TryRecvError>
         requires open { self.old.lines.aside ≡ None }
         ensures given { MatchResult result (λ p. received self.new ≡ received self.old ++ p ∷ [])
             (λ _. received self.new ≡ received self.old) }
         ensures in_turn { IfOk result (λ p. IsNext (received self.old) p) }
         ensures home { IfOk result (λ p. IsHomed (home_of self.old) p) }
+        ensures behind { IfOk result (λ p. IsBehind (received self.old) p) }
         ensures same { (inbox_of self.new ≡ inbox_of self.old)
             × (capacity self.new ≡ capacity self.old) }
     {
@@ -171,7 +181,7 @@ impl<S: Shut> Inbox<S> {
             Err(why) => return Err(why),
         };
         let place = place_of(&post);
-        if !self.lines.is_free(place) {
+        if !self.lines.lets_through(place) {
             self.lines.add(post);
             return self.deal(TryRecvError::Empty);
         }
@@ -214,16 +224,17 @@ impl<S: Shut> Inbox<S> {
         Ok(())
     }
 
-    // The post whose turn it is, of those that wait. Where none waits, why none came.
+    // The post whose turn it is, of those that wait; a stop, if nothing else does. Where none waits, why none came.
     fn deal(&mut self, why: TryRecvError) -> Result<Post<S>, TryRecvError>
         ensures given { MatchResult result (λ p. received self.new ≡ received self.old ++ p ∷ [])
             (λ _. received self.new ≡ received self.old) }
         ensures in_turn { IfOk result (λ p. IsNext (received self.old) p) }
         ensures home { IfOk result (λ p. IsHomed (home_of self.old) p) }
+        ensures behind { IfOk result (λ p. IsBehind (received self.old) p) }
         ensures same { (inbox_of self.new ≡ inbox_of self.old)
             × (capacity self.new ≡ capacity self.old) }
     {
-        let place = self.turns.next_place(&self.lines);
+        let place = self.lines.stop_last(self.turns.next_place(&self.lines));
         let Some(first) = self.lines.pop(place) else {
             self.turns.schedule.calm_down();
             return Err(why);
@@ -287,15 +298,17 @@ impl<S: Shut> Inbox<S> {
     }
 }
 
-// Tells what the reader's pass and a seat's know together. Both know the same behind it.
-fn compare_passes<S: Shut>(sender: &Sending<S>, reading: &mut Ticket<S>, posting: &mut Ticket<S>)
+// Tells what the reader's pass and a seat's or the door's know together. Both know the same behind it.
+pub(crate) fn compare_passes<S: Shut>(
+    sender: &Sending<S>,
+    reading: &mut Ticket<S>,
+    posting: &mut Ticket<S>,
+)
     requires reading { IsSeatAt (sends_on sender.now) reading.old
         × (reads_any (view reading.old) ≡ true) }
     requires posting { IsSeatAt (sends_on sender.now) posting.old
-        × (posts_any (view posting.old) ≡ true) }
-    ensures begins { IsPrefix
-        (at_seat (number_in (view posting.old)) (received_in (view reading.old)))
-        (posted_in (view posting.old)) }
+        × (lends_any (view posting.old) ≡ true) }
+    ensures agree { Agrees (beside (view reading.old) (view posting.old)) }
     ensures reading { IsSeatAt (sends_on sender.now) reading.new
         × (view reading.new ≡ view reading.old) }
     ensures posting { IsSeatAt (sends_on sender.now) posting.new
@@ -409,6 +422,7 @@ impl<S: Shut> Seat<S> {
         match send::<_, _, _, Posts, R>(rt, &self.sender, &self.bells, &mut self.pass, post) {
             Ok(()) => {
                 self.past.add(last);
+                self.posted.tick();
                 Ok(())
             }
             Err(Post::Act(letter)) => Err(letter.act),
@@ -423,6 +437,7 @@ impl<S: Shut> Drop for Seat<S> {
         let Self {
             number: _,
             past: _,
+            posted: _,
             backlog: _,
             count: _,
             sender,

@@ -1,5 +1,5 @@
 //! Posts that wait one behind another.
-ghost use Rattle.std.specs.Prelude.{◌≡◌, ◌++◌, ◌∷◌, [], true, MatchOption};
+ghost use Rattle.std.specs.Prelude.{◌≡◌, ◌≢◌, ◌++◌, ◌∷◌, [], true, false, MatchOption};
 
 use crate::letter::Post;
 use crate::transport::Shut;
@@ -24,7 +24,8 @@ impl<S: Shut> SeatLine<S> {
 
     /// Whether nobody waits.
     pub(crate) fn is_empty(&self) -> bool
-        ensures { result ≡ true → self.now.posts.items ≡ [] }
+        ensures none { result ≡ true → self.now.posts.items ≡ [] }
+        ensures some { result ≡ false → self.now.posts.items ≢ [] }
     {
         self.posts.is_empty()
     }
