@@ -1,5 +1,5 @@
 -- The line of a place, as lines are put in and looked up.
-use Rattle.std.proofs.Common.{◌≡◌, ◌≢◌, ℕ, zero, suc, ◌+◌, ◌<◌, ◌≤◌, Bool, true, false, cond, eqb, eq-eqb, eqb-true, List, [], ◌∷◌, ◌++◌, length, length-append, set, get_or, refl, sym, ap, ◌∙◌, subst, append_assoc, arith}
+use Rattle.std.proofs.Common.{◌≡◌, ◌≢◌, ℕ, zero, suc, ◌+◌, ◌<◌, ◌≤◌, Bool, true, false, cond, eqb, eq-eqb, eqb-true, ltb, ltb-true, ltb-false, List, [], ◌∷◌, ◌++◌, length, length-append, set, get_or, refl, sym, ap, ◌∙◌, subst, append_assoc, arith}
 use Rattle.std.specs.Prelude.{Option, Some, None, IfNone, MatchOption, option_to_list}
 use Rattle.std.proofs.lemmas.Bool.{eqb-false}
 use Rattle.std.proofs.lemmas.List.{append-nil, nil_from_length}
@@ -71,6 +71,22 @@ module _ {S : Type 0} where
   line_none [] i beyond = refl
   line_none (l ∷ ls) zero beyond = absurd (omega (arith, beyond))
   line_none (l ∷ ls) (suc i) beyond = line_none ls i (omega (arith, beyond))
+
+  -- nobody waits in the lines of seats below a place, nor at that
+  pub none_below : (ls : List (SeatLine S)) (place : ℕ) → ((k : ℕ) → k ≢ 0 → k < place → line_at ls k ≡ []) → line_at ls place ≡ [] → (k : ℕ) → k ≢ 0 → k < place + 1 → line_at ls k ≡ []
+  none_below ls place none here k seat below = by (eqb k place) refl
+    where
+      by : (b : Bool) → eqb k place ≡ b → line_at ls k ≡ []
+      by true e = ap (λ n. line_at ls n) (eqb-true k place e) ∙ here
+      by false e = none k seat (let apart = eqb-false k place e in search (apart, below, arith))
+
+  -- nor anywhere else, where those are all lines
+  pub none_anywhere : (ls : List (SeatLine S)) (place : ℕ) → ((k : ℕ) → k ≢ 0 → k < place → line_at ls k ≡ []) → length ls ≤ place → (k : ℕ) → k ≢ 0 → line_at ls k ≡ []
+  none_anywhere ls place none all k seat = by (ltb k place) refl
+    where
+      by : (b : Bool) → ltb k place ≡ b → line_at ls k ≡ []
+      by true e = none k seat (ltb-true k place e)
+      by false e = let beyond = ltb-false k place e in line_none ls k (omega (arith, beyond, all))
 
   -- a post was popped of a line
   pub popped_from : (ls : List (SeatLine S)) (i : ℕ) (old y : SeatLine S) (r : Option (Post S)) → i < length ls → line_at ls i ≡ old.posts.items

@@ -80,5 +80,5 @@ module _ {S : Type 0} where
   -- each stop tells once
   pub told_length : (ps : List (Post S)) → length (told_by ps) ≡ stops_of ps
   told_length [] = refl
-  told_length (Act l ∷ ps) = told_length ps
+  told_length (Act l ∷ ps) = omega (arith, told_length ps)
   told_length (Stop halt ∷ ps) = omega (arith, told_length ps)

@@ -289,6 +289,6 @@ module _ (S : RattleType) where
     told_begins at told d begins =
         let rest = drop (length (told_by given)) (told_by taken) in
         let sum : told_by taken ≡ told_by given ++ rest = ∥∥₁_elim d (told_set _ _) (λ w.
-            let sum = (w 0).stops refl in
-            sum ∙ ap (λ l. told_by given ++ l) (sym (ap (λ l. drop (length (told_by given)) l) sum ∙ drop-append_seam (told_by given) (told_by (at 0))))) in
+        let sum = (w 0).stops refl in
+        sum ∙ ap (λ l. told_by given ++ l) (sym (ap (λ l. drop (length (told_by given)) l) sum ∙ drop-append_seam (told_by given) (told_by (at 0))))) in
         (rest ++ begins.0, sym (append_assoc (told_by given) rest begins.0) ∙ (ap (λ l. l ++ begins.0) (sym sum) ∙ begins.1))

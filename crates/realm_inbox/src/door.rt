@@ -10,7 +10,8 @@ ghost use Rattle.realm_inbox.specs.Unchanged.{IsSamePoster};
 ghost use Rattle.realm_inbox.specs.Ends.{home_in, place_of as place_in, posted_in, received_in, shown_in, told_in, number_in, is_door, reads_any, posts_any};
 
 use crate::bells::{Bells, send};
-use crate::ends::{Inbox, Poster, Seat, Sending, Ticket, compare_passes};
+use crate::compared::compare_passes;
+use crate::ends::{Inbox, Poster, Seat, Sending, Ticket};
 use crate::letter::{Halt, Post, SeatCount};
 use crate::rule::{Beside, Stops};
 use crate::transport::Shut;

@@ -36,6 +36,7 @@ mod act;
 mod backlog;
 mod bells;
 mod beside;
+mod compared;
 mod door;
 mod ends;
 mod history;

@@ -1,7 +1,7 @@
 use Rattle.std.proofs.Common.{◌∙◌, subst}
 use Rattle.realm_inbox.specs.InTurn.{Agrees}
 use Rattle.realm_inbox.proofs.LentSteps.{lends_reader, goes_by, comes_by, in_one_hand, leaves_by, stays, returns_by, back_again, learns_by, reader_left}
-use Rattle.realm_inbox.proofs.ends.compare_passes.Goals as goal
+use Rattle.realm_inbox.proofs.compared.compare_passes.Goals as goal
 
 pub another-lent-requires-clause-rule : goal.another-lent-requires-clause-rule
 another-lent-requires-clause-rule g c = goes_by _ _ (lends_reader _ _ c.requires.reading.1 c.requires.posting.1) _

@@ -5,7 +5,7 @@ use Rattle.realm_inbox.specs.SeatLines.{IsDealt, waiting}
 use Rattle.realm_inbox.specs.Ends.{home_in, received_in, is_reader}
 use Rattle.realm_inbox.specs.EndViews.{told}
 use Rattle.realm_inbox.proofs.SeatLineSteps.{told_begins}
-use Rattle.realm_inbox.proofs.door.Inbox.compare_stops.Goals as goal
+use Rattle.realm_inbox.proofs.ends.Inbox.compare_stops.Goals as goal
 
 pub invariant_of-self : goal.invariant_of-self
 invariant_of-self g c =
