@@ -1,7 +1,7 @@
 -- Of lists of posts: what they are at a seat, what their stops tell, and what comes behind what.
 use Rattle.std.proofs.Common.{◌≡◌, ◌≢◌, ℕ, zero, suc, ◌+◌, ◌≤◌, cond, eqb, eq-eqb, ne_eqb, List, [], ◌∷◌, ◌++◌, length, length-append, sym, refl, ap, ◌∙◌, subst, arith, append_assoc}
 use Rattle.std.proofs.lemmas.List.{append-nil}
-use Rattle.std.proofs.Math.Nat.{add_assoc}
+use Rattle.std.proofs.Math.Nat.{add_assoc, add-zero}
 use Rattle.std.specs.Prelude.{Option}
 use Rattle.atomic_table.specs.Seated.{TableId}
 use Rattle.wamp_ids.specs.Numbers.{seat_of}
@@ -23,6 +23,9 @@ module _ {S : Type 0} where
   pub stops_append : (xs ys : List (Post S)) → stops_of (xs ++ ys) ≡ stops_of xs + stops_of ys
   stops_append [] ys = omega arith
   stops_append (x ∷ xs) ys = ap (λ n. adds_stops x + n) (stops_append xs ys) ∙ sym (add_assoc (adds_stops x) (stops_of xs) (stops_of ys))
+
+  pub stops_snoc : (xs : List (Post S)) (p : Post S) → stops_of (xs ++ p ∷ []) ≡ stops_of xs + adds_stops p
+  stops_snoc xs p = stops_append xs (p ∷ []) ∙ ap (λ n. stops_of xs + n) (add-zero (adds_stops p))
 
   pub adds_here : (k : ℕ) (l : Letter S) → seat_of l.conn ≡ k → adds_at k (Act l) ≡ said l ∷ []
   adds_here k l e = ap (λ b. cond b (said l ∷ []) []) (eq-eqb (seat_of l.conn) k e)

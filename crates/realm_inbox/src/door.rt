@@ -6,7 +6,6 @@ ghost use Rattle.crossbeam_channel.specs.Ends.{sends_on};
 ghost use Rattle.wamp_ids.specs.Numbers.{seat_of};
 ghost use Rattle.ghost_state.specs.GhostList.{items_of};
 ghost use Rattle.realm_inbox.specs.Behind.{told_by};
-ghost use Rattle.realm_inbox.specs.Unchanged.{IsSamePoster};
 ghost use Rattle.realm_inbox.specs.Ends.{home_in, place_of as place_in, posted_in, received_in, shown_in, told_in, number_in, is_door, reads_any, posts_any};
 
 use crate::bells::{Bells, send};
@@ -37,6 +36,7 @@ pub struct Door<S: Shut> {
 
 impl<S: Shut> Door<S> {
     ghost use Rattle.realm_inbox.specs.EndViews.{posted, posted_at, poster_conn, seat_number, shown, told, stops, inbox_of_poster, inbox_of_seat, inbox_of_door};
+    ghost use Rattle.realm_inbox.specs.Unchanged.{IsSamePoster};
 
     /// A poster of the connection at its seat, whose number is [`wamp_ids::seat`] of it. The seat is one of this door's inbox. Where
     /// the caller can't show this, [`Seat::into_poster`] makes one of the seat alone.

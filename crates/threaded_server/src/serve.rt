@@ -67,7 +67,7 @@ pub fn serve_on<
         (sight A.Source.seen A.Sink.seen)
         (offer config.now.realms.items config.now.outbox) (pairs_of config.now.grants.items)
         (A.answers acceptor.old) (A.answers acceptor.new) (A.lending acceptor.old)
-        (A.lending acceptor.new) ∥₁ }
+        (A.lending acceptor.new) (A.asked acceptor.new) ∥₁ }
 {
     serve_logged(rt, alloc, acceptor, config, None)
 }
@@ -88,7 +88,7 @@ pub fn serve_logged<
         (sight A.Source.seen A.Sink.seen)
         (offer config.now.realms.items config.now.outbox) (pairs_of config.now.grants.items)
         (A.answers acceptor.old) (A.answers acceptor.new) (A.lending acceptor.old)
-        (A.lending acceptor.new) ∥₁ }
+        (A.lending acceptor.new) (A.asked acceptor.new) ∥₁ }
 {
     serve_within(rt, alloc, acceptor, config, MessageBound::largest(), log)
 }
@@ -118,7 +118,7 @@ pub fn serve_within<
         (offer_within bound config.now.realms.items config.now.outbox)
         (pairs_of config.now.grants.items)
         (A.answers acceptor.old) (A.answers acceptor.new) (A.lending acceptor.old)
-        (A.lending acceptor.new) ∥₁ }
+        (A.lending acceptor.new) (A.asked acceptor.new) ∥₁ }
 {
     let plan = plan_of(alloc, config, bound, log)?;
     let mut connection_table = ConnectionTable::new(alloc, plan)?;
