@@ -2,7 +2,7 @@
 use Rattle.std.specs.Prelude.{◌≡◌, ◌<◌, ◌≤◌, ◌+◌, ℕ, List, [], ◌∷◌, ◌++◌, Option, None, Some, All, length, map, slice_get}
 use Rattle.std.specs.Option.{option_flatten}
 use mathlib.Core.List.{IsPrefix}
-use Rattle.realm_inbox.specs.Behind.{HasAll}
+use Rattle.realm_inbox.specs.Behind.{HasAll, told_by}
 use Rattle.realm_inbox.specs.EndViews.{inbox_of_door, inbox_of_poster, posted, poster_conn, received, shown, told}
 use Rattle.realm_inbox.specs.Ends.{Place}
 use Rattle.realm_inbox.specs.Seats.{at_seat}
@@ -11,6 +11,7 @@ use Rattle.realm_inbox.specs.declared.ends.Poster.{Poster}
 use Rattle.realm_inbox.specs.declared.letter.Post.{Post}
 use Rattle.threaded_server.specs.Histories.{until_stop}
 use Rattle.threaded_server.specs.Posts.{posts_at}
+use Rattle.threaded_server.specs.Realms.{Shown, inbox_in}
 use Rattle.threaded_server.specs.declared.doors.Doors.{Doors}
 use Rattle.threaded_server.specs.declared.over.Over.{Over}
 use Rattle.threaded_server.specs.declared.realm_run.RealmRun.{RealmRun}
@@ -58,6 +59,15 @@ module _ {S : Type 0} where
   abbrev pub AllMayStop : List (DoorView S) → List (DoorView S) → Type 0
   AllMayStop before now = (length now ≡ length before)
       × ((realm : ℕ) (door : DoorView S) → slice_get before realm ≡ Some door → (after : DoorView S) × (slice_get now realm ≡ Some after) × MayStop door after)
+
+  -- they are of these realms' inboxes
+  abbrev pub AreDoorsOf : List (Shown S) → List (DoorView S) → Type 0
+  AreDoorsOf realms doors = map inbox_in realms ≡ map (λ door. door.inbox) doors
+
+  -- What the stops told that a realm's inbox gave begins what its door's told, the last two of them what it was shown in the end
+  abbrev pub AllTold : List (DoorView S) → List (RealmRun S) → Type 0
+  AllTold doors runs = (realm : ℕ) (door : DoorView S) (run : RealmRun S) → slice_get doors realm ≡ Some door → slice_get runs realm ≡ Some run
+      → IsPrefix (told_by (received run.ended.value.inbox)) (door.told ++ door.shown ∷ door.shown ∷ [])
 
   -- no stop was posted yet
   abbrev pub NoneStopped : List (DoorView S) → Type 0

@@ -1,6 +1,7 @@
 //! The connections that are served, and their seats.
+ghost use mathlib.Core.List.{IsPrefix};
 ghost use Rattle.std.specs.Coded.{codes};
-ghost use Rattle.std.specs.Prelude.{◌≡◌, ◌<◌, ◌+◌, ℕ, [], ◌∷◌, ◌++◌, All, None, Some, IfOk, IfSome, OnOk, length, set};
+ghost use Rattle.std.specs.Prelude.{◌≡◌, ◌<◌, ◌+◌, ℕ, [], ◌∷◌, ◌++◌, All, false, None, Some, IfOk, IfSome, OnOk, length, set};
 ghost use Rattle.threaded_server.specs.Seats.{free_at, given_back};
 ghost use Rattle.ghost_state.specs.GhostList.{items_of};
 ghost use Rattle.message_tree.specs.Code.{data_code, entries_code};
@@ -12,9 +13,10 @@ ghost use Rattle.threaded_server.specs.Conns.{Numbered, conns_of};
 ghost use Rattle.broker_threads.specs.Courses.{fate_of, seen_of, sink_of};
 ghost use Rattle.threaded_server.specs.SeatRules.{AscendAtSeats, TellsRefusal};
 ghost use Rattle.threaded_server.specs.Overs.{AllWent, GoesOver};
-ghost use Rattle.threaded_server.specs.Posters.{Stand, lists_at, lists_of};
+ghost use Rattle.threaded_server.specs.Posters.{Stand, lists_at, lists_of, traces, traces_of};
 ghost use Rattle.threaded_server.specs.Posts.{AllSay, ReceivedPosted, posts_at};
 ghost use Rattle.threaded_server.specs.Realms.{IsAtHome, TakesIn, places_of, realms_of, shown};
+ghost use Rattle.threaded_server.specs.Stopping.{AllCover, AllSee, AreDoorsOf, AreOfDoors, HandledBefore, NoneStopped, StopsCover, door_view, doors_of};
 ghost use Rattle.threaded_server.specs.Seating.{AreSeated};
 ghost use Rattle.broker_threads.specs.Streams.{offer_of, sight};
 ghost use Rattle.threaded_server.specs.Table.{IsUnused};
@@ -22,6 +24,7 @@ ghost use Rattle.threaded_server.specs.TrailCode.{trail_code};
 ghost use Rattle.threaded_server.specs.Ties.{HasGrants, IsRun, OverKept, OverTied};
 
 use crate::acceptor::Parts;
+use crate::doors::Doors;
 use crate::over::{Gone, Over};
 use crate::poster_table::PosterTable;
 use crate::realm_handle::RealmHandle;
@@ -36,7 +39,7 @@ use ghost_state::GhostList;
 use log_lines::{CloseReason, ConnectionRefusal};
 use rawsocket::devices::{Sink, Source, Turns, send};
 use rawsocket::no_seat_reply;
-use realm_inbox::{Seat, Shut};
+use realm_inbox::{Door, Seat, Shut};
 use std::alloc::{AllocError, Global};
 use std::snapshot::Snapshot;
 use std::sync::{Arc, Wait};
@@ -65,8 +68,13 @@ pub struct ConnectionTable<
     pub plan: Arc<Plan>,
     pub marks: Arc<SeatTable>,
     realms: Realms<S>,
+    doors: Doors<S>,
     posters: PosterTable<S>,
     seats: Seats,
+    // Whether the actors were told to stop.
+    is_stopping: bool,
+    // The streams that were over then. It takes no bytes.
+    early: Snapshot<GhostList<Over<I, O, S>>>,
     // By seat, from 0.
     roster: Roster<I, O, S>,
     ghost same: { arc_value plan ≡ roster.over.plan.value },
@@ -80,6 +88,11 @@ pub struct ConnectionTable<
     ghost seated: { AreSeated seats roster.entries.items (items_of roster.lent) },
     ghost kept: { ∥ All (λ over. OverKept (realms_of realms) over)
         (items_of roster.over.streams) ∥₁ },
+    ghost doors: { AreDoorsOf (realms_of realms) (doors_of doors) } by { Prim.hlevel (codes, history_code, data_code, entries_code, trail_code) },
+    ghost shown: { ∥ AllCover (items_of roster.over.streams) (doors_of doors) ∥₁ },
+    ghost unstopped: { is_stopping ≡ false → NoneStopped (doors_of doors) },
+    ghost early_are: { ∥ IsPrefix (items_of early.value) (items_of roster.over.streams) ∥₁ },
+    ghost handled: { ∥ StopsCover (items_of early.value) (doors_of doors) ∥₁ },
     ghost grants: { All (λ realm. HasGrants roster.over.plan.value realm) (realms_of realms) }
         by { Prim.hlevel (codes, history_code, data_code, entries_code, trail_code) },
 }
@@ -96,18 +109,23 @@ impl<
         ensures lent { IfOk result (λ t. items_of t.roster.lent ≡ []) }
         ensures unused { IfOk result (λ t.
             IsUnused t.roster.entries.items (items_of t.roster.over.streams)) }
+        ensures stopping { IfOk result (λ t. t.is_stopping ≡ false) }
     {
         let realms = Realms::with_capacity(alloc, plan.realms.len())?;
+        let doors = Doors::with_capacity(alloc, plan.realms.len())?;
         let plan = Arc::new(alloc, plan)?;
         let roster = Roster::new(alloc, &plan)?;
         let posters = PosterTable::new(alloc, plan.realms.len())?;
         Ok(ConnectionTable {
             alloc,
             realms,
+            doors,
             posters,
             plan,
             marks: Arc::new(alloc, SeatTable::new(alloc)?)?,
             seats: Seats::new(),
+            is_stopping: false,
+            early: Snapshot::of(&GhostList::new()),
             roster,
         })
     }
@@ -121,6 +139,8 @@ impl<
 
     /// Joins the reader at this place, from 0, if it is over, and frees its seat. What is left of its stream, where it was.
     pub fn reap<R: Threads + Wait>(&mut self, rt: &R, place: usize) -> Option<Gone<I, O>>
+        ensures stopping { (self.new.is_stopping ≡ self.old.is_stopping)
+            × (self.new.early ≡ self.old.early) }
         ensures plan { self.new.roster.over.plan ≡ self.old.roster.over.plan }
         ensures realms { length (realms_of self.new.realms) ≡ length (realms_of self.old.realms) }
         ensures lent { items_of self.new.roster.lent ≡ items_of self.old.roster.lent }
@@ -136,6 +156,8 @@ impl<
 
     /// Waits for the reader at this place, if there is one, and frees its seat. What is left of its stream, where there was one.
     pub fn release<R: Threads + Wait>(&mut self, rt: &R, place: usize) -> Option<Gone<I, O>>
+        ensures stopping { (self.new.is_stopping ≡ self.old.is_stopping)
+            × (self.new.early ≡ self.old.early) }
         ensures plan { self.new.roster.over.plan ≡ self.old.roster.over.plan }
         ensures realms { length (realms_of self.new.realms) ≡ length (realms_of self.old.realms) }
         ensures lent { items_of self.new.roster.lent ≡ items_of self.old.roster.lent }
@@ -145,7 +167,9 @@ impl<
             ≡ set self.old.roster.entries.items place None }
     {
         let (conn, ended) = self.roster.join(rt, place)?;
-        let (gone, _) = take_in(rt, &mut self.realms, &mut self.posters, place, ended);
+        let (gone, _) = take_in(
+            rt, &mut self.realms, &mut self.doors, &mut self.posters, place, ended,
+        );
         vacate(&self.marks, &mut self.seats, conn);
         Some(gone)
     }
@@ -155,7 +179,7 @@ impl<
         self.realms.len()
     }
 
-    /// One realm more, whose seats these are.
+    /// One realm more, whose door and whose seats these are.
     ///
     /// # Errors
     /// Where memory was refused.
@@ -163,6 +187,7 @@ impl<
         &mut self,
         rt: &R,
         handle: RealmHandle<S>,
+        door: Door<S>,
         seats: Vec<Seat<S>>,
     ) -> Result<(), AllocError>
         requires within { length (realms_of self.old.realms)
@@ -170,6 +195,8 @@ impl<
         requires unused { IsUnused self.old.roster.entries.items
             (items_of self.old.roster.over.streams) }
         requires grants { HasGrants self.old.roster.over.plan.value (shown handle) }
+        requires door { ((door_view door).inbox ≡ inbox_of (shown handle).work.inbox)
+            × ((door_view door).shown ≡ []) × ((door_view door).told ≡ []) }
         requires count { length seats.items ≡ 256 }
         requires seats { AreNewSeats (inbox_of (shown handle).work.inbox) seats.items }
         ensures roster { self.new.roster ≡ self.old.roster }
@@ -177,20 +204,34 @@ impl<
             ≡ length (realms_of self.old.realms) + 1) }
     {
         let place = self.realms.len();
+        if let Err(door) = self.doors.add(door) {
+            handle.join(rt, door);
+            return Err(AllocError);
+        }
         if let Err(handle) = self.realms.add(handle) {
-            handle.join(rt);
+            if let Some(door) = self.doors.take_last() {
+                handle.join(rt, door);
+            }
             return Err(AllocError);
         }
         self.posters.add_realm(place, seats);
         Ok(())
     }
 
-    /// Stops the realms' actors, and waits until each has marked whose sessions it holds.
+    /// Stops the realms' actors, and waits until each has marked whose sessions it holds. What the streams posted that are over is handled
+    /// before.
     pub fn stop_actors<R: Wait>(&mut self, rt: &R)
         ensures roster { self.new.roster ≡ self.old.roster }
-        ensures realms { length (realms_of self.new.realms) ≡ length (realms_of self.old.realms) }
+        ensures realms { realms_of self.new.realms ≡ realms_of self.old.realms }
+        ensures early { self.old.is_stopping ≡ false
+            → items_of self.new.early.value ≡ items_of self.old.roster.over.streams }
     {
-        self.realms.stop(rt);
+        if !self.is_stopping {
+            self.is_stopping = true;
+            self.early = Snapshot::of(&self.roster.over.streams);
+        }
+        self.doors.stop(rt);
+        self.realms.await_marks(rt);
     }
 
     /// Nobody is served any more: waits for the realms' actors' threads. How each realm ran, and that each stream that was lent is over,
@@ -203,6 +244,7 @@ impl<
         ensures realms { length (items_of result) ≡ length (realms_of self.realms) }
         ensures received { ∥ ReceivedPosted (items_of result)
             (items_of self.roster.over.streams) ∥₁ }
+        ensures handled { ∥ HandledBefore (items_of result) (items_of self.early.value) ∥₁ }
         ensures ascend { AscendAtSeats (conns_of (items_of self.roster.over.streams)) }
         ensures tied { ∥ All (λ over. OverTied (items_of result) over)
             (items_of self.roster.over.streams) ∥₁ }
@@ -213,12 +255,13 @@ impl<
     {
         let ConnectionTable {
             realms,
+            doors,
             posters,
             roster,
             ..
         } = self;
         roster.shows_all_over();
-        realms.join(rt, posters)
+        realms.join(rt, doors, posters)
     }
 
     /// Ends the streams of those whose sessions no actor held at its end.
@@ -237,6 +280,8 @@ impl<
         rt: R,
         arrival: Arrival<I, O, S>,
     ) -> Option<Gone<I, O>>
+        ensures stopping { (self.new.is_stopping ≡ self.old.is_stopping)
+            × (self.new.early ≡ self.old.early) }
         ensures plan { self.new.roster.over.plan ≡ self.old.roster.over.plan }
         ensures realms { length (realms_of self.new.realms) ≡ length (realms_of self.old.realms) }
         ensures lent { items_of self.new.roster.lent ≡ items_of self.old.roster.lent
@@ -267,7 +312,9 @@ impl<
             Started::Ended(halves, began, ended) => {
                 let over = Over::Seated(began, Snapshot::of(&ended));
                 self.roster.pass(halves, Snapshot::of(&over));
-                let (gone, why) = take_in(&rt, &mut self.realms, &mut self.posters, place, ended);
+                let (gone, why) = take_in(
+                    &rt, &mut self.realms, &mut self.doors, &mut self.posters, place, ended,
+                );
                 vacate(&self.marks, &mut self.seats, conn);
                 tell_unserved(&rt, &self.plan, conn, why);
                 Some(gone)
@@ -284,6 +331,8 @@ impl<
 
     /// A stream is let go of, from which nothing was read, and to which nothing was written: memory was refused for it.
     pub fn let_go(&mut self, halves: (I, O)) -> Gone<I, O>
+        ensures stopping { (self.new.is_stopping ≡ self.old.is_stopping)
+            × (self.new.early ≡ self.old.early) }
         ensures plan { self.new.roster.over.plan ≡ self.old.roster.over.plan }
         ensures realms { length (realms_of self.new.realms) ≡ length (realms_of self.old.realms) }
         ensures lent { items_of self.new.roster.lent
@@ -297,6 +346,8 @@ impl<
     // Tells the client of a stream that no seat is free, and lets go of it.
     fn turn_away(&mut self, parts: Parts<I, O, S>) -> Gone<I, O>
         requires full { (place : ℕ) → place < 256 → free_at self.old.seats place ≡ None }
+        ensures stopping { (self.new.is_stopping ≡ self.old.is_stopping)
+            × (self.new.early ≡ self.old.early) }
         ensures plan { self.new.roster.over.plan ≡ self.old.roster.over.plan }
         ensures realms { length (realms_of self.new.realms) ≡ length (realms_of self.old.realms) }
         ensures lent { items_of self.new.roster.lent ≡ items_of self.old.roster.lent
@@ -330,27 +381,31 @@ fn take_in<
 >(
     rt: &R,
     realms: &mut Realms<S>,
+    doors: &mut Doors<S>,
     posters: &mut PosterTable<S>,
     place: usize,
     ended: Ended<I, O, S>,
 ) -> (Gone<I, O>, CloseReason)
-    requires { IfSome (seen_of ended.course) (λ seen. IsAtHome (realms_of realms.old) seen) }
+    requires seen { IfSome (seen_of ended.course) (λ seen. IsAtHome (realms_of realms.old) seen) }
+    requires doors { AreOfDoors (doors_of doors.old) ended.posters.items }
     ensures realms { TakesIn (realms_of realms.old) (seen_of ended.course) (realms_of realms.new) }
-    ensures posters { lists_of posters.new
-        ≡ set (lists_of posters.old) place (Some ended.posters.items) }
+    ensures posters { traces_of (lists_of posters.new)
+        ≡ set (traces_of (lists_of posters.old)) place (Some (traces ended.posters.items)) }
+    ensures doors { AllSee ended.posters.items (doors_of doors.old) (doors_of doors.new) }
     ensures source { result.0.source ≡ ended.source }
     ensures sink { result.0.sink ≡ sink_of ended.course }
     ensures fate { result.0.fate ≡ fate_of ended.course }
 {
     let Ended {
         source,
-        posters: back,
+        posters: mut back,
         course,
         reason,
     } = ended;
     let fate = course.fate();
     let (sink, seen) = course.into_parts();
     realms.take_in(rt, seen);
+    doors.see(&mut back);
     posters.put(place, back);
     (Gone { source, sink, fate }, reason)
 }

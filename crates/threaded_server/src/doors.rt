@@ -77,6 +77,11 @@ impl<S: Shut + 'static> Doors<S> {
         }
     }
 
+    /// The last door, which leaves.
+    pub fn take_last(&mut self) -> Option<Door<S>> {
+        self.doors.pop()
+    }
+
     /// The first door, which leaves.
     pub fn take_first(&mut self) -> Option<Door<S>> {
         if self.doors.is_empty() {

@@ -23,6 +23,7 @@ mod acceptor;
 mod account;
 mod answer;
 mod connection_table;
+mod doors;
 mod entry;
 pub mod laws;
 mod over;

@@ -287,8 +287,8 @@ fn open_realm<
         teller,
         marks: Arc::try_clone(&connection_table.marks)?,
     };
-    let handle = RealmHandle::start(rt, alloc, door, told, work)?;
-    connection_table.add_realm(&rt, handle, seats)
+    let handle = RealmHandle::start(rt, alloc, told, work)?;
+    connection_table.add_realm(&rt, handle, door, seats)
 }
 
 // Accepts streams until there is an end to it.
