@@ -83,10 +83,11 @@ impl<S: Shut> SeatLines<S> {
         if place != 0 {
             return place;
         }
-        match &self.aside {
-            Some(post) if place_of(post) != 0 => place_of(post),
-            _ => first_line(&self.lines),
+        let aside = place_aside(&self.aside);
+        if aside != 0 {
+            return aside;
         }
+        first_line(&self.lines)
     }
 
     /// Adds a post at its place. For want of memory it stands aside.
@@ -216,6 +217,17 @@ fn is_empty_at<S: Shut>(lines: &Vec<SeatLine<S>>, place: u64) -> bool
         return false;
     }
     lines[place].is_empty()
+}
+
+// The place of the post that stands aside, else 0.
+fn place_aside<S: Shut>(aside: &Option<Post<S>>) -> u64
+    ensures none { result ≡ 0 → (k : ℕ) → k ≢ 0 → aside_at k aside.now ≡ [] }
+    ensures some { result ≢ 0 → aside_at result aside.now ≢ [] }
+{
+    match aside {
+        Some(post) => place_of(post),
+        None => 0,
+    }
 }
 
 // The first place of a seat in whose line somebody waits, else 0.

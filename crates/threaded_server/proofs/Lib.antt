@@ -1,3 +1,4 @@
+pub mod StoppingLemmas
 pub mod AcceptLoop
 pub mod Accepting
 pub mod Finding
