@@ -50,6 +50,13 @@ module _ {A : Type 0} where
 owner_here : (owner : ℕ → ℕ) (k new : ℕ) → new ≡ cond (eqb k k) new (owner k)
 owner_here owner k new = sym (ap (λ b. cond b new (owner k)) (eq-eqb k k refl))
 
+-- the numbers but k have their passes
+abbrev pub AllBut : ℕ → (ℕ → ℕ) → (ℕ → ℕ) → Type 0
+AllBut k owner owner' = (i : ℕ) → i ≢ k → owner' i ≡ owner i
+
+moved_alone : (owner : ℕ → ℕ) (k new : ℕ) → AllBut k owner (λ i. cond (eqb i k) new (owner i))
+moved_alone owner k new i n = ap (λ b. cond b new (owner i)) (ne_eqb i k n)
+
 module _ {S : Type 0} where
   -- a view still fits where neither its seat nor, if it is the door's, what the stops tell has grown
   fits_all : (home : Option TableId) (got all all' : List (Post S)) (owner : ℕ → ℕ) (reader next j : ℕ) (u : InboxView S) → HasMore all all' → ((k : ℕ) → j ≡ owner k → at_seat k all' ≡ at_seat k all) → (j ≡ owner 0 → told_by all' ≡ told_by all)
@@ -268,13 +275,6 @@ module _ {S : Type 0} where
 
   pub door_lent : (c : Option TableId) (seen : List (ℕ × ℕ)) (told : List (List (ℕ × ℕ))) → Lent 0 (Door c seen told)
   door_lent c seen told home got all owner reader next pass f = (f.0, λ owner' pass' e. (e, f.1, f.2, f.3, f.4))
-
-  -- the numbers but k have their passes
-  abbrev pub AllBut : ℕ → (ℕ → ℕ) → (ℕ → ℕ) → Type 0
-  AllBut k owner owner' = (i : ℕ) → i ≢ k → owner' i ≡ owner i
-
-  moved_alone : (owner : ℕ → ℕ) (k new : ℕ) → AllBut k owner (λ i. cond (eqb i k) new (owner i))
-  moved_alone owner k new i n = ap (λ b. cond b new (owner i)) (ne_eqb i k n)
 
   -- what is left of v where u goes
   abbrev pub Leaves : ℕ → InboxView S → InboxView S → Type 0

@@ -91,10 +91,12 @@ impl<S: Shut> Door<S> {
         let stop = Post::Stop(Halt {
             behind: Snapshot::of(&self.shown),
         });
-        match send::<_, _, _, Stops, R>(rt, &self.sender, &self.bells, &mut self.pass, stop) {
-            Ok(()) => true,
-            Err(_) => false,
+        let sent = send::<_, _, _, Stops, R>(rt, &self.sender, &self.bells, &mut self.pass, stop);
+        if let Err(back) = sent {
+            drop(back);
+            return false;
         }
+        true
     }
 
     // Tells what the reader's pass, which is of its inbox, and its own know together.

@@ -33,6 +33,9 @@ invariant_of-self-2 g c =
       dealt = ∥∥₁_map i.dealt (λ d. dealt_out (home_in (view i.pass)) (received_in (view i.pass)) (items_of i.given) (items_of c.add.new.self) (waiting i.lines) (waiting c.pop.new.self) c.stop_last-place.result c.in_ok-first.first longer d c.in_ok-first.ensures.first);
     }
 
+pub returns-clause-given : goal.returns-clause-given
+returns-clause-given g c = c.add.ensures ∙ ap (λ x. items_of c.args.self.now.given ++ x ∷ []) c.of.ensures
+
 pub returns-clause-in_turn : goal.returns-clause-in_turn
 returns-clause-in_turn g c =
     let i = c.args.self.now in told_next g.row.S (home_in (view i.pass)) (received_in (view i.pass)) (items_of i.given) (waiting i.lines) (waiting c.pop.new.self) c.stop_last-place.result c.in_ok-first.first i.dealt c.in_ok-first.ensures.first
