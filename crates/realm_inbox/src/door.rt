@@ -91,8 +91,13 @@ impl<S: Shut> Door<S> {
         let stop = Post::Stop(Halt {
             behind: Snapshot::of(&self.shown),
         });
-        let sent = send::<_, _, _, Stops, R>(rt, &self.sender, &self.bells, &mut self.pass, stop);
-        if let Err(back) = sent {
+        if let Err(back) = send::<_, _, _, Stops, R>(
+            rt,
+            &self.sender,
+            &self.bells,
+            &mut self.pass,
+            stop,
+        ) {
             drop(back);
             return false;
         }
