@@ -1,5 +1,5 @@
 -- What the realms' actors had received before they stopped.
-use Rattle.std.specs.Prelude.{◌≡◌, ◌<◌, ◌≤◌, ◌+◌, ℕ, List, [], ◌∷◌, ◌++◌, Option, None, Some, All, length, map, slice_get}
+use Rattle.std.specs.Prelude.{◌≡◌, ◌<◌, ◌≤◌, ◌+◌, ℕ, List, [], ◌∷◌, ◌++◌, Option, None, Some, All, length, map, set, slice_get}
 use Rattle.std.specs.Option.{option_flatten}
 use mathlib.Core.List.{IsPrefix}
 use Rattle.realm_inbox.specs.Behind.{HasAll, told_by}
@@ -44,6 +44,11 @@ module _ {S : Type 0} where
   AllSee posters before now = (length now ≡ length before)
       × ((realm : ℕ) (door : DoorView S) → slice_get before realm ≡ Some door → slice_get now realm ≡ Some (sees (option_flatten (slice_get posters realm)) door))
 
+  -- the one at this place is, if it is there
+  abbrev pub SeesAt : ℕ → List (Option (Poster S)) → List (DoorView S) → List (DoorView S) → Type 0
+  SeesAt realm posters before now = (length now ≡ length before)
+      × ((door : DoorView S) → slice_get before realm ≡ Some door → now ≡ set before realm (sees (option_flatten (slice_get posters realm)) door))
+
   -- they are of the doors' inboxes
   abbrev pub AreOfDoors : List (DoorView S) → List (Option (Poster S)) → Type 0
   AreOfDoors doors posters = (realm : ℕ) (door : DoorView S) (p : Poster S) → slice_get doors realm ≡ Some door → slice_get posters realm ≡ Some (Some p) → door.inbox ≡ inbox_of_poster p
@@ -59,6 +64,10 @@ module _ {S : Type 0} where
   abbrev pub AllMayStop : List (DoorView S) → List (DoorView S) → Type 0
   AllMayStop before now = (length now ≡ length before)
       × ((realm : ℕ) (door : DoorView S) → slice_get before realm ≡ Some door → (after : DoorView S) × (slice_get now realm ≡ Some after) × MayStop door after)
+
+  abbrev pub MayStopAt : ℕ → List (DoorView S) → List (DoorView S) → Type 0
+  MayStopAt realm before now = (length now ≡ length before)
+      × ((door : DoorView S) → slice_get before realm ≡ Some door → (after : DoorView S) × MayStop door after × (now ≡ set before realm after))
 
   -- they are of these realms' inboxes
   abbrev pub AreDoorsOf : List (Shown S) → List (DoorView S) → Type 0

@@ -1,7 +1,7 @@
 //! The doors of the realms' inboxes.
-ghost use Rattle.std.specs.Prelude.{◌≡◌, ◌++◌, ◌∷◌, [], IfOk, MatchResult};
+ghost use Rattle.std.specs.Prelude.{◌≡◌, ◌++◌, ◌∷◌, [], IfOk, MatchOption, MatchResult};
 ghost use Rattle.threaded_server.specs.Posters.{traces};
-ghost use Rattle.threaded_server.specs.Stopping.{AllMayStop, AllSee, AreOfDoors, doors_of, door_view};
+ghost use Rattle.threaded_server.specs.Stopping.{AllMayStop, AllSee, AreOfDoors, MayStopAt, SeesAt, doors_of, door_view};
 
 use broker_threads::handover::{Posters, put_poster, take_poster};
 use realm_inbox::{Door, Shut};
@@ -52,7 +52,11 @@ impl<S: Shut + 'static> Doors<S> {
     }
 
     // Shows the door of one realm its poster.
-    fn see_at(&mut self, realm: usize, posters: &mut Posters<S>) {
+    fn see_at(&mut self, realm: usize, posters: &mut Posters<S>)
+        requires inboxes { AreOfDoors (doors_of self.old) posters.old.items }
+        ensures traces { traces posters.new.items ≡ traces posters.old.items }
+        ensures seen { SeesAt realm posters.old.items (doors_of self.old) (doors_of self.new) }
+    {
         let Some(door) = self.doors.get_mut(realm) else {
             return;
         };
@@ -71,19 +75,27 @@ impl<S: Shut + 'static> Doors<S> {
         }
     }
 
-    fn stop_at<R: Wait>(&mut self, rt: &R, realm: usize) {
+    fn stop_at<R: Wait>(&mut self, rt: &R, realm: usize)
+        ensures { MayStopAt realm (doors_of self.old) (doors_of self.new) }
+    {
         if let Some(door) = self.doors.get_mut(realm) {
             let _ = door.stop(rt);
         }
     }
 
     /// The last door, which leaves.
-    pub fn take_last(&mut self) -> Option<Door<S>> {
+    pub fn take_last(&mut self) -> Option<Door<S>>
+        ensures { MatchOption result (doors_of self.old ≡ [])
+            (λ door. doors_of self.old ≡ doors_of self.new ++ door_view door ∷ []) }
+    {
         self.doors.pop()
     }
 
     /// The first door, which leaves.
-    pub fn take_first(&mut self) -> Option<Door<S>> {
+    pub fn take_first(&mut self) -> Option<Door<S>>
+        ensures { MatchOption result (doors_of self.old ≡ [])
+            (λ door. doors_of self.old ≡ door_view door ∷ doors_of self.new) }
+    {
         if self.doors.is_empty() {
             return None;
         }
