@@ -8,6 +8,7 @@ use crate::wire::Wire;
 use case_text::{Work, start};
 use realm_inbox::{Act, Door, Inbox, Poster};
 use std::alloc::{AllocError, Global};
+use std::io;
 use std::sync::atomic::{AtomicU64, Ordering};
 use std::sync::{Arc, Wait};
 use std::thread::Threads;
@@ -66,20 +67,28 @@ impl<R: Wait + Copy> Work<R, bool> for Paced {
         }
         let _ = door.stop(&rt);
         await_received(&rt, &received, count);
-        let has_joined = join(&rt, alloc, &mut poster);
+        let has_joined = join_or_leave(&rt, alloc, &mut poster);
         await_received(&rt, &received, count.saturating_add(1));
         has_joined
     }
 }
 
-// Posts a Join. Where there is no memory for one it is posted that the client is gone.
-fn join<R: Wait>(rt: &R, alloc: Global, poster: &mut Poster<Wire>) -> bool {
-    let Ok(joining) = joining_of(alloc, poster.conn(), "-", 1) else {
-        let _ = post(rt, poster, Act::Gone, 0);
-        return false;
-    };
-    let _ = poster.post(rt, Act::Join(joining), 0);
-    true
+// Posts a Join. False where nobody receives it.
+fn join<R: Wait>(rt: &R, alloc: Global, poster: &mut Poster<Wire>) -> io::Result<bool> {
+    let joining = joining_of(alloc, poster.conn(), "-", 1)?;
+    let posted = poster.post(rt, Act::Join(joining), 0);
+    Ok(posted.is_ok())
+}
+
+// The same; where there is no memory for a Join it is posted that the client is gone.
+fn join_or_leave<R: Wait>(rt: &R, alloc: Global, poster: &mut Poster<Wire>) -> bool {
+    match join(rt, alloc, poster) {
+        Ok(is_posted) => is_posted,
+        Err(_) => {
+            let _ = post(rt, poster, Act::Gone, 0);
+            false
+        }
+    }
 }
 
 // What a connection is to post, and where it arrives. None where its seat isn't free.
