@@ -25,7 +25,7 @@ module _ {S : Type 0} where
     pub received : IsPrefix came (received done.inbox)
     pub in_order : InOrder [] came
     pub ran : Ran (first_of w) came done.actor.value
-    pub ends : EndsInStop came
+    pub ends : EndsInStop [] came
     pub history : done.chronicle.history ≡ Some done.actor.value.history
     pub legal : IsHistory done.actor.value.history
     pub words : AreInOrder done.actor.value.words

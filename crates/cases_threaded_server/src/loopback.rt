@@ -81,7 +81,7 @@ impl<R: Net<Stream = TcpStream, Listener = TcpListener> + Clock + Copy + Drop> S
 impl<R: Net<Stream = TcpStream, Listener = TcpListener> + Clock + Copy + Drop> Acceptor
     for Loopback<R> {
     ghost use Rattle.ghost_state.specs.GhostList.{items_of};
-    ghost use Rattle.threaded_server.specs.Lending.{lending_of, returned, with_returned};
+    ghost use Rattle.threaded_server.specs.Lending.{asked_of, lending_of, returned, with_returned};
 
     type Stream = TcpStream;
 
@@ -95,7 +95,10 @@ impl<R: Net<Stream = TcpStream, Listener = TcpListener> + Clock + Copy + Drop> A
 
     ghost lending = { λ l. lending_of l.account };
 
+    ghost asked = { λ l. asked_of l.account };
+
     fn accept(&mut self) -> Accepted<TcpStream> {
+        self.account.asks();
         let accepted = self.sockets.accept();
         self.answers.add(Snapshot::of(&accepted.answer()));
         accepted
@@ -124,6 +127,7 @@ impl<R: Net<Stream = TcpStream, Listener = TcpListener> + Clock + Copy + Drop> A
         ensures answers { items_of self.new.answers ≡ items_of self.old.answers }
         ensures lending { lending_of self.new.account ≡ with_returned (lending_of self.old.account)
             (returned source.last.value sink.last.value fate) }
+        ensures asked { asked_of self.new.account ≡ asked_of self.old.account }
     {
         self.account.take_back(source, sink, fate);
     }

@@ -117,7 +117,7 @@ fn parts_of(stream: End) -> Result<Parts<ReadSource<End>, WriteSink<End>, End>, 
 
 impl<R: Net + Drop> Acceptor for Script<R> {
     ghost use Rattle.ghost_state.specs.GhostList.{items_of};
-    ghost use Rattle.threaded_server.specs.Lending.{lending_of, returned, with_returned};
+    ghost use Rattle.threaded_server.specs.Lending.{asked_of, lending_of, returned, with_returned};
 
     type Stream = End;
 
@@ -131,7 +131,10 @@ impl<R: Net + Drop> Acceptor for Script<R> {
 
     ghost lending = { λ s. lending_of s.account };
 
+    ghost asked = { λ s. asked_of s.account };
+
     fn accept(&mut self) -> Accepted<End> {
+        self.account.asks();
         let accepted = self.pairs.accept();
         self.answers.add(Snapshot::of(&accepted.answer()));
         accepted
@@ -160,6 +163,7 @@ impl<R: Net + Drop> Acceptor for Script<R> {
         ensures answers { items_of self.new.answers ≡ items_of self.old.answers }
         ensures lending { lending_of self.new.account ≡ with_returned (lending_of self.old.account)
             (returned source.last.value sink.last.value fate) }
+        ensures asked { asked_of self.new.account ≡ asked_of self.old.account }
     {
         self.tally.count(fate);
         self.account.take_back(source, sink, fate);

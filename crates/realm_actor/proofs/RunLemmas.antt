@@ -7,6 +7,7 @@ use Rattle.realm_inbox.specs.declared.act.Act as the
 use Rattle.realm_inbox.specs.declared.letter.Post.{Post}
 use Rattle.realm_inbox.specs.declared.letter.Post.TheVariants.{Act, Stop}
 use Rattle.realm_inbox.specs.Seats.{seat_of_letter, said, adds_at, at_seat, IsNext, InOrder}
+use Rattle.realm_inbox.specs.Behind.{behind, HasAll, IsBehind}
 use Rattle.realm_inbox.proofs.Lemmas.{at_seat_snoc, in_order_snoc}
 use Rattle.realm_actor.specs.declared.outcome.Outcome.{Outcome}
 use Rattle.realm_actor.specs.ActorView.{Acting}
@@ -72,17 +73,17 @@ module _ {S : Type 0} where
 
   -- and where its last post is a stop
   abbrev pub EndsByStop : Acting S → Acting S → List (Post S) → List (Post S) → Type 0
-  EndsByStop start now front got = (ends : Ends start now front got) × EndsInStop ends.0
+  EndsByStop start now front got = (ends : Ends start now front got) × EndsInStop front ends.0
 
   pub ends_stopped : (start b c d : Acting S) (front got got' : List (Post S)) (result : Outcome) (p : Post S) → is_stop p ≡ true → Progress start b front got → Sweeps b c
-      → got' ≡ got ++ p ∷ [] → IsNext got p → Handles result p c d → EndsByStop start d front got'
-  ends_stopped start b c d front got got' result (Act l) other g s given next handles = absurd (true≢false (sym other))
-  ends_stopped start b c d front got got' result (Stop halt) other g s given next handles = (
+      → got' ≡ got ++ p ∷ [] → IsNext got p → IsBehind got p → Handles result p c d → EndsByStop start d front got'
+  ends_stopped start b c d front got got' result (Act l) other g s given next after handles = absurd (true≢false (sym other))
+  ends_stopped start b c d front got got' result (Stop halt) other g s given next after handles = (
     (
       g.came ++ Stop halt ∷ [],
       now_received start b front got got' (Stop halt) g given next,
       now_in_order start b front got got' (Stop halt) g given next,
       stopped halt g.runs s handles,
     ),
-    (g.came, halt, refl),
+    (g.came, halt, refl, subst (λ x. HasAll x (behind halt)) g.more after),
   )

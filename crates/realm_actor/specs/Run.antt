@@ -10,6 +10,7 @@ use Rattle.realm_inbox.specs.declared.letter.Post.TheVariants as post
 use Rattle.wamp_ids.specs.Numbers.{seat_of}
 use Rattle.realm_inbox.specs.declared.act.Act.{Act}
 use Rattle.realm_inbox.specs.Seats.{conn_of_letter, act_of_letter, seat_of_letter, before, at_seat}
+use Rattle.realm_inbox.specs.Behind.{behind, HasAll}
 use Rattle.realm_actor.specs.declared.outcome.Outcome.{Outcome}
 use Rattle.realm_actor.specs.declared.outcome.Outcome.TheVariants.{Dropped}
 use Rattle.realm_actor.specs.ActorView.{Acting, working_in}
@@ -62,9 +63,9 @@ module _ {S : Type 0} where
   is_stop (post.Act l) = false
   is_stop (post.Stop halt) = true
 
-  -- the last of these posts is a stop
-  abbrev pub EndsInStop : List (Post S) → Type 0
-  EndsInStop came = (front : List (Post S)) × (halt : Halt) × (came ≡ front ++ post.Stop halt ∷ [])
+  -- the last of these posts, which came after `got`, is a stop. It comes behind all that its door was shown: that is among those before it
+  abbrev pub EndsInStop : List (Post S) → List (Post S) → Type 0
+  EndsInStop got came = (front : List (Post S)) × (halt : Halt) × (came ≡ front ++ post.Stop halt ∷ []) × HasAll (got ++ front) (behind halt)
 
   -- the acts are, seat by seat, what these posts are there
   abbrev pub SameAtSeats : List (ℕ × Act S) → List (Post S) → Type 0

@@ -3,6 +3,7 @@ ghost use Rattle.std.specs.Prelude.{◌≡◌, ℕ, ◌++◌, [], ◌∷◌, tru
 ghost use Rattle.realm.specs.History.{Begins};
 ghost use Rattle.realm_inbox.specs.declared.letter.Post.{Post as APost};
 ghost use Rattle.realm_inbox.specs.Seats.{InOrder, IsNext, IsHomed};
+ghost use Rattle.realm_inbox.specs.Behind.{IsBehind};
 ghost use Rattle.realm_inbox.specs.EndViews.{received, home_of, inbox_of};
 ghost use Rattle.realm_actor.specs.PostedOrder.{KeepsOrderSince, acts_for};
 ghost use Rattle.realm_actor.specs.Run.{EndsInStop, Handles, IsAt, KeepsHeld, Ran, SameAtSeats, is_stop};
@@ -96,7 +97,7 @@ impl<S: Shut, W: IdSource> Actor<S, W> {
     }
 
     /// The same as [`Actor::run`], while somebody looks on, and a stop alone ends it: whoever calls it keeps a door of the inbox until
-    /// one is posted. Where each sender is gone before, it looks again and again.
+    /// one is posted. Where each sender is gone before, it looks again and again. What that stop comes behind was handled before it.
     pub fn run_to_stop<R: Wait, O: Onlooker>(
         self,
         rt: &R,
@@ -107,7 +108,8 @@ impl<S: Shut, W: IdSource> Actor<S, W> {
         requires in_turn { SameAtSeats self.handled (received inbox.old) }
         requires home { IsAt self.chronicle (home_of inbox.old) }
         ensures ran { (came : List (APost S)) × (received inbox.new ≡ received inbox.old ++ came)
-            × InOrder (received inbox.old) came × Ran self came result × EndsInStop came }
+            × InOrder (received inbox.old) came × Ran self came result
+            × EndsInStop (received inbox.old) came }
         ensures begins { Begins self.history result.history }
         ensures in_turn { SameAtSeats result.handled (received inbox.new) }
         ensures order { (c : ℕ) → KeepsOrderSince self.history c (acts_for c result.handled)
@@ -132,7 +134,7 @@ impl<S: Shut, W: IdSource> Actor<S, W> {
         requires home { IsAt self.chronicle (home_of inbox.old) }
         ensures ran { (came : List (APost S)) × (received inbox.new ≡ received inbox.old ++ came)
             × InOrder (received inbox.old) came × Ran self came result
-            × (may_leave ≡ false → EndsInStop came) }
+            × (may_leave ≡ false → EndsInStop (received inbox.old) came) }
         ensures begins { Begins self.history result.history }
         ensures in_turn { SameAtSeats result.handled (received inbox.new) }
         ensures order { (c : ℕ) → KeepsOrderSince self.history c (acts_for c result.handled)
@@ -205,6 +207,7 @@ impl<S: Shut, W: IdSource> Actor<S, W> {
             (λ p. received inbox.new ≡ received inbox.old ++ p ∷ []) }
         ensures in_turn { IfSome result (λ p. IsNext (received inbox.old) p) }
         ensures home { IfSome result (λ p. IsHomed (home_of inbox.old) p) }
+        ensures behind { IfSome result (λ p. IsBehind (received inbox.old) p) }
         ensures same { inbox_of inbox.new ≡ inbox_of inbox.old }
     {
         let ready = inbox.try_receive(rt);
@@ -298,6 +301,7 @@ fn wait_for_post<S: Shut, R: Wait>(rt: &R, inbox: &mut Inbox<S>, may_leave: bool
         (λ p. received inbox.new ≡ received inbox.old ++ p ∷ []) }
     ensures in_turn { IfSome result (λ p. IsNext (received inbox.old) p) }
     ensures home { IfSome result (λ p. IsHomed (home_of inbox.old) p) }
+    ensures behind { IfSome result (λ p. IsBehind (received inbox.old) p) }
     ensures same { inbox_of inbox.new ≡ inbox_of inbox.old }
 {
     for _ in rt.forever() {

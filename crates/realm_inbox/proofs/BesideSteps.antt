@@ -10,9 +10,10 @@ use Rattle.realm_inbox.specs.declared.letter.Post.{Post}
 use Rattle.realm_inbox.specs.declared.rule.InboxView.{InboxView}
 use Rattle.realm_inbox.specs.declared.rule.InboxView.TheVariants.{Seat, Both}
 use Rattle.realm_inbox.specs.Seats.{at_seat}
-use Rattle.realm_inbox.specs.InTurn.{nobody, beside, without_seat, seat_in, AgreesWith, Receipt, Keeps}
+use Rattle.realm_inbox.specs.InTurn.{nobody, beside, without_lent, lent_in, AgreesWith, Receipt, Keeps}
 use Rattle.realm_inbox.specs.Ends.{home_in, posted_in, received_in, number_in, reads_any, posts_any}
-use Rattle.realm_inbox.proofs.RuleSteps.{at_seat_append, forks_seat, returns_seat, learns_rest, receives_both}
+use Rattle.realm_inbox.proofs.PostLists.{at_seat_append}
+use Rattle.realm_inbox.proofs.RuleSteps.{seat_lent, forks_seat, returns, learns_rest, receives_both}
 use Rattle.realm_inbox.proofs.StepEffects.{any_reader, any_seat, both_are}
 
 module _ {S : Type 0} where
@@ -20,7 +21,7 @@ module _ {S : Type 0} where
   abbrev Found : {E : Type 0} → InboxView S → InboxView S → Result (Post S) E → Type 0
   Found b n result = MatchResult result (λ x. Receipt b x n) (λ e. (n ≡ b) × Held 0 (λ items. AgreesWith b items))
 
-  module _ (v w m b : InboxView S) (reads : reads_any v ≡ true) (posts : posts_any w ≡ true) (lent : m ≡ seat_in w) (is : b ≡ beside v m) where
+  module _ (v w m b : InboxView S) (reads : reads_any v ≡ true) (posts : posts_any w ≡ true) (lent : m ≡ lent_in w) (is : b ≡ beside v m) where
     abbrev knowing : List (Post S) → InboxView S
     knowing got = Both (home_in v) (any_reader v reads).0 got (home_in w) (number_in w) (posted_in w)
 
@@ -39,33 +40,33 @@ module _ {S : Type 0} where
     still_both n (Ok x) t = (received_in v ++ x ∷ [], (subst (λ u. Receipt u x n) knows t).0)
     still_both n (Err e) t = (received_in v, t.0 ∙ knows)
 
-    pub forks_after : {E : Type 0} (pass : ℕ) (n : InboxView S) (result : Result (Post S) E) → Found b n result → Forks Keeps pass n (without_seat n) (seat_in n)
+    pub forks_after : {E : Type 0} (pass : ℕ) (n : InboxView S) (result : Result (Post S) E) → Found b n result → Forks Keeps pass n (without_lent n) (lent_in n)
     forks_after pass n result t =
         let after = still_both n result t in
-        subst (λ (u : InboxView S). Forks Keeps pass u (without_seat u) (seat_in u)) (sym after.1) (forks_seat (home_in v) pass (any_reader v reads).0 after.0 (home_in w) (number_in w) (posted_in w))
+        subst (λ (u : InboxView S). Forks Keeps pass u (without_lent u) (lent_in u)) (sym after.1) (forks_seat (home_in v) pass (any_reader v reads).0 after.0 (home_in w) (number_in w) (posted_in w))
 
-    module _ {E : Type 0} (n empty back : InboxView S) (result : Result (Post S) E) (t : Found b n result) (left : empty ≡ without_seat w) (gone : back ≡ seat_in n) where
+    module _ {E : Type 0} (n empty back : InboxView S) (result : Result (Post S) E) (t : Found b n result) (left : empty ≡ without_lent w) (gone : back ≡ lent_in n) where
       none_left : empty ≡ nobody
-      none_left = left ∙ ap (λ u. without_seat u) (any_seat w posts)
+      none_left = left ∙ ap (λ u. without_lent u) (any_seat w posts)
 
       seat_gone : back ≡ Seat (home_in w) (number_in w) (posted_in w)
-      seat_gone = gone ∙ ap (λ u. seat_in u) (still_both n result t).1
+      seat_gone = gone ∙ ap (λ u. lent_in u) (still_both n result t).1
 
       pub returns_after : (pass other : ℕ) → Merges Keeps pass empty other back (beside empty back) nobody
       returns_after pass other =
           subst (λ (u : InboxView S). Merges Keeps pass u other back (beside u back) nobody) (sym none_left)
-          (subst (λ (u : InboxView S). Merges Keeps pass nobody other u u nobody) (sym seat_gone) (returns_seat pass other (home_in w) (number_in w) (posted_in w)))
+          (subst (λ (u : InboxView S). Merges Keeps pass nobody other u u nobody) (sym seat_gone) (returns pass other (number_in w) (Seat (home_in w) (number_in w) (posted_in w)) (seat_lent (home_in w) (number_in w) (posted_in w))))
 
       pub seat_after : (new : InboxView S) → new ≡ beside empty back → new ≡ w
       seat_after new come = come ∙ (λ i. beside (none_left i) (seat_gone i)) ∙ sym (any_seat w posts)
 
     -- the reader's own view is one post longer, or as before
-    pub reader_after : {E : Type 0} (n new : InboxView S) (result : Result (Post S) E) → Found b n result → new ≡ without_seat n → MatchResult result (λ x. Receipt v x new) (λ e. new ≡ v)
+    pub reader_after : {E : Type 0} (n new : InboxView S) (result : Result (Post S) E) → Found b n result → new ≡ without_lent n → MatchResult result (λ x. Receipt v x new) (λ e. new ≡ v)
     reader_after n new (Ok x) t left =
         let r = any_reader v reads in
         let told = subst (λ u. Receipt u x n) knows t in
-        subst (λ u. Receipt u x new) (sym r.1) (left ∙ ap (λ u. without_seat u) told.0, told.1, told.2)
-    reader_after n new (Err e) t left = let r = any_reader v reads in left ∙ ap (λ u. without_seat u) (t.0 ∙ knows) ∙ sym r.1
+        subst (λ u. Receipt u x new) (sym r.1) (left ∙ ap (λ u. without_lent u) told.0, told.1, told.2, told.3)
+    reader_after n new (Err e) t left = let r = any_reader v reads in left ∙ ap (λ u. without_lent u) (t.0 ∙ knows) ∙ sym r.1
 
     -- where nothing was there, all that was posted had been received
     pub all_received : {E : Type 0} (n : InboxView S) (result : Result (Post S) E) → Found b n result → IfErr result (λ e. at_seat (number_in w) (received_in v) ≡ posted_in w)

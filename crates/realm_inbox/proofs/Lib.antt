@@ -1,5 +1,7 @@
+pub mod PostLists
 pub mod RuleSteps
 pub mod StepEffects
+pub mod LentSteps
 pub mod BesideSteps
 pub mod SeatCuts
 pub mod SeatLineSteps

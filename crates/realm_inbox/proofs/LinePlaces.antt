@@ -1,5 +1,5 @@
 -- The line of a place, as lines are put in and looked up.
-use Rattle.std.proofs.Common.{◌≡◌, ◌≢◌, ℕ, zero, suc, ◌+◌, ◌<◌, ◌≤◌, Bool, true, false, cond, eqb, eq-eqb, eqb-true, List, [], ◌∷◌, ◌++◌, length, length-append, set, get_or, refl, sym, ap, ◌∙◌, subst, append_assoc, arith}
+use Rattle.std.proofs.Common.{◌≡◌, ◌≢◌, ℕ, zero, suc, ◌+◌, ◌<◌, ◌≤◌, Bool, true, false, cond, eqb, eq-eqb, eqb-true, ne_eqb, ltb, ltb-true, ltb-false, List, [], ◌∷◌, ◌++◌, length, length-append, set, get_or, refl, sym, ap, ◌∙◌, subst, append_assoc, arith}
 use Rattle.std.specs.Prelude.{Option, Some, None, IfNone, MatchOption, option_to_list}
 use Rattle.std.proofs.lemmas.Bool.{eqb-false}
 use Rattle.std.proofs.lemmas.List.{append-nil, nil_from_length}
@@ -11,6 +11,19 @@ use Rattle.realm_inbox.specs.SeatLines.{place_of_post, own_part, first_part, lin
 pub popped : {A : Type 0} (r : Option A) (old new : List A) (a b : ℕ) → old ≡ option_to_list r ++ new → MatchOption r ((a ≡ 0) × (b ≡ 0)) (λ x. b + 1 ≡ a) → b ≡ length new → MatchOption r ((old ≡ []) × (new ≡ [])) (λ p. old ≡ p ∷ new)
 popped None old new a b is few count = let none : new ≡ [] = nil_from_length new (sym count ∙ few.1) in (is ∙ none, none)
 popped (Some p) old new a b is few count = is
+
+-- the same, where what is left keeps its items
+pub popped_kept : {A : Type 0} (r : Option A) (old new kept : List A) (a b : ℕ) → old ≡ option_to_list r ++ new → MatchOption r ((a ≡ 0) × (b ≡ 0)) (λ x. b + 1 ≡ a) → b ≡ length new → kept ≡ new
+    → MatchOption r ((old ≡ []) × (kept ≡ [])) (λ p. old ≡ p ∷ kept)
+popped_kept {A} r old new kept a b is few count same = subst (λ (items : List A). MatchOption r ((old ≡ []) × (items ≡ [])) (λ p. old ≡ p ∷ items)) (sym same) (popped r old new a b is few count)
+
+-- what can't be but 0
+pub only_zero : (n place : ℕ) → place ≡ 0 → ¬ (n ≢ 0) → n ≡ place
+only_zero n place none not = by (eqb n 0) refl
+  where
+    by : (b : Bool) → eqb n 0 ≡ b → n ≡ place
+    by true e = eqb-true n 0 e ∙ sym none
+    by false e = absurd (not (eqb-false n 0 e))
 
 -- what holds anyhow holds where nothing was found
 pub anyhow : {A B : Type 0} (r : Option A) → B → IfNone r B
@@ -72,6 +85,22 @@ module _ {S : Type 0} where
   line_none (l ∷ ls) zero beyond = absurd (omega (arith, beyond))
   line_none (l ∷ ls) (suc i) beyond = line_none ls i (omega (arith, beyond))
 
+  -- nobody waits in the lines of seats below a place, nor at that
+  pub none_below : (ls : List (SeatLine S)) (place : ℕ) → ((k : ℕ) → k ≢ 0 → k < place → line_at ls k ≡ []) → line_at ls place ≡ [] → (k : ℕ) → k ≢ 0 → k < place + 1 → line_at ls k ≡ []
+  none_below ls place none here k seat below = by (eqb k place) refl
+    where
+      by : (b : Bool) → eqb k place ≡ b → line_at ls k ≡ []
+      by true e = ap (λ n. line_at ls n) (eqb-true k place e) ∙ here
+      by false e = none k seat (let apart = eqb-false k place e in search (apart, below, arith))
+
+  -- nor anywhere else, where those are all lines
+  pub none_anywhere : (ls : List (SeatLine S)) (place : ℕ) → ((k : ℕ) → k ≢ 0 → k < place → line_at ls k ≡ []) → length ls ≤ place → (k : ℕ) → k ≢ 0 → line_at ls k ≡ []
+  none_anywhere ls place none all k seat = by (ltb k place) refl
+    where
+      by : (b : Bool) → ltb k place ≡ b → line_at ls k ≡ []
+      by true e = none k seat (ltb-true k place e)
+      by false e = let beyond = ltb-false k place e in line_none ls k (omega (arith, beyond, all))
+
   -- a post was popped of a line
   pub popped_from : (ls : List (SeatLine S)) (i : ℕ) (old y : SeatLine S) (r : Option (Post S)) → i < length ls → line_at ls i ≡ old.posts.items
       → MatchOption r ((old.posts.items ≡ []) × (y.posts.items ≡ [])) (λ p. old.posts.items ≡ p ∷ y.posts.items)
@@ -123,6 +152,16 @@ module _ {S : Type 0} where
   pub free : (ls : List (SeatLine S)) (a : Option (Post S)) (k : ℕ) → a ≡ None → line_at ls k ≡ [] → waiting_in ls a k ≡ []
   free ls a k none line = ap (λ l. l ++ aside_at k a) line ∙ ap (λ x. aside_at k x) none
 
+  -- nobody waits where nobody does in the line, nor aside; and the other way round
+  pub nowhere : (ls : List (SeatLine S)) (a : Option (Post S)) (k : ℕ) → line_at ls k ≡ [] → aside_at k a ≡ [] → waiting_in ls a k ≡ []
+  nowhere ls a k line aside = ap (λ l. l ++ aside_at k a) line ∙ aside
+
+  pub not_in_line : (ls : List (SeatLine S)) (a : Option (Post S)) (k : ℕ) → waiting_in ls a k ≡ [] → line_at ls k ≡ []
+  not_in_line ls a k none = nil_from_length (line_at ls k) (omega (arith, ap length none, length-append (line_at ls k) (aside_at k a)))
+
+  pub not_aside : (ls : List (SeatLine S)) (a : Option (Post S)) (k : ℕ) → waiting_in ls a k ≡ [] → aside_at k a ≡ []
+  not_aside ls a k none = nil_from_length (aside_at k a) (omega (arith, ap length none, length-append (line_at ls k) (aside_at k a)))
+
   own_here : (k : ℕ) (p : Post S) → place_of_post p ≡ k → own_part k p ≡ p ∷ []
   own_here k p e = ap (λ b. cond b (p ∷ []) []) (eq-eqb (place_of_post p) k e)
 
@@ -132,3 +171,10 @@ module _ {S : Type 0} where
 
   pub not_free_aside : {B : Type 0} (ls : List (SeatLine S)) (a : Option (Post S)) (k : ℕ) (p : Post S) → a ≡ Some p → place_of_post p ≡ k → waiting_in ls a k ≡ [] → B
   not_free_aside ls a k p is here none = not_free (line_at ls k) k p here (ap (λ x. line_at ls k ++ aside_at k x) (sym is) ∙ none)
+
+  -- somebody stands aside where the post that does has its place, and nowhere else
+  pub stands_aside : (k : ℕ) (p : Post S) → place_of_post p ≡ k → own_part k p ≢ []
+  stands_aside k p here none = absurd (omega (arith, ap length none, ap length (own_here k p here)))
+
+  pub own_elsewhere : (k : ℕ) (p : Post S) → place_of_post p ≢ k → own_part k p ≡ []
+  own_elsewhere k p other = ap (λ b. cond b (p ∷ []) []) (ne_eqb (place_of_post p) k other)

@@ -198,10 +198,10 @@ module _ (S : RattleType) (shut : Ghosts S.Denot) where
   inbox_send s = declared_send (Inbox.the_type S shut) (search sendable, (receiving_send s, (lines_send S s, (search (crosses, sendable) depth 60, (turns_send, (search (parker.the_field_send, parker.the_send, crosses, heap.send, heap.sync, heap.frees, sendable) depth 60, (ticket.the_send _ _ key_send, tt)))))))
 
   pub seat_send : IsSend S → IsSend (Seat.the_row S shut)
-  seat_send s = declared_send (Seat.the_type S shut) (search sendable, (search (crosses, sendable) depth 60, (as_row_send (Arc.the_field Backlog.the_row Global.the_row global.ghosts) shared_send, (search (crosses, sendable) depth 60, (sending_send s, (search (bells_send, crosses, sendable) depth 60, (ticket.the_send _ _ key_send, tt)))))))
+  seat_send s = declared_send (Seat.the_type S shut) (search sendable, (search (crosses, sendable) depth 60, (search (count_send, crosses, sendable) depth 60, (as_row_send (Arc.the_field Backlog.the_row Global.the_row global.ghosts) shared_send, (search (crosses, sendable) depth 60, (sending_send s, (search (bells_send, crosses, sendable) depth 60, (ticket.the_send _ _ key_send, tt))))))))
 
   pub poster_send : IsSend S → IsSend (Poster.the_row S shut)
   poster_send s = declared_send (Poster.the_type S shut) (search (crosses, sendable) depth 60, (seat_send s, (search (crosses, sendable) depth 60, (search (count_send, crosses, sendable) depth 60, tt))))
 
   pub door_send : IsSend S → IsSend (Door.the_row S shut)
-  door_send s = declared_send (Door.the_type S shut) (sending_send s, (search (bells_send, crosses, sendable) depth 60, (ticket.the_send _ _ key_send, tt)))
+  door_send s = declared_send (Door.the_type S shut) (sending_send s, (search (bells_send, crosses, sendable) depth 60, (search (crosses, sendable) depth 60, (ticket.the_send _ _ key_send, tt))))

@@ -1,47 +1,54 @@
 -- What a step tells of a view that is known to be the reader's, a seat's or the door's.
-use Rattle.std.proofs.Common.{◌≡◌, ℕ, ◌+◌, true, false, true≢false, eqb-true, eq-eqb, List, [], ◌∷◌, ◌++◌, sym, refl, ap, ◌∙◌, subst, Ok, Err, MatchResult, MatchOption}
+use Rattle.std.proofs.Common.{◌≡◌, ℕ, ◌+◌, true, false, true≢false, eqb-true, eq-eqb, List, [], ◌∷◌, ◌++◌, length, sym, refl, ap, ◌∙◌, subst, Ok, Err, MatchResult, MatchOption}
 use Rattle.std.specs.declared.option.Option.{Option}
 use Rattle.atomic_table.specs.Seated.{TableId}
 use Rattle.std.specs.declared.result.Result.{Result}
 use Rattle.std.specs.Result.{result_ok, IfOk}
-use mathlib.Core.List.{IsPrefix}
-use Rattle.crossbeam_channel.specs.Fifo.{Pushes, Pops, Forks, Merges, Learns, Held}
+use Rattle.crossbeam_channel.specs.Fifo.{Pushes, Pops, Forks, Learns, Held}
 use Rattle.wamp_ids.specs.Numbers.{seat_of}
 use Rattle.realm_inbox.specs.declared.letter.Halt.{Halt}
 use Rattle.realm_inbox.specs.declared.letter.Letter.{Letter}
 use Rattle.realm_inbox.specs.declared.letter.Post.{Post}
 use Rattle.realm_inbox.specs.declared.letter.Post.TheVariants.{Act, Stop}
 use Rattle.realm_inbox.specs.declared.rule.InboxView.{InboxView}
-use Rattle.realm_inbox.specs.declared.rule.InboxView.TheVariants.{Reader, Seat, Door, Both, Nobody}
+use Rattle.realm_inbox.specs.declared.rule.InboxView.TheVariants.{Reader, Seat, Door, Both, Shown, Heard, Nobody}
 use Rattle.realm_inbox.specs.Seats.{before, said, at_seat, stops_of, IsNext, InOrder, BringsHome, IsHomed}
-use Rattle.realm_inbox.specs.InTurn.{new_door, next_seat, after_cut, after_door, after_post, after_stop, nobody, with_seat, beside, without_seat, seat_in, Agrees, Receipt, Keeps}
-use Rattle.realm_inbox.specs.Ends.{home_in, posted_in, received_in, stops_in, number_in, is_seat, is_reader, is_door, reads_any, posts_any}
-use Rattle.realm_inbox.specs.Laws.{ReceivedBeginsPosted, StopsReceivedWerePosted, WaitingPostsAreInOrder}
-use Rattle.realm_inbox.proofs.RuleSteps.{at_seat_append, stops_append, adds_here, posts_seat, stops_door, receives_reader, cuts_seat, cuts_new_door, lends_seat, merges_seat, forks_seat, returns_seat, learns_both}
+use Rattle.realm_inbox.specs.Behind.{behind, IsBehind, EachBehind}
+use Rattle.realm_inbox.specs.InTurn.{new_door, next_seat, after_cut, after_door, after_post, after_stop, beside, lent_in, Receipt, Keeps}
+use Rattle.realm_inbox.specs.Ends.{home_in, posted_in, received_in, shown_in, told_in, number_in, is_seat, is_reader, is_door, reads_any, posts_any}
+use Rattle.realm_inbox.specs.Laws.{ReceivedBeginsPosted, StopsReceivedWerePosted, WaitingPostsAreInOrder, WaitingStopsComeBehind}
+use Rattle.realm_inbox.proofs.PostLists.{at_seat_append, stops_append, adds_here, told_length}
+use Rattle.realm_inbox.proofs.RuleSteps.{posts_seat, stops_door, receives_reader, cuts_seat, cuts_new_door}
 
-is_not : {B : Type 0} → false ≡ true → B
+pub is_not : {B : Type 0} → false ≡ true → B
 is_not e = absurd (true≢false (sym e))
 
 module _ {S : Type 0} where
   reader_is : (n : ℕ) (v : InboxView S) → is_reader n v ≡ true → v ≡ Reader (home_in v) n (received_in v)
   reader_is n (Reader b m r) e = ap (λ k. Reader b k r) (eqb-true m n e)
   reader_is n (Seat b k posted) e = is_not e
-  reader_is n (Door b m) e = is_not e
+  reader_is n (Door b seen told) e = is_not e
   reader_is n (Both b m r c k posted) e = is_not e
+  reader_is n (Shown b seen told c k posted) e = is_not e
+  reader_is n (Heard b m r c seen told) e = is_not e
   reader_is n Nobody e = is_not e
 
-  seat_is : (k : ℕ) (v : InboxView S) → is_seat k v ≡ true → v ≡ Seat (home_in v) k (posted_in v)
+  pub seat_is : (k : ℕ) (v : InboxView S) → is_seat k v ≡ true → v ≡ Seat (home_in v) k (posted_in v)
   seat_is k (Reader b n r) e = is_not e
   seat_is k (Seat b j posted) e = ap (λ i. Seat b i posted) (eqb-true j k e)
-  seat_is k (Door b n) e = is_not e
+  seat_is k (Door b seen told) e = is_not e
   seat_is k (Both b n r c j posted) e = is_not e
+  seat_is k (Shown b seen told c j posted) e = is_not e
+  seat_is k (Heard b n r c seen told) e = is_not e
   seat_is k Nobody e = is_not e
 
-  door_is : (v : InboxView S) → is_door v ≡ true → v ≡ Door (home_in v) (stops_in v)
+  pub door_is : (v : InboxView S) → is_door v ≡ true → v ≡ Door (home_in v) (shown_in v) (told_in v)
   door_is (Reader b n r) e = is_not e
   door_is (Seat b k posted) e = is_not e
-  door_is (Door b n) e = refl
+  door_is (Door b seen told) e = refl
   door_is (Both b n r c k posted) e = is_not e
+  door_is (Shown b seen told c k posted) e = is_not e
+  door_is (Heard b n r c seen told) e = is_not e
   door_is Nobody e = is_not e
 
   pub receives_by : (pass n : ℕ) (v : InboxView S) → is_reader n v ≡ true → Pops Keeps pass v (Receipt v) × Learns Keeps pass v (λ items. Unit {0})
@@ -52,9 +59,9 @@ module _ {S : Type 0} where
   posts_by n pass k v l e own told home =
       (subst (λ (u : InboxView S). Pushes Keeps n pass u (Act l) (λ w. w ≡ after_post u (Act l))) (sym (seat_is k v e)) (posts_seat (home_in v) n pass k (posted_in v) l own told home), λ items views h at. tt)
 
-  pub stops_by : (n pass : ℕ) (v : InboxView S) (halt : Halt) → is_door v ≡ true → Pushes Keeps n pass v (Stop halt) (λ w. w ≡ after_stop v) × Learns Keeps pass v (λ items. Unit {0})
-  stops_by n pass v halt e =
-      (subst (λ (u : InboxView S). Pushes Keeps n pass u (Stop halt) (λ w. w ≡ after_stop u)) (sym (door_is v e)) (stops_door (home_in v) n pass (stops_in v) halt), λ items views h at. tt)
+  pub stops_by : (n pass : ℕ) (v : InboxView S) (halt : Halt) → is_door v ≡ true → behind halt ≡ shown_in v → Pushes Keeps n pass v (Stop halt) (λ w. w ≡ after_stop v) × Learns Keeps pass v (λ items. Unit {0})
+  stops_by n pass v halt e tells =
+      (subst (λ (u : InboxView S). Pushes Keeps n pass u (Stop halt) (λ w. w ≡ after_stop u)) (sym (door_is v e)) (stops_door (home_in v) n pass (shown_in v) (told_in v) halt tells), λ items views h at. tt)
 
   pub cuts_by : (pass n : ℕ) (v : InboxView S) → is_reader n v ≡ true → Forks Keeps pass v (after_cut v) (next_seat v)
   cuts_by pass n v e = subst (λ (u : InboxView S). Forks Keeps pass u (after_cut u) (next_seat u)) (sym (reader_is n v e)) (cuts_seat (home_in v) pass n (received_in v))
@@ -64,44 +71,54 @@ module _ {S : Type 0} where
 
   -- of the cut of the door
   pub door_told : (home : Option TableId) (v w d : InboxView S) → is_reader 0 v ≡ true → w ≡ after_door home v → d ≡ new_door home
-      → (is_reader 1 w ≡ true) × (received_in w ≡ received_in v) × (home_in w ≡ home) × (is_door d ≡ true) × (stops_in d ≡ 0) × (home_in d ≡ home)
+      → (is_reader 1 w ≡ true) × (received_in w ≡ received_in v) × (home_in w ≡ home) × (is_door d ≡ true) × (shown_in d ≡ []) × (told_in d ≡ []) × (home_in d ≡ home)
   door_told home (Reader b m r) w d e is cut =
-      (ap (λ u. is_reader 1 u) is ∙ eq-eqb (m + 1) 1 (ap (λ i. i + 1) (eqb-true m 0 e)), ap (λ u. received_in u) is, ap (λ u. home_in u) is, ap (λ u. is_door u) cut, ap (λ u. stops_in u) cut, ap (λ u. home_in u) cut)
+      (ap (λ u. is_reader 1 u) is ∙ eq-eqb (m + 1) 1 (ap (λ i. i + 1) (eqb-true m 0 e)), ap (λ u. received_in u) is, ap (λ u. home_in u) is, ap (λ u. is_door u) cut, ap (λ u. shown_in u) cut, ap (λ u. told_in u) cut, ap (λ u. home_in u) cut)
   door_told home (Seat b k posted) w d e is cut = is_not e
-  door_told home (Door b m) w d e is cut = is_not e
+  door_told home (Door b seen told) w d e is cut = is_not e
   door_told home (Both b m r c k posted) w d e is cut = is_not e
+  door_told home (Shown b seen told c k posted) w d e is cut = is_not e
+  door_told home (Heard b m r c seen told) w d e is cut = is_not e
   door_told home Nobody w d e is cut = is_not e
 
   -- of a post at a seat
   pub post_told : (k : ℕ) (v w : InboxView S) (l : Letter S) → is_seat k v ≡ true → seat_of l.conn ≡ k → w ≡ after_post v (Act l) → (is_seat k w ≡ true) × (posted_in w ≡ posted_in v ++ said l ∷ []) × (home_in w ≡ home_in v)
   post_told k (Reader b n r) w l e own t = is_not e
   post_told k (Seat b j posted) w l e own t = (ap (λ u. is_seat k u) t ∙ e, ap (λ u. posted_in u) t ∙ ap (λ s. posted ++ s) (adds_here j l (own ∙ sym (eqb-true j k e))), ap (λ u. home_in u) t)
-  post_told k (Door b n) w l e own t = is_not e
+  post_told k (Door b seen told) w l e own t = is_not e
   post_told k (Both b n r c j posted) w l e own t = is_not e
+  post_told k (Shown b seen told c j posted) w l e own t = is_not e
+  post_told k (Heard b n r c seen told) w l e own t = is_not e
   post_told k Nobody w l e own t = is_not e
 
   -- of a stop
-  pub stop_told : (v w : InboxView S) → is_door v ≡ true → w ≡ after_stop v → (is_door w ≡ true) × (stops_in w ≡ stops_in v + 1) × (home_in w ≡ home_in v)
+  pub stop_told : (v w : InboxView S) → is_door v ≡ true → w ≡ after_stop v → (is_door w ≡ true) × (shown_in w ≡ shown_in v) × (told_in w ≡ told_in v ++ shown_in v ∷ []) × (home_in w ≡ home_in v)
   stop_told (Reader b n r) w e t = is_not e
   stop_told (Seat b k posted) w e t = is_not e
-  stop_told (Door b n) w e t = (ap (λ u. is_door u) t, ap (λ u. stops_in u) t, ap (λ u. home_in u) t)
+  stop_told (Door b seen told) w e t = (ap (λ u. is_door u) t, ap (λ u. shown_in u) t, ap (λ u. told_in u) t, ap (λ u. home_in u) t)
   stop_told (Both b n r c k posted) w e t = is_not e
+  stop_told (Shown b seen told c k posted) w e t = is_not e
+  stop_told (Heard b n r c seen told) w e t = is_not e
   stop_told Nobody w e t = is_not e
 
   -- of the cut of a seat
   pub cut_told : (n : ℕ) (v w s : InboxView S) → is_reader n v ≡ true → w ≡ after_cut v → s ≡ next_seat v → (is_reader (n + 1) w ≡ true) × (received_in w ≡ received_in v) × (is_seat n s ≡ true) × (posted_in s ≡ []) × (home_in w ≡ home_in v) × (home_in s ≡ home_in v)
   cut_told n (Reader b m r) w s e is cut = (ap (λ u. is_reader (n + 1) u) is ∙ eq-eqb (m + 1) (n + 1) (ap (λ i. i + 1) (eqb-true m n e)), ap (λ u. received_in u) is, ap (λ u. is_seat n u) cut ∙ e, ap (λ u. posted_in u) cut, ap (λ u. home_in u) is, ap (λ u. home_in u) cut)
   cut_told n (Seat b k posted) w s e is cut = is_not e
-  cut_told n (Door b m) w s e is cut = is_not e
+  cut_told n (Door b seen told) w s e is cut = is_not e
   cut_told n (Both b m r c k posted) w s e is cut = is_not e
+  cut_told n (Shown b seen told c k posted) w s e is cut = is_not e
+  cut_told n (Heard b m r c seen told) w s e is cut = is_not e
   cut_told n Nobody w s e is cut = is_not e
 
   -- of a receive
-  pub receipt_told : (n : ℕ) (v w : InboxView S) (x : Post S) → is_reader n v ≡ true → Receipt v x w → (is_reader n w ≡ true) × (received_in w ≡ received_in v ++ x ∷ []) × IsNext (received_in v) x × IsHomed (home_in v) x × (home_in w ≡ home_in v)
-  receipt_told n (Reader b m r) w x e t = (ap (λ u. is_reader n u) t.0 ∙ e, ap (λ u. received_in u) t.0, t.1, t.2, ap (λ u. home_in u) t.0)
+  pub receipt_told : (n : ℕ) (v w : InboxView S) (x : Post S) → is_reader n v ≡ true → Receipt v x w → (is_reader n w ≡ true) × (received_in w ≡ received_in v ++ x ∷ []) × IsNext (received_in v) x × IsHomed (home_in v) x × (home_in w ≡ home_in v) × IsBehind (received_in v) x
+  receipt_told n (Reader b m r) w x e t = (ap (λ u. is_reader n u) t.0 ∙ e, ap (λ u. received_in u) t.0, t.1, t.2, ap (λ u. home_in u) t.0, t.3)
   receipt_told n (Seat b k posted) w x e t = is_not e
-  receipt_told n (Door b m) w x e t = is_not e
+  receipt_told n (Door b seen told) w x e t = is_not e
   receipt_told n (Both b m r c k posted) w x e t = is_not e
+  receipt_told n (Shown b seen told c k posted) w x e t = is_not e
+  receipt_told n (Heard b m r c seen told) w x e t = is_not e
   receipt_told n Nobody w x e t = is_not e
 
   -- of a look, whether a post was found or not
@@ -133,15 +150,19 @@ module _ {S : Type 0} where
   pub any_reader : (v : InboxView S) → reads_any v ≡ true → (n : ℕ) × (v ≡ Reader (home_in v) n (received_in v))
   any_reader (Reader b n r) e = (n, refl)
   any_reader (Seat b k posted) e = is_not e
-  any_reader (Door b n) e = is_not e
+  any_reader (Door b seen told) e = is_not e
   any_reader (Both b n r c k posted) e = is_not e
+  any_reader (Shown b seen told c k posted) e = is_not e
+  any_reader (Heard b n r c seen told) e = is_not e
   any_reader Nobody e = is_not e
 
   pub any_seat : (v : InboxView S) → posts_any v ≡ true → v ≡ Seat (home_in v) (number_in v) (posted_in v)
   any_seat (Reader b n r) e = is_not e
   any_seat (Seat b k posted) e = refl
-  any_seat (Door b n) e = is_not e
+  any_seat (Door b seen told) e = is_not e
   any_seat (Both b n r c k posted) e = is_not e
+  any_seat (Shown b seen told c k posted) e = is_not e
+  any_seat (Heard b n r c seen told) e = is_not e
   any_seat Nobody e = is_not e
 
   pub reads_some : (n : ℕ) (v : InboxView S) → is_reader n v ≡ true → reads_any v ≡ true
@@ -153,65 +174,22 @@ module _ {S : Type 0} where
   pub number_is : (k : ℕ) (v : InboxView S) → is_seat k v ≡ true → number_in v ≡ k
   number_is k v e = ap (λ u. number_in u) (seat_is k v e)
 
-  -- a seat's view is lent to the reader's: what the passes know, step by step
-
-  seat_lent : (w m : InboxView S) → posts_any w ≡ true → m ≡ seat_in w → m ≡ Seat (home_in w) (number_in w) (posted_in w)
-  seat_lent w m posts is = is ∙ ap (λ u. seat_in u) (any_seat w posts)
-
-  pub both_are : (v w m b : InboxView S) (n : ℕ) → v ≡ Reader (home_in v) n (received_in v) → posts_any w ≡ true → m ≡ seat_in w → b ≡ beside v m → b ≡ Both (home_in v) n (received_in v) (home_in w) (number_in w) (posted_in w)
-  both_are v w m b n reads posts lent is = is ∙ (λ i. beside (reads i) (seat_lent w m posts lent i))
-
-  pub lends_by : (pass : ℕ) (w : InboxView S) → posts_any w ≡ true → Forks Keeps pass w (without_seat w) (seat_in w)
-  lends_by pass w posts = subst (λ (u : InboxView S). Forks Keeps pass u (without_seat u) (seat_in u)) (sym (any_seat w posts)) (lends_seat (home_in w) pass (number_in w) (posted_in w))
-
-  pub merges_by : (pass : ℕ) (v : InboxView S) (other : ℕ) (w m : InboxView S) → reads_any v ≡ true → posts_any w ≡ true → m ≡ seat_in w → Merges Keeps pass v other m (beside v m) nobody
-  merges_by pass v other w m reads posts lent =
-      let r = any_reader v reads in
-      subst (λ (u : InboxView S). Merges Keeps pass u other m (beside u m) nobody) (sym r.1)
-      (subst (λ (u : InboxView S). Merges Keeps pass (Reader (home_in v) r.0 (received_in v)) other u (with_seat (home_in v) r.0 (received_in v) u) nobody) (sym (seat_lent w m posts lent))
-      (merges_seat (home_in v) pass r.0 (received_in v) other (home_in w) (number_in w) (posted_in w)))
-
-  pub learns_by : (pass : ℕ) (v w m b : InboxView S) → reads_any v ≡ true → posts_any w ≡ true → m ≡ seat_in w → b ≡ beside v m → Learns Keeps pass b (λ items. Agrees b)
-  learns_by pass v w m b reads posts lent is =
-      let r = any_reader v reads in
-      subst (λ (u : InboxView S). Learns Keeps pass u (λ items. Agrees u)) (sym (both_are v w m b r.0 r.1 posts lent is)) (learns_both (home_in v) pass r.0 (received_in v) (home_in w) (number_in w) (posted_in w))
-
-  pub forks_by : (pass : ℕ) (v w m b : InboxView S) → reads_any v ≡ true → posts_any w ≡ true → m ≡ seat_in w → b ≡ beside v m → Forks Keeps pass b (without_seat b) (seat_in b)
-  forks_by pass v w m b reads posts lent is =
-      let r = any_reader v reads in
-      subst (λ (u : InboxView S). Forks Keeps pass u (without_seat u) (seat_in u)) (sym (both_are v w m b r.0 r.1 posts lent is)) (forks_seat (home_in v) pass r.0 (received_in v) (home_in w) (number_in w) (posted_in w))
-
-  pub returns_by : (pass other : ℕ) (v w m b empty back : InboxView S) → reads_any v ≡ true → posts_any w ≡ true → m ≡ seat_in w → b ≡ beside v m → empty ≡ without_seat w → back ≡ seat_in b
-      → Merges Keeps pass empty other back (beside empty back) nobody
-  returns_by pass other v w m b empty back reads posts lent is left gone =
-      let r = any_reader v reads in
-      let none : empty ≡ nobody = left ∙ ap (λ u. without_seat u) (any_seat w posts) in
-      let seat : back ≡ Seat (home_in w) (number_in w) (posted_in w) = gone ∙ ap (λ u. seat_in u) (both_are v w m b r.0 r.1 posts lent is) in
-      subst (λ (u : InboxView S). Merges Keeps pass u other back (beside u back) nobody) (sym none)
-      (subst (λ (u : InboxView S). Merges Keeps pass nobody other u u nobody) (sym seat) (returns_seat pass other (home_in w) (number_in w) (posted_in w)))
-
-  -- what was learned
-  pub compared : (v w m b : InboxView S) → reads_any v ≡ true → posts_any w ≡ true → m ≡ seat_in w → b ≡ beside v m → Agrees b → IsPrefix (at_seat (number_in w) (received_in v)) (posted_in w)
-  compared v w m b reads posts lent is agrees = let r = any_reader v reads in subst (λ u. Agrees u) (both_are v w m b r.0 r.1 posts lent is) agrees
-
-  -- both views are as before
-  pub reader_back : (v w m b new : InboxView S) → reads_any v ≡ true → posts_any w ≡ true → m ≡ seat_in w → b ≡ beside v m → new ≡ without_seat b → new ≡ v
-  reader_back v w m b new reads posts lent is left = let r = any_reader v reads in left ∙ ap (λ u. without_seat u) (both_are v w m b r.0 r.1 posts lent is) ∙ sym r.1
-
-  pub seat_back : (v w m b empty back new : InboxView S) → reads_any v ≡ true → posts_any w ≡ true → m ≡ seat_in w → b ≡ beside v m → empty ≡ without_seat w → back ≡ seat_in b → new ≡ beside empty back → new ≡ w
-  seat_back v w m b empty back new reads posts lent is left gone come =
-      let r = any_reader v reads in
-      let none : empty ≡ nobody = left ∙ ap (λ u. without_seat u) (any_seat w posts) in
-      let seat : back ≡ Seat (home_in w) (number_in w) (posted_in w) = gone ∙ ap (λ u. seat_in u) (both_are v w m b r.0 r.1 posts lent is) in
-      come ∙ (λ i. beside (none i) (seat i)) ∙ sym (any_seat w posts)
+  -- both in one hand
+  pub both_are : (v w m b : InboxView S) (n : ℕ) → v ≡ Reader (home_in v) n (received_in v) → posts_any w ≡ true → m ≡ lent_in w → b ≡ beside v m → b ≡ Both (home_in v) n (received_in v) (home_in w) (number_in w) (posted_in w)
+  both_are v w m b n reads posts lent is =
+      let seat : m ≡ Seat (home_in w) (number_in w) (posted_in w) = lent ∙ ap (λ u. lent_in u) (any_seat w posts) in
+      is ∙ (λ i. beside (reads i) (seat i))
 
 pub begins_posted : (S : Type 0) → ReceivedBeginsPosted S
 begins_posted S items views b reader seat n k got posted h at_reader at_seat' =
     (h.each_view seat (Seat b k posted) at_seat').2 ∙ at_seat_append k h.got items ∙ ap (λ t. at_seat k t ++ at_seat k items) (sym (h.each_view reader (Reader b n got) at_reader).2)
 
 pub stops_posted : (S : Type 0) → StopsReceivedWerePosted S
-stops_posted S items views b reader door n stops got h at_reader at_door =
-    (h.each_view door (Door b stops) at_door).2 ∙ stops_append h.got items ∙ ap (λ t. stops_of t + stops_of items) (sym (h.each_view reader (Reader b n got) at_reader).2)
+stops_posted S items views b reader door n got seen told h at_reader at_door =
+    ap length (h.each_view door (Door b seen told) at_door).2 ∙ told_length (h.got ++ items) ∙ stops_append h.got items ∙ ap (λ t. stops_of t + stops_of items) (sym (h.each_view reader (Reader b n got) at_reader).2)
 
 pub posts_in_order : (S : Type 0) → WaitingPostsAreInOrder S
 posts_in_order S items views b reader n got h at_reader = subst (λ g. InOrder g items) (sym (h.each_view reader (Reader b n got) at_reader).2) h.in_order
+
+pub stops_behind : (S : Type 0) → WaitingStopsComeBehind S
+stops_behind S items views b reader n got h at_reader = subst (λ g. EachBehind g items) (sym (h.each_view reader (Reader b n got) at_reader).2) h.behind

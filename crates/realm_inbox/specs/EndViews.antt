@@ -10,7 +10,7 @@ use Rattle.realm_inbox.specs.declared.ends.Inbox.{Inbox}
 use Rattle.realm_inbox.specs.declared.ends.Seat.{Seat}
 use Rattle.realm_inbox.specs.declared.ends.Poster.{Poster}
 use Rattle.ghost_state.specs.GhostList.{items_of}
-use Rattle.realm_inbox.specs.Ends.{home_in, Place, place_of, posted_in, stops_in}
+use Rattle.realm_inbox.specs.Ends.{home_in, Place, place_of, posted_in, shown_in, told_in}
 use Rattle.realm_inbox.specs.Posted.{Posted}
 
 module _ {S : Type 0} where
@@ -37,9 +37,17 @@ module _ {S : Type 0} where
   abbrev pub posted : Poster S → List (ℕ × Act S)
   posted p = posted_at p.seat
 
-  -- how many stops a door has posted
+  -- of each seat that a door was shown, its number, and how many acts had been posted there
+  abbrev pub shown : Door S → List (ℕ × ℕ)
+  shown d = shown_in (view d.pass)
+
+  -- what the stops told that a door has posted, the oldest first: what it had been shown by then
+  abbrev pub told : Door S → List (List (ℕ × ℕ))
+  told d = told_in (view d.pass)
+
+  -- how many they are
   abbrev pub stops : Door S → ℕ
-  stops d = stops_in (view d.pass)
+  stops d = length (told d)
 
   -- the chronicle of an inbox's realm, if one is picked
   abbrev pub home_of : Inbox S → Option TableId

@@ -2,6 +2,7 @@ pub mod HistoryBeginnings
 pub mod Joins
 pub mod Over
 pub mod Seats
+pub mod Behind
 pub mod SeatLines
 pub mod InTurn
 pub mod Ends

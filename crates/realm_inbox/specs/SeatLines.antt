@@ -7,6 +7,7 @@ use Rattle.realm_inbox.specs.declared.seat_line.SeatLine.{SeatLine}
 use Rattle.realm_inbox.specs.declared.seat_lines.SeatLines.{SeatLines}
 use Rattle.realm_inbox.specs.declared.letter.Post.TheVariants as post
 use Rattle.realm_inbox.specs.Seats.{at_seat, InOrder, EachHomed}
+use Rattle.realm_inbox.specs.Behind.{AllBehind, told_by}
 
 module _ {S : Type 0} where
   -- where a post waits: at its seat, and a stop, which stands at no seat, at 0
@@ -50,6 +51,9 @@ module _ {S : Type 0} where
     pub in_order : InOrder given line
     pub homed : EachHomed home line
     pub own : AllAt k line
+    pub behind : AllBehind taken line
+    -- the stops wait at 0
+    pub stops : k ≡ 0 → told_by taken ≡ told_by given ++ told_by line
 
   -- the same of each place
   abbrev pub IsDealt : Option TableId → List (Post S) → List (Post S) → (ℕ → List (Post S)) → Type 0

@@ -5,6 +5,7 @@ ghost use Rattle.crossbeam_channel.specs.Claims.{view, IsSeatAt};
 ghost use Rattle.crossbeam_channel.specs.Ends.{sends_on, receives_on};
 ghost use Rattle.wamp_ids.specs.Numbers.{seat_of};
 ghost use Rattle.realm_inbox.specs.Seats.{IsNext, IsHomed, at_seat};
+ghost use Rattle.realm_inbox.specs.Behind.{IsBehind};
 ghost use Rattle.realm_inbox.specs.SeatLines.{waiting};
 ghost use Rattle.realm_inbox.specs.InTurn.{Receipt};
 ghost use Rattle.realm_inbox.specs.Unchanged.{IsSamePoster};
@@ -13,7 +14,6 @@ ghost use Rattle.realm_inbox.specs.Ends.{place_of as place_in, posted_in, receiv
 use crate::ends::{Inbox, Poster, Receiving, Seat, Sending, Ticket};
 use crate::letter::Post;
 use crate::rule::{Beside, ReceivesBeside};
-use crate::seat_lines::place_of;
 use crate::transport::Shut;
 use crossbeam_channel::TryRecvError;
 use std::snapshot::Snapshot;
@@ -31,6 +31,7 @@ impl<S: Shut> Inbox<S> {
             (λ p. received self.new ≡ received self.old ++ p ∷ []) }
         ensures in_turn { IfSome result (λ p. IsNext (received self.old) p) }
         ensures home { IfSome result (λ p. IsHomed (home_of self.old) p) }
+        ensures behind { IfSome result (λ p. IsBehind (received self.old) p) }
         ensures all { IfNone result
             (at_seat (seat_of (poster_conn poster.new)) (received self.new) ≡ posted poster.new) }
         ensures poster { IsSamePoster poster.old poster.new }
@@ -64,18 +65,20 @@ impl<S: Shut> Inbox<S> {
         unreachable!()
     }
 
-    // The first post that waits at a place, or at that of the post that stands aside. Where none does, none stands aside either.
+    // The first post that waits at a place, or at that of the post that stands aside; before a stop one of those that wait elsewhere.
+    // Where none does, none stands aside either.
     fn give_waiting(&mut self, place: u64) -> Option<Post<S>>
         ensures given { MatchOption result (received self.new ≡ received self.old)
             (λ p. received self.new ≡ received self.old ++ p ∷ []) }
         ensures in_turn { IfSome result (λ p. IsNext (received self.old) p) }
         ensures home { IfSome result (λ p. IsHomed (home_of self.old) p) }
+        ensures behind { IfSome result (λ p. IsBehind (received self.old) p) }
         ensures none { IfNone result
             ((waiting self.new.lines place ≡ []) × (self.new.lines.aside ≡ None)) }
         ensures same { (inbox_of self.new ≡ inbox_of self.old)
             × (capacity self.new ≡ capacity self.old) }
     {
-        let place = self.lines.place_to_empty(place);
+        let place = self.lines.stop_last(self.lines.place_to_empty(place));
         let first = self.lines.pop(place)?;
         self.turns.note_given(place, &first);
         self.given.add(Snapshot::of(&first));
@@ -91,6 +94,7 @@ impl<S: Shut> Inbox<S> {
             (λ p. received self.new ≡ received self.old ++ p ∷ []) }
         ensures in_turn { IfSome result (λ p. IsNext (received self.old) p) }
         ensures home { IfSome result (λ p. IsHomed (home_of self.old) p) }
+        ensures behind { IfSome result (λ p. IsBehind (received self.old) p) }
         ensures all { IfNone result
             (at_seat (seat_of (poster_conn poster.new)) (received self.new) ≡ posted poster.new) }
         ensures poster { IsSamePoster poster.old poster.new }
@@ -101,8 +105,7 @@ impl<S: Shut> Inbox<S> {
             Ok(taken) => taken,
             Err(_) => return None,
         };
-        let place = place_of(&taken);
-        let first = self.lines.exchange(taken);
+        let (place, first) = self.lines.exchange(taken);
         self.turns.note_given(place, &first);
         self.given.add(Snapshot::of(&first));
         Some(first)

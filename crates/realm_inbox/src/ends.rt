@@ -1,19 +1,19 @@
 //! The ends of an inbox: seats with their posters, and the receiving end.
-ghost use Rattle.std.specs.Prelude.{◌≡◌, ◌≢◌, ◌≤◌, [], ◌∷◌, ◌++◌, ◌+◌, true, IfSome, IfOk, IfErr, MatchOption, MatchResult};
+ghost use Rattle.std.specs.Prelude.{◌≡◌, ◌≢◌, ◌≤◌, [], ◌∷◌, ◌++◌, ◌+◌, length, true, IfSome, IfOk, IfErr, MatchOption, MatchResult};
 ghost use Rattle.crossbeam_channel.specs.Claims.{view, IsSeatAt};
 ghost use Rattle.crossbeam_channel.specs.Ends.{sends_on, receives_on};
 ghost use Rattle.wamp_ids.specs.Numbers.{seat_of};
 ghost use Rattle.ghost_state.specs.GhostList.{items_of};
-ghost use mathlib.Core.List.{IsPrefix};
-ghost use Rattle.realm_inbox.specs.Seats.{IsNext, IsHomed, BringsHome, BringsOwn, at_seat};
+ghost use Rattle.realm_inbox.specs.Seats.{IsNext, IsHomed, BringsHome, BringsOwn};
+ghost use Rattle.realm_inbox.specs.Behind.{IsBehind};
 ghost use Rattle.realm_inbox.specs.SeatLines.{IsDealt, waiting};
-ghost use Rattle.realm_inbox.specs.Ends.{home_in, place_of as place_in, posted_in, received_in, number_in, is_seat, is_reader, reads_any, posts_any};
+ghost use Rattle.realm_inbox.specs.Ends.{home_in, posted_in, received_in, is_seat, is_reader};
 
 use crate::act::Act;
 use crate::backlog::{Backlog, PostCount, Weight};
 use crate::bells::{Bells, send_quietly};
 use crate::letter::{Letter, Post};
-use crate::rule::{Beside, InTurn, InboxView, Posts, Receives};
+use crate::rule::{InTurn, InboxView, Posts, Receives};
 use crate::seat_lines::{SeatLines, place_of};
 use crate::seat_turns::SeatTurns;
 use crate::transport::Shut;
@@ -36,6 +36,8 @@ pub(crate) type Ticket<S> = Pass<Post<S>, InboxView<S>>;
 pub struct Seat<S: Shut> {
     pub(crate) number: u64,
     pub(crate) past: GhostList<(Conn, Act<S>)>,
+    // How many acts these are.
+    pub(crate) posted: GhostCount,
     // What was posted here and isn't handled yet.
     pub(crate) backlog: Arc<Backlog>,
     pub(crate) count: PostCount,
@@ -46,6 +48,7 @@ pub struct Seat<S: Shut> {
     ghost at: { IsSeatAt (sends_on sender) pass },
     ghost sits: { is_seat number (view pass) ≡ true },
     ghost told: { items_of past ≡ posted_in (view pass) },
+    ghost counted: { posted ≡ length (posted_in (view pass)) },
 }
 
 /// Posts the acts of one connection at its seat. While it lives the inbox has a sender.
@@ -88,7 +91,8 @@ impl<S: Shut> Inbox<S> {
     ghost use Rattle.realm_inbox.specs.EndViews.{received, capacity, posted, poster_conn, home_of, inbox_of, inbox_of_poster};
 
     /// Waits for a post. It is the next of its seat: what had been posted there before it is exactly what was received of the seat.
-    /// A Join brings an outbox of the inbox's chronicle, or one for which none is picked. `None` once each sender is gone: the door,
+    /// A Join brings an outbox of the inbox's chronicle, or one for which none is picked. A stop comes behind all that its door was shown
+    /// ([`Door::sees`](crate::Door::sees)): that was received before. `None` once each sender is gone: the door,
     /// each poster and each seat, and nothing waits. It wakes who waits for room: with each post that it gives, and before it waits
     /// itself.
     ///
@@ -99,6 +103,7 @@ impl<S: Shut> Inbox<S> {
             (λ p. received self.new ≡ received self.old ++ p ∷ []) }
         ensures in_turn { IfSome result (λ p. IsNext (received self.old) p) }
         ensures home { IfSome result (λ p. IsHomed (home_of self.old) p) }
+        ensures behind { IfSome result (λ p. IsBehind (received self.old) p) }
         ensures same { (inbox_of self.new ≡ inbox_of self.old)
             × (capacity self.new ≡ capacity self.old) }
     {
@@ -127,6 +132,7 @@ impl<S: Shut> Inbox<S> {
             (λ p. received self.new ≡ received self.old ++ p ∷ []) }
         ensures in_turn { IfSome result (λ p. IsNext (received self.old) p) }
         ensures home { IfSome result (λ p. IsHomed (home_of self.old) p) }
+        ensures behind { IfSome result (λ p. IsBehind (received self.old) p) }
         ensures same { (inbox_of self.new ≡ inbox_of self.old)
             × (capacity self.new ≡ capacity self.old) }
     {
@@ -139,6 +145,7 @@ impl<S: Shut> Inbox<S> {
             (λ _. received self.new ≡ received self.old) }
         ensures in_turn { IfOk result (λ p. IsNext (received self.old) p) }
         ensures home { IfOk result (λ p. IsHomed (home_of self.old) p) }
+        ensures behind { IfOk result (λ p. IsBehind (received self.old) p) }
         ensures same { (inbox_of self.new ≡ inbox_of self.old)
             × (capacity self.new ≡ capacity self.old) }
     {
@@ -156,13 +163,14 @@ impl<S: Shut> Inbox<S> {
         self.turns.is_calm(&self.lines) && self.lines.is_open()
     }
 
-    // The next post of the channel, if nothing of its seat waits.
+    // The next post of the channel, if nothing of its seat waits; a stop, if nothing waits at all.
     fn give_as_it_comes<R: Wait>(&mut self, rt: &R) -> Result<Post<S>, TryRecvError>
         requires open { self.old.lines.aside ≡ None }
         ensures given { MatchResult result (λ p. received self.new ≡ received self.old ++ p ∷ [])
             (λ _. received self.new ≡ received self.old) }
         ensures in_turn { IfOk result (λ p. IsNext (received self.old) p) }
         ensures home { IfOk result (λ p. IsHomed (home_of self.old) p) }
+        ensures behind { IfOk result (λ p. IsBehind (received self.old) p) }
         ensures same { (inbox_of self.new ≡ inbox_of self.old)
             × (capacity self.new ≡ capacity self.old) }
     {
@@ -171,7 +179,7 @@ impl<S: Shut> Inbox<S> {
             Err(why) => return Err(why),
         };
         let place = place_of(&post);
-        if !self.lines.is_free(place) {
+        if !self.lines.lets_through(place) {
             self.lines.add(post);
             return self.deal(TryRecvError::Empty);
         }
@@ -214,16 +222,17 @@ impl<S: Shut> Inbox<S> {
         Ok(())
     }
 
-    // The post whose turn it is, of those that wait. Where none waits, why none came.
+    // The post whose turn it is, of those that wait; a stop, if nothing else does. Where none waits, why none came.
     fn deal(&mut self, why: TryRecvError) -> Result<Post<S>, TryRecvError>
         ensures given { MatchResult result (λ p. received self.new ≡ received self.old ++ p ∷ [])
             (λ _. received self.new ≡ received self.old) }
         ensures in_turn { IfOk result (λ p. IsNext (received self.old) p) }
         ensures home { IfOk result (λ p. IsHomed (home_of self.old) p) }
+        ensures behind { IfOk result (λ p. IsBehind (received self.old) p) }
         ensures same { (inbox_of self.new ≡ inbox_of self.old)
             × (capacity self.new ≡ capacity self.old) }
     {
-        let place = self.turns.next_place(&self.lines);
+        let place = self.lines.stop_last(self.turns.next_place(&self.lines));
         let Some(first) = self.lines.pop(place) else {
             self.turns.schedule.calm_down();
             return Err(why);
@@ -264,48 +273,11 @@ impl<S: Shut> Inbox<S> {
         self.turns.schedule.note_time(nanos)
     }
 
-    /// Tells what was received of a poster's seat: it begins what was posted there. The two are of one inbox, and neither changes;
-    /// nobody waits.
-    pub fn compare(&mut self, poster: &mut Poster<S>)
-        requires inbox { inbox_of self.old ≡ inbox_of_poster poster.old }
-        ensures begins { IsPrefix (at_seat (seat_of (poster_conn poster.new)) (received self.new))
-            (posted poster.new) }
-        ensures poster { (poster_conn poster.new ≡ poster_conn poster.old)
-            × (posted poster.new ≡ posted poster.old)
-            × (inbox_of_poster poster.new ≡ inbox_of_poster poster.old) }
-        ensures same { (received self.new ≡ received self.old)
-            × (inbox_of self.new ≡ inbox_of self.old)
-            × (capacity self.new ≡ capacity self.old) }
-    {
-        poster.seat.compare(&mut self.pass);
-    }
-
     /// Wakes 16 of the posters that wait for room, those first that have waited longest. Who receives several posts by
     /// [`Inbox::try_receive`] wakes once, after the last; until then they may sleep on. Where nobody waits it is no system call.
     pub fn wake(&self) {
         self.turns.ring_for_some();
     }
-}
-
-// Tells what the reader's pass and a seat's know together. Both know the same behind it.
-fn compare_passes<S: Shut>(sender: &Sending<S>, reading: &mut Ticket<S>, posting: &mut Ticket<S>)
-    requires reading { IsSeatAt (sends_on sender.now) reading.old
-        × (reads_any (view reading.old) ≡ true) }
-    requires posting { IsSeatAt (sends_on sender.now) posting.old
-        × (posts_any (view posting.old) ≡ true) }
-    ensures begins { IsPrefix
-        (at_seat (number_in (view posting.old)) (received_in (view reading.old)))
-        (posted_in (view posting.old)) }
-    ensures reading { IsSeatAt (sends_on sender.now) reading.new
-        × (view reading.new ≡ view reading.old) }
-    ensures posting { IsSeatAt (sends_on sender.now) posting.new
-        × (view posting.new ≡ view posting.old) }
-{
-    let lent = sender.another::<Beside>(posting);
-    sender.absorb::<Beside>(reading, lent);
-    sender.learn_as::<Beside>(reading);
-    let back = sender.another::<Beside>(reading);
-    sender.absorb::<Beside>(posting, back);
 }
 
 impl<S: Shut> Drop for Inbox<S> {
@@ -361,21 +333,6 @@ impl<S: Shut> Seat<S> {
         })
     }
 
-    // Tells what the reader's pass, which is of its inbox, and its own know together.
-    fn compare(&mut self, reading: &mut Ticket<S>)
-        requires place { place_in reading.old ≡ inbox_of_seat self.old }
-        requires reads { (reading.old.me.1 ≡ []) × (reads_any (view reading.old) ≡ true) }
-        ensures begins { IsPrefix (at_seat (seat_number self.new) (received_in (view reading.old)))
-            (posted_at self.new) }
-        ensures reading { (place_in reading.new ≡ place_in reading.old)
-            × (reading.new.me.1 ≡ []) × (view reading.new ≡ view reading.old) }
-        ensures same { (seat_number self.new ≡ seat_number self.old)
-            × (posted_at self.new ≡ posted_at self.old)
-            × (inbox_of_seat self.new ≡ inbox_of_seat self.old) }
-    {
-        compare_passes(&self.sender, reading, &mut self.pass);
-    }
-
     // Posts an act of a connection of this seat, which was read from so many octets. The receiving end is woken only before a wait.
     pub(crate) fn post<R: Wait>(
         &mut self,
@@ -415,6 +372,7 @@ impl<S: Shut> Seat<S> {
         ) {
             Ok(()) => {
                 self.past.add(last);
+                self.posted.tick();
                 Ok(())
             }
             Err(Post::Act(letter)) => Err(letter.act),
@@ -429,6 +387,7 @@ impl<S: Shut> Drop for Seat<S> {
         let Self {
             number: _,
             past: _,
+            posted: _,
             backlog: _,
             count: _,
             sender,

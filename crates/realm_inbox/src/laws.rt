@@ -1,5 +1,5 @@
 //! What holds at every moment of an inbox: of each state that its rule allows.
-ghost use Rattle.realm_inbox.specs.Laws.{ReceivedBeginsPosted, StopsReceivedWerePosted, WaitingPostsAreInOrder};
+ghost use Rattle.realm_inbox.specs.Laws.{ReceivedBeginsPosted, StopsReceivedWerePosted, WaitingPostsAreInOrder, WaitingStopsComeBehind};
 
 use crate::transport::Shut;
 use std::marker::PhantomData;
@@ -18,4 +18,9 @@ pub fn stops_received_were_posted<S: Shut>(_transport: PhantomData<S>)
 /// it in front of the post.
 pub fn waiting_posts_are_in_order<S: Shut>(_transport: PhantomData<S>)
     ensures { WaitingPostsAreInOrder S }
+{}
+
+/// Each stop that waits comes behind all that its door was shown: that was received, or waits in front of the stop.
+pub fn waiting_stops_come_behind<S: Shut>(_transport: PhantomData<S>)
+    ensures { WaitingStopsComeBehind S }
 {}

@@ -6,7 +6,8 @@ ghost use Rattle.realm_inbox.specs.declared.act.Act.TheVariants.{Join};
 use crate::act::Act;
 use crate::backlog::Weight;
 use crate::transport::Shut;
-use ghost_state::GhostList;
+use ghost_state::{GhostCount, GhostList};
+use std::marker::Model;
 use std::snapshot::Snapshot;
 use wamp_ids::Conn;
 
@@ -58,10 +59,28 @@ impl<S: Shut> Letter<S> {
     }
 }
 
+/// A seat's number, and how many acts had been posted there. It is only looked at by a snapshot.
+#[derive(Drop)]
+pub(crate) struct SeatCount {
+    pub(crate) number: u64,
+    pub(crate) posted: Snapshot<GhostCount>,
+}
+
+impl Model for SeatCount {
+    ghost use Rattle.std.specs.Prelude.{ℕ};
+
+    ghost Value = { ℕ × ℕ };
+
+    ghost view = { λ c. (c.number, c.posted.value) };
+}
+
 /// What a stop is made of. A door alone has it, and posts it.
+///
+/// Contracts see what the stop comes behind: of each seat that its door was shown, how many acts had been posted there.
 #[derive(Drop)]
 pub struct Halt {
-    pub(crate) of_door: (),
+    // It takes no bytes.
+    pub(crate) behind: Snapshot<GhostList<SeatCount>>,
 }
 
 /// What the actor is told.

@@ -7,6 +7,8 @@
 //! gives what was posted there, whole and in order, and [`laws`] says so of every moment. Nobody else makes a [`Post`].
 //! Who has an inbox and a poster of it in one hand learns by [`Inbox::compare`] that what was received of the seat
 //! begins what was posted there; and by [`Inbox::receive_beside`], once that finds nothing more, that it is all of it.
+//! A [`Door`] that is shown a poster posts stops from then on that come behind what was posted there: who receives one
+//! has received that before.
 //!
 //! ```
 //! // as in cases_inbox/src/room.rt
@@ -36,6 +38,7 @@ mod act;
 mod backlog;
 mod bells;
 mod beside;
+mod compared;
 mod door;
 mod ends;
 mod history;

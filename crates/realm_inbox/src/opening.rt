@@ -3,8 +3,8 @@ ghost use Rattle.std.specs.Prelude.{◌≡◌, ℕ, ◌+◌, ◌<◌, ◌≤◌,
 ghost use Rattle.crossbeam_channel.specs.Claims.{view, IsSeatAt};
 ghost use Rattle.crossbeam_channel.specs.Ends.{sends_on};
 ghost use Rattle.atomic_table.specs.Seated.{TableId};
-ghost use Rattle.realm_inbox.specs.Ends.{home_in, place_of, received_in, stops_in, is_reader, is_door};
-ghost use Rattle.realm_inbox.specs.EndViews.{home_of, received, capacity, stops, inbox_of, inbox_of_door, IsNewSeat, AreNewSeats};
+ghost use Rattle.realm_inbox.specs.Ends.{home_in, place_of, received_in, shown_in, told_in, is_reader, is_door};
+ghost use Rattle.realm_inbox.specs.EndViews.{home_of, received, capacity, shown, told, stops, inbox_of, inbox_of_door, IsNewSeat, AreNewSeats};
 
 use crate::backlog::{Backlog, PostCount};
 use crate::bells::Bells;
@@ -20,7 +20,7 @@ use crate::seat_turns::SeatTurns;
 use crate::transport::Shut;
 use crossbeam_channel::bounded_with;
 use crossbeam_utils::sync::Parker;
-use ghost_state::GhostList;
+use ghost_state::{GhostCount, GhostList};
 use std::alloc::{AllocError, Global};
 use std::marker::Brand;
 use std::sync::Arc;
@@ -33,7 +33,8 @@ fn cut_door<S: Shut, J: InboxNaming>(sender: &Sending<S>, pass: &mut Ticket<S>) 
         × (received_in (view pass.new) ≡ received_in (view pass.old))
         × (home_in (view pass.new) ≡ J.home) }
     ensures door { IsSeatAt (sends_on sender.now) result × (is_door (view result) ≡ true)
-        × (stops_in (view result) ≡ 0) × (place_of result ≡ place_of pass.new) }
+        × (shown_in (view result) ≡ []) × (told_in (view result) ≡ [])
+        × (place_of result ≡ place_of pass.new) }
 {
     sender.another::<CutDoor<J>>(pass)
 }
@@ -62,6 +63,7 @@ fn cut_seat<S: Shut>(
     Ok(Seat {
         number,
         past: GhostList::new(),
+        posted: GhostCount::new(),
         backlog,
         count: PostCount::new(),
         sender: own,
@@ -136,6 +138,7 @@ pub fn inbox<S: Shut>(
     ensures inbox { IfOk result (λ r. (received r.2 ≡ []) × (capacity r.2 ≡ cap)) }
     ensures home { IfOk result (λ r. home_of r.2 ≡ None) }
     ensures door { IfOk result (λ r. (stops r.0 ≡ 0) × (inbox_of_door r.0 ≡ inbox_of r.2)) }
+    ensures shown { IfOk result (λ r. (shown r.0 ≡ []) × (told r.0 ≡ [])) }
 {
     make(alloc, cap, None)
 }
@@ -156,6 +159,7 @@ pub fn inbox_of_chronicle<S: Shut>(
     ensures inbox { IfOk result (λ r. (received r.2 ≡ []) × (capacity r.2 ≡ cap)) }
     ensures home { IfOk result (λ r. home_of r.2 ≡ Some chronicle.now.chronicle) }
     ensures door { IfOk result (λ r. (stops r.0 ≡ 0) × (inbox_of_door r.0 ≡ inbox_of r.2)) }
+    ensures shown { IfOk result (λ r. (shown r.0 ≡ []) × (told r.0 ≡ [])) }
 {
     make(alloc, cap, Some(chronicle))
 }
@@ -173,6 +177,7 @@ fn make<S: Shut>(
     ensures inbox { IfOk result (λ r. (received r.2 ≡ []) × (capacity r.2 ≡ cap)) }
     ensures home { IfOk result (λ r. home_of r.2 ≡ picked) }
     ensures door { IfOk result (λ r. (stops r.0 ≡ 0) × (inbox_of_door r.0 ≡ inbox_of r.2)) }
+    ensures shown { IfOk result (λ r. (shown r.0 ≡ []) × (told r.0 ≡ [])) }
 {
     let _ = chronicle;
     let (sender, receiver, mut pass) = bounded_with::<Post<S>, InboxView<S>, InTurn, Global>(
@@ -192,6 +197,7 @@ fn make<S: Shut>(
         Door {
             sender,
             bells,
+            shown: GhostList::new(),
             pass: door,
         },
         seats,

@@ -14,16 +14,35 @@ pub enum InboxView<S: Shut> {
     Reader(Option<Name>, u64, LinkedList<Post<S>>),
     /// A seat: its number, and what was posted there, the oldest first.
     Seat(Option<Name>, u64, LinkedList<(Conn, Act<S>)>),
-    /// The door: how many stops it has posted.
-    Door(Option<Name>, u64),
+    /// The door: of each seat that it was shown, the number, and how many acts had been posted there; and the same of each stop that
+    /// it has posted, as it was then.
+    Door(Option<Name>, LinkedList<(u64, u64)>, LinkedList<LinkedList<(u64, u64)>>),
     /// The receiving end and a seat in one hand: what both know.
     Both(Option<Name>, u64, LinkedList<Post<S>>, Option<Name>, u64, LinkedList<(Conn, Act<S>)>),
+    /// The door and a seat in one hand: what both know.
+    Shown(
+        Option<Name>,
+        LinkedList<(u64, u64)>,
+        LinkedList<LinkedList<(u64, u64)>>,
+        Option<Name>,
+        u64,
+        LinkedList<(Conn, Act<S>)>,
+    ),
+    /// The receiving end and the door in one hand: what both know.
+    Heard(
+        Option<Name>,
+        u64,
+        LinkedList<Post<S>>,
+        Option<Name>,
+        LinkedList<(u64, u64)>,
+        LinkedList<LinkedList<(u64, u64)>>,
+    ),
     /// No end.
     Nobody,
 }
 
 /// The rule of an inbox: what was posted at a seat is what was received of it, and then what waits of it, and no
-/// Join brings an outbox of another chronicle than the inbox's.
+/// Join brings an outbox of another chronicle than the inbox's. A stop comes behind all that its door was shown.
 pub struct InTurn;
 
 impl<S: Shut> Protocol<Post<S>, InboxView<S>> for InTurn {
@@ -72,7 +91,7 @@ impl<S: Shut, J: InboxNaming> Split<InboxView<S>> for CutDoor<J> {
     ghost right = { λ v. new_door J.home };
 }
 
-// A seat's pass is lent to the reader's, and comes back.
+// A seat's pass is lent to the reader's or the door's, or the door's to the reader's, and comes back.
 pub(crate) struct Beside;
 
 impl<S: Shut> Join<InboxView<S>> for Beside {
@@ -84,11 +103,11 @@ impl<S: Shut> Join<InboxView<S>> for Beside {
 }
 
 impl<S: Shut> Split<InboxView<S>> for Beside {
-    ghost use Rattle.realm_inbox.specs.InTurn.{without_seat, seat_in};
+    ghost use Rattle.realm_inbox.specs.InTurn.{without_lent, lent_in};
 
-    ghost left = { without_seat };
+    ghost left = { without_lent };
 
-    ghost right = { seat_in };
+    ghost right = { lent_in };
 }
 
 impl<S: Shut> Lesson<Post<S>, InboxView<S>> for Beside {

@@ -1,10 +1,13 @@
 //! Posts that wait one behind another.
-ghost use Rattle.std.specs.Prelude.{◌≡◌, ◌++◌, ◌∷◌, [], true, MatchOption};
+ghost use Rattle.std.specs.Prelude.{◌≡◌, ◌≢◌, ◌++◌, ◌∷◌, [], true, false, MatchOption};
 
 use crate::letter::Post;
 use crate::transport::Shut;
 use std::alloc::Global;
 use std::collections::VecDeque;
+
+/// A line with room for so many posts keeps it when nobody waits any more.
+const KEPT: usize = 64;
 
 /// A line of posts, the oldest first.
 #[derive(Drop)]
@@ -24,7 +27,8 @@ impl<S: Shut> SeatLine<S> {
 
     /// Whether nobody waits.
     pub(crate) fn is_empty(&self) -> bool
-        ensures { result ≡ true → self.now.posts.items ≡ [] }
+        ensures none { result ≡ true → self.now.posts.items ≡ [] }
+        ensures some { result ≡ false → self.now.posts.items ≢ [] }
     {
         self.posts.is_empty()
     }
@@ -46,11 +50,22 @@ impl<S: Shut> SeatLine<S> {
         self.posts.front()
     }
 
-    /// The first post, which leaves.
+    /// The first post, which leaves. Behind the last one of many the line gives its room back.
     pub(crate) fn pop(&mut self) -> Option<Post<S>>
         ensures { MatchOption result ((self.old.posts.items ≡ []) × (self.new.posts.items ≡ []))
             (λ p. self.old.posts.items ≡ p ∷ self.new.posts.items) }
     {
-        self.posts.pop_front()
+        let first = self.posts.pop_front();
+        give_room_back(&mut self.posts);
+        first
+    }
+}
+
+// Gives the room of many posts back where nobody waits: else each seat would keep it once its client had much to say.
+fn give_room_back<S: Shut>(posts: &mut VecDeque<Post<S>>)
+    ensures { posts.new.items ≡ posts.old.items }
+{
+    if posts.is_empty() && posts.capacity() > KEPT {
+        posts.shrink_to(0);
     }
 }

@@ -1,5 +1,5 @@
 //! Posts that were taken from the channel and aren't given yet, in a line for each seat.
-ghost use Rattle.std.specs.Prelude.{◌≡◌, ℕ, ◌++◌, ◌∷◌, [], None, Some, true, MatchOption, IfNone, IfOk};
+ghost use Rattle.std.specs.Prelude.{◌≡◌, ◌≢◌, ℕ, ◌++◌, ◌∷◌, [], None, Some, true, MatchOption, IfNone, IfOk};
 ghost use Rattle.realm_inbox.specs.SeatLines.{aside_at, first_part, line_at, own_part, place_of_post, waiting, waiting_in};
 
 use crate::letter::Post;
@@ -67,6 +67,29 @@ impl<S: Shut> SeatLines<S> {
         is_empty_at(&self.lines, place)
     }
 
+    /// Whether nobody is to be given before a post of this place: nobody who waits there, and before a stop nobody at all.
+    pub(crate) fn lets_through(&self, place: u64) -> bool
+        ensures free { result ≡ true → waiting self.now place ≡ [] }
+        ensures last { result ≡ true → place ≡ 0 → (k : ℕ) → k ≢ 0 → waiting self.now k ≡ [] }
+    {
+        self.is_free(place) && self.stop_last(place) == place
+    }
+
+    /// The place; or in place of that of stops one of a seat at which somebody waits, if there is any.
+    pub(crate) fn stop_last(&self, place: u64) -> u64
+        ensures last { result ≡ 0 → (k : ℕ) → k ≢ 0 → waiting self.now k ≡ [] }
+        ensures kept { waiting self.now result ≡ [] → result ≡ place }
+    {
+        if place != 0 {
+            return place;
+        }
+        let aside = place_aside(&self.aside);
+        if aside != 0 {
+            return aside;
+        }
+        first_line(&self.lines)
+    }
+
     /// Adds a post at its place. For want of memory it stands aside.
     pub(crate) fn add(&mut self, post: Post<S>)
         requires { self.old.aside ≡ None }
@@ -90,19 +113,23 @@ impl<S: Shut> SeatLines<S> {
         first
     }
 
-    /// Adds a post at its place, and takes the first one from there: the post itself, where nobody waits.
-    pub(crate) fn exchange(&mut self, post: Post<S>) -> Post<S>
+    /// Adds a post at its place, and takes the first one from there, or before a stop one from elsewhere: the post itself, where nobody
+    /// is to be given before it. The place of what is taken, and that.
+    pub(crate) fn exchange(&mut self, post: Post<S>) -> (u64, Post<S>)
         requires { self.old.aside ≡ None }
-        ensures { (k : ℕ) → waiting self.old k ++ own_part k post
-            ≡ first_part (place_of_post post) k result ++ waiting self.new k }
+        ensures first { (k : ℕ) → waiting self.old k ++ own_part k post
+            ≡ first_part result.0 k result.1 ++ waiting self.new k }
+        ensures last { result.0 ≡ 0 → (k : ℕ) → k ≢ 0
+            → waiting self.old k ++ own_part k post ≡ [] }
     {
         let place = place_of(&post);
-        if self.is_free(place) {
-            return post;
+        if self.lets_through(place) {
+            return (place, post);
         }
         self.add(post);
+        let place = self.stop_last(place);
         match self.pop(place) {
-            Some(first) => first,
+            Some(first) => (place, first),
             None => unreachable!(),
         }
     }
@@ -132,7 +159,7 @@ impl<S: Shut> SeatLines<S> {
             let start = schedule.start_of(place);
             least_start = least_start.min(start);
             let due = start.saturating_add(schedule.probable(place, kind));
-            if due < first_due {
+            if best == 0 || due < first_due {
                 first_due = due;
                 best = place;
             }
@@ -190,6 +217,30 @@ fn is_empty_at<S: Shut>(lines: &Vec<SeatLine<S>>, place: u64) -> bool
         return false;
     }
     lines[place].is_empty()
+}
+
+// The place of the post that stands aside, else 0.
+fn place_aside<S: Shut>(aside: &Option<Post<S>>) -> u64
+    ensures none { result ≡ 0 → (k : ℕ) → k ≢ 0 → aside_at k aside.now ≡ [] }
+    ensures some { result ≢ 0 → aside_at result aside.now ≢ [] }
+{
+    match aside {
+        Some(post) => place_of(post),
+        None => 0,
+    }
+}
+
+// The first place of a seat in whose line somebody waits, else 0.
+fn first_line<S: Shut>(lines: &Vec<SeatLine<S>>) -> u64
+    ensures none { result ≡ 0 → (k : ℕ) → k ≢ 0 → line_at lines.now.items k ≡ [] }
+    ensures some { result ≢ 0 → line_at lines.now.items result ≢ [] }
+{
+    for place in 1..lines.len() {
+        if !lines[place].is_empty() {
+            return place as u64;
+        }
+    }
+    0
 }
 
 // The first post that waits at a place, which leaves: of its line, or the one that stands aside.

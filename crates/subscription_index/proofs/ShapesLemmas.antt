@@ -19,7 +19,7 @@ use Rattle.subscription_index.specs.body.Shapes.{AreDotless, digit_of, dotted, i
 use Rattle.subscription_index.proofs.Texts.{length_is, order_itself}
 use Rattle.subscription_index.proofs.PrefixTexts.{absent}
 use Rattle.subscription_index.proofs.FoundLemmas.{adds_none, adds_append, has_first, one_more}
-use Rattle.subscription_index.proofs.PartsLemmas.{drop-at}
+use Rattle.subscription_index.proofs.PiecesLemmas.{drop-at}
 use Rattle.subscription_index.proofs.Components.{Joined, component_count, as_long, fitting_text, some_component}
 
 digit_small : (p : List ℕ) → digit_of p ≤ 1

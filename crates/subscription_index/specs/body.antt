@@ -6,4 +6,5 @@ pub mod Names
 pub mod Holders
 pub mod Conns
 pub mod Receivers
-pub mod Blocks
+pub mod Pieces
+pub mod Words

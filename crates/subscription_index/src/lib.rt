@@ -6,17 +6,20 @@
 #![tactic(auto)]
 
 mod conns;
+mod deep;
 mod fault;
 mod index;
 pub mod laws;
 mod names;
 mod parts;
+mod pieces;
 mod receiver;
 mod receivers;
 mod rows;
 mod shapes;
 mod shares;
 mod table;
+mod words;
 
 pub use fault::Fault;
 pub use index::Index;

@@ -61,7 +61,7 @@ module _ {S : Type 0} where
   traces_in None realm = None
   traces_in (Some row) realm = option_flatten (slice_get row realm)
 
-  flat_traces : (o : Option (Option (Poster S))) → option_flatten (option_map (option_map trace) o) ≡ option_map trace (option_flatten o)
+  pub flat_traces : (o : Option (Option (Poster S))) → option_flatten (option_map (option_map trace) o) ≡ option_map trace (option_flatten o)
   flat_traces None = refl
   flat_traces (Some o) = refl
 

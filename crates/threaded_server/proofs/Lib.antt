@@ -1,3 +1,6 @@
+pub mod StoppingLemmas
+pub mod DoorSteps
+pub mod PostersBack
 pub mod AcceptLoop
 pub mod Accepting
 pub mod Finding

@@ -99,13 +99,13 @@ module _ {A : Type 0} (P : A → Type 0) where
 
 module _ {I O S : Type 0} where
   pub streams_go_on : StreamsGoOn I O S
-  streams_go_on see offer start before now was lending served i s at =
+  streams_go_on see offer start before now was lending asked served i s at =
       let on = fate_goes_on see offer served.realms s s.back.fate (there (λ (x : LentStream I O S). IsFate see offer served.realms x x.back.fate) served.streams i s served.fates at) in
       record { same = there (λ (x : LentStream I O S). KeepsNames see x.lent (x.back.source, x.back.sink)) served.streams i s served.names at; given = on.0; taken = on.1 }
 
   pub streams_are_own : StreamsAreOwn I O S
-  streams_are_own see offer start before now was lending served i s other at differ other_begins =
-      by_beginning (one_begins (see.writing s.lent.1).taken (see.writing other.1).taken (see.writing s.back.sink).taken (streams_go_on see offer start before now was lending served i s at).taken other_begins)
+  streams_are_own see offer start before now was lending asked served i s other at differ other_begins =
+      by_beginning (one_begins (see.writing s.lent.1).taken (see.writing other.1).taken (see.writing s.back.sink).taken (streams_go_on see offer start before now was lending asked served i s at).taken other_begins)
     where
       by_beginning : IsPrefix (see.writing s.lent.1).taken (see.writing other.1).taken ⊎ IsPrefix (see.writing other.1).taken (see.writing s.lent.1).taken → ⊥
       by_beginning (inl b) = differ.0 b
@@ -113,8 +113,8 @@ module _ {I O S : Type 0} where
 
   -- what came back of a name is what was lent under it
   pub names_are_own : NamesAreOwn I O S
-  names_are_own see offer start before now was lending served own i j s other at its alike =
-      let same : lent.0 ≡ j = own lent.0 j s.lent other lent.1 its (by_name (streams_go_on see offer start before now was lending served i s at).same alike) in
+  names_are_own see offer start before now was lending asked served own i j s other at its alike =
+      let same : lent.0 ≡ j = own lent.0 j s.lent other lent.1 its (by_name (streams_go_on see offer start before now was lending asked served i s at).same alike) in
       same_Some s.lent other (sym lent.1 ∙ ap (slice_get served.lent) same ∙ its)
     where
       lent_of : LentStream I O S → I × O

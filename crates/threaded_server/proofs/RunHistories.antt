@@ -7,7 +7,7 @@ use Rattle.realm.specs.Sessions.{live}
 use Rattle.realm_actor.specs.ActorView.{Acting}
 use Rattle.realm_actor.specs.Run.{EndsInStop, Ran, Runs}
 use Rattle.realm_actor.specs.Run as running
-use Rattle.realm_inbox.proofs.RuleSteps.{stops_snoc}
+use Rattle.realm_inbox.proofs.Lemmas.{stops_snoc}
 use Rattle.realm_inbox.specs.EndViews.{received}
 use Rattle.realm_inbox.specs.Seats.{InOrder, stops_of}
 use Rattle.realm_inbox.specs.declared.letter.Halt.{Halt}
@@ -74,6 +74,7 @@ realm_made {S} start run h =
       halt = halt;
       first = subst (λ came. IsPrefix came (received run.inbox.value)) acts.ends.2 (prefix-on acts.came (received run.ended.value.inbox) (received run.inbox.value) acts.received h.more);
       no_stop = stopped.no_stop;
+      behind = acts.ends.3;
       in_order = subst (λ came. InOrder [] came) acts.ends.2 acts.in_order;
       made = subst (λ (g : History). HandlesAll g (until ++ Stop halt ∷ []) made) h.begins.history (subst (λ came. HandlesAll run.began.value.kept came made) acts.ends.2 (ran_on acts.ran refl));
       legal = acts.legal;

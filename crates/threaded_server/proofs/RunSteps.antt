@@ -12,9 +12,12 @@ use Rattle.realm.specs.History.{History, Begins}
 use Rattle.realm.specs.Sessions.{IsHistory}
 use Rattle.realm.specs.Yield.{owed}
 use Rattle.realm_inbox.specs.HistoryBeginnings.{owed_more}
-use Rattle.realm_inbox.specs.EndViews.{inbox_of, posted, received}
+use Rattle.realm_inbox.specs.Behind.{told_by}
+use Rattle.realm_inbox.specs.EndViews.{inbox_of, posted, received, told}
+use Rattle.realm_inbox.specs.EndViews.{shown as shown_to}
 use Rattle.realm_inbox.specs.Ends.{Place}
 use Rattle.realm_inbox.specs.Seats.{at_seat}
+use Rattle.realm_inbox.specs.declared.door.Door.{Door}
 use Rattle.realm_inbox.specs.declared.ends.Inbox.{Inbox}
 use Rattle.realm_inbox.specs.declared.ends.Poster.{Poster}
 use Rattle.wamp_messages.specs.declared.item.Item.{Item}
@@ -170,11 +173,27 @@ module _ {S : Type 0} where
         begins = subst (λ (a : Acted S). All (λ kept. Reaches Begins (Some kept.history) a.chronicle.history) handle.seen.items) (sym is) begins;
       }
 
+  -- the same, where its inbox knows more of its door
+  pub acts_with : (w : ActorThread S) (acted : Acted S) (inbox : Inbox S) → Acts w acted → inbox_of inbox ≡ inbox_of acted.inbox → received inbox ≡ received acted.inbox → Acts w (record acted { inbox = inbox })
+  acts_with w acted inbox h same got = record {
+    inbox = same ∙ h.inbox;
+    chronicle = h.chronicle;
+    came = h.came;
+    received = subst (λ l. IsPrefix h.came l) (sym got) h.received;
+    in_order = h.in_order;
+    ran = h.ran;
+    ends = h.ends;
+    history = h.history;
+    legal = h.legal;
+    words = h.words;
+  }
+
   -- and then its inbox was emptied
-  pub runs_to : (realm : Shown S) (began : Snapshot (ActorThread S)) (acted : Acted S) (ended : Snapshot (Acted S)) (inbox : Inbox S) (left : Snapshot (Inbox S)) → ended.value ≡ acted → left.value ≡ inbox → GivesBack realm began.value acted → IsPrefix (received acted.inbox) (received inbox)
-      → RunsTo realm (record { began = began; ended = ended; inbox = left })
-  runs_to realm began acted ended inbox left is last back more = record {
+  pub runs_to : (realm : Shown S) (began : Snapshot (ActorThread S)) (door : Door S) (last : Snapshot (Door S)) (acted : Acted S) (ended : Snapshot (Acted S)) (inbox : Inbox S) (left : Snapshot (Inbox S)) → last.value ≡ door → ended.value ≡ acted → left.value ≡ inbox → GivesBack realm began.value acted
+      → IsPrefix (told_by (received acted.inbox)) (told door ++ shown_to door ∷ shown_to door ∷ []) → IsPrefix (received acted.inbox) (received inbox) → RunsTo realm (record { began = began; door = last; ended = ended; inbox = left })
+  runs_to realm began door at_last acted ended inbox left seen is last back stops more = record {
     back = subst (λ (a : Acted S). GivesBack realm began.value a) (sym is) back;
+    stops = subst (λ (d : Door S). IsPrefix (told_by (received ended.value.inbox)) (told d ++ shown_to d ∷ shown_to d ∷ [])) (sym seen) (subst (λ (a : Acted S). IsPrefix (told_by (received a.inbox)) (told door ++ shown_to door ∷ shown_to door ∷ [])) (sym is) stops);
     more = subst (λ (a : Acted S). IsPrefix (received a.inbox) (received left.value)) (sym is) (subst (λ (i : Inbox S). IsPrefix (received acted.inbox) (received i)) (sym last) more);
   }
 

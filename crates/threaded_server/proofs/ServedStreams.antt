@@ -6,7 +6,7 @@ use mathlib.Core.Logic.{◌⊎◌, inl, inr}
 use Rattle.std.proofs.Math.Logic.{∥∥₁_elim, ∥∥₁_map}
 use Rattle.std.proofs.Math.Seq.{drop-append_seam}
 use Rattle.std.proofs.lemmas.Bool.{eq-eqb, ne_eqb}
-use Rattle.std.proofs.lemmas.List.{length-map}
+use Rattle.std.proofs.lemmas.List.{length-map, map-append}
 use Rattle.std.proofs.lemmas.List.Elements.{All-cons, All-head, All-map, All-nil, All-tail, All-weaker}
 use Rattle.std.proofs.lemmas.Option.{none-some, same_Some}
 use Rattle.std.specs.Arc.{arc_value}
@@ -37,13 +37,14 @@ use Rattle.realm_inbox.specs.declared.ends.Poster.{Poster}
 use Rattle.threaded_server.proofs.Places.{get_of_map, get_other, get_set, map_get, same_or_other}
 use Rattle.threaded_server.proofs.RunHistories.{realm_made, realm_of}
 use Rattle.threaded_server.specs.Conns.{conn_of, conns_of}
-use Rattle.threaded_server.specs.Histories.{IsRealm, Realm, Start}
+use Rattle.threaded_server.specs.Histories.{IsRealm, Realm, Start, until_stop}
 use Rattle.threaded_server.specs.Lending.{Lending, returned}
 use Rattle.threaded_server.specs.Overs.{Found, Went, after_of, before_of}
 use Rattle.threaded_server.specs.Posts.{ReceivedPosted, posts_at, posts_between, posts_of, since}
-use Rattle.threaded_server.specs.Served.{IsFate, IsSession, LentStream, ReceivedAll, Served, posts_by}
+use Rattle.threaded_server.specs.Served.{HandledAll, IsFate, IsSession, LentStream, ReceivedAll, Served, posts_by}
 use Rattle.threaded_server.specs.SeatRules.{AscendAtSeats, FoundNoSeat}
 use Rattle.threaded_server.specs.Sessions.{SaysSome}
+use Rattle.threaded_server.specs.Stopping.{HandledBefore}
 use Rattle.threaded_server.specs.Ties.{CourseTied, IsRun, IsTied, OverTied, history_of}
 use Rattle.threaded_server.specs.body.Served.{ServedInParts}
 use Rattle.threaded_server.specs.declared.answer.Answer.{Answer}
@@ -58,6 +59,14 @@ module _ {A : Type 0} where
   pub of_all : (P : A → Type 0) (xs : List A) → All (λ x. ∥ P x ∥₁) xs → ∥ All P xs ∥₁
   of_all P [] h = ∣ All-nil P ∣₁
   of_all P (x ∷ xs) h = ∥∥₁_elim (All-head (λ y. ∥ P y ∥₁) x xs h) squash₁ (λ p. ∥∥₁_map (of_all P xs (All-tail (λ y. ∥ P y ∥₁) x xs h)) (λ all. All-cons P x xs p all))
+
+  -- what holds of each of a list holds of each of its beginning
+  all_front : (P : A → Type 0) (xs ys : List A) → All P (xs ++ ys) → All P xs
+  all_front P [] ys h = All-nil P
+  all_front P (x ∷ xs) ys h = All-cons P x xs (All-head P x (xs ++ ys) h) (all_front P xs ys (All-tail P x (xs ++ ys) h))
+
+  all_begun : (P : A → Type 0) (xs ys : List A) → IsPrefix xs ys → All P ys → All P xs
+  all_begun P xs ys p h = all_front P xs p.0 (subst (λ l. All P l) (sym p.1) h)
 
   nothing_since : (xs : List A) → since xs xs ≡ []
   nothing_since xs = ap (since xs) (sym (append-nil xs)) ∙ drop-append_seam xs []
@@ -304,6 +313,14 @@ module _ {I O S : Type 0} (see : Sight I O) (offer : Offer) (runs : List (RealmR
       let run = get_of_map realm_of runs i realm at in
       ap (λ (r : Realm S). at_seat (k + 1) r.received) (sym run.2) ∙ received i k run.0 run.1 less ∙ sym (all_posts i (k + 1) overs went tied)
 
+  -- and was handled, of those that were over before a stop was posted
+  handled_all : (overs early : List (Over I O S)) → All (λ o. Went see offer o) overs → All (λ o. OverTied runs o) overs → IsPrefix early overs → HandledBefore runs early → HandledAll (map realm_of runs) (map stream_of early)
+  handled_all overs early went tied begins handled i k realm at less =
+      let run = get_of_map realm_of runs i realm at in
+      let posts = all_posts i (k + 1) early (all_begun (λ o. Went see offer o) early overs begins went) (all_begun (λ o. OverTied runs o) early overs begins tied) in
+      subst (λ (r : Realm S). IsPrefix (flat_map (λ (s : LentStream I O S). posts_by i (k + 1) s s.conn) (map stream_of early)) (at_seat (k + 1) (until_stop r.received))) run.2
+      (subst (λ l. IsPrefix l (at_seat (k + 1) (until_stop (realm_of run.0).received))) (sym posts) (handled i k run.0 run.1 less))
+
 module _ {I O S : Type 0} where
   -- who was told that no seat is free found none
   turned_away : (lent : List (I × O)) (i : ℕ) (o : Over I O S) → Found lent i o → (after_of o).fate ≡ fate.NoSeat → FoundNoSeat lent i (before_of o)
@@ -318,11 +335,12 @@ module _ {I O S : Type 0} where
       by_course (course.Served end written) is = absurd (let clash : fate.Served (record { read = end; write = written.end }) ≡ fate.NoSeat = is in cc)
 
   -- what was served, by the parts of it
-  pub told : (see : Sight I O) (offer : Offer) (start : Start) (before now : List Answer) (was lending : Lending I O) → ServedInParts S see offer start before now was lending → ∥ Served S see offer start before now was lending ∥₁
-  told see offer start before now was lending h =
+  pub told : (see : Sight I O) (offer : Offer) (start : Start) (before now : List Answer) (was lending : Lending I O) (asked : ℕ) → ServedInParts S see offer start before now was lending asked → ∥ Served S see offer start before now was lending asked ∥₁
+  told see offer start before now was lending asked h =
       ∥∥₁_elim (of_all (λ o. Went see offer o) h.streams h.went.went) squash₁ (λ went.
       ∥∥₁_elim h.tied squash₁ (λ tied.
       ∥∥₁_elim h.received squash₁ (λ received.
+      ∥∥₁_elim h.handled squash₁ (λ handled.
       ∥∥₁_map (of_all (λ o. KeepsNames see (before_of o) ((after_of o).source, (after_of o).sink)) h.streams h.own) (λ own. record {
         given = h.given;
         answered = h.answered;
@@ -336,12 +354,16 @@ module _ {I O S : Type 0} where
         returned_are = h.returned_are ∙ ap (λ l. was.returned ++ l) (sym (back_as h.streams));
         names = All-map (λ (s : LentStream I O S). KeepsNames see s.lent (s.back.source, s.back.sink)) stream_of h.streams own;
         realms = map realm_of h.runs;
-        all_ran = λ asked. length-map h.runs realm_of ∙ h.all_ran asked;
+        all_ran = λ given. length-map h.runs realm_of ∙ h.all_ran given;
         histories = All-map (λ (realm : Realm S). IsRealm start realm) realm_of h.runs (All-weaker (λ run. IsRun start run) (λ run. IsRealm start (realm_of run)) (realm_made start) h.runs h.each_ran);
         fates = all_fates see offer h.runs h.streams went tied;
         received = received_all see offer h.runs h.streams went tied received;
+        early = map stream_of h.early;
+        early_are = (map stream_of h.early_are.0, sym (map-append stream_of h.early h.early_are.0) ∙ ap (map stream_of) h.early_are.1);
+        early_came = λ given. subst (λ (n : ℕ). asked ≤ length was.returned + n) (sym (length-map h.early stream_of)) (h.early_came given);
+        handled = handled_all see offer h.runs h.streams h.early went tied h.early_are handled;
         no_seat = λ i s at is.
             let o = get_of_map stream_of h.streams i s at in
             subst (λ (x : LentStream I O S). FoundNoSeat h.lent i x.lent) o.2 (turned_away h.lent i o.0 (h.went.found i o.0 o.1) (ap (λ (x : LentStream I O S). x.back.fate) o.2 ∙ is));
         numbers = subst (λ l. AscendAtSeats l) (sym (numbers_as h.streams)) h.ascend;
-      }))))
+      })))))

@@ -11,14 +11,18 @@ use Rattle.realm_inbox.specs.EndViews.{posted}
 use Rattle.realm_inbox.specs.Ends.{Place}
 use Rattle.realm_inbox.specs.declared.act.Act.{Act}
 use Rattle.realm_inbox.specs.declared.ends.Poster.{Poster}
-use Rattle.threaded_server.proofs.Places.{get_last, map_get}
+use Rattle.threaded_server.proofs.Places.{get_last, get_set, map_get}
 use Rattle.threaded_server.proofs.PostSteps.{posters_say, posts_elsewhere, posts_still}
 use Rattle.threaded_server.proofs.PosterSteps.{gains_stand, none_stand, relabelled_at, relabelled_own, said_relabelled, stand_on, stand_put, stand_taken}
 use Rattle.threaded_server.proofs.RealmSteps.{at_longer, back_at, back_of_seat, more_longer, one_kept, overs_longer, seat_kept, seen_at_home, takes_longer}
-use Rattle.threaded_server.proofs.Saying.{all_said, none_said, one_said, seat_back, seat_left, seat_taken}
+use Rattle.threaded_server.proofs.DoorSteps.{of_inboxes}
+use Rattle.threaded_server.proofs.PostersBack.{at_traced, say_traced, seat_traced}
+use Rattle.threaded_server.proofs.StoppingLemmas.{doors_long, left_covers}
+use Rattle.threaded_server.proofs.Saying.{all_said, none_said, one_said, said_in, seat_back, seat_left, seat_taken, swapped}
 use Rattle.broker_threads.specs.Courses.{seen_of}
 use Rattle.threaded_server.specs.Overs.{AddsUntouched}
-use Rattle.threaded_server.specs.Posters.{AllGain, AreAt, AreOf, AreOfSeat, IsTaken, Stand, lists_at}
+use Rattle.threaded_server.specs.Posters.{AllGain, AreAt, AreOf, AreOfSeat, IsTaken, PutsBack, Stand, lists_at, traces}
+use Rattle.threaded_server.specs.Stopping.{AllCover, AllSee, AreDoorsOf, AreOfInboxes, DoorView, inboxes_in}
 use Rattle.threaded_server.specs.Posts.{AllSay, AreIn, Say, posts_at, posts_of}
 use Rattle.threaded_server.specs.Realms.{IsAtHome, Shown, TakesIn, inbox_in, places_of, with_seen}
 use Rattle.threaded_server.specs.Roster.{Leaves}
@@ -198,6 +202,11 @@ module _ {I O S : Type 0} (see : Sight I O) where
   pub reader_left : (realms : List (Shown S)) (reader : Reader I O S) (ended : Ended I O S) → Reads see reader ended → AreAt (places_of realms) reader.posters.items → IfSome (seen_of ended.course) (λ (s : SeenHistory). IsAtHome realms s)
   reader_left realms reader ended reads at = seen_at_home see (offer_of (arc_value reader.plan)) realms _ ended.source ended.posters.items ended.course reads at
 
+  -- and posters of the doors' inboxes
+  pub reader_doors : (realms : List (Shown S)) (doors : List (DoorView S)) (reader : Reader I O S) (ended : Ended I O S) → AreDoorsOf realms doors → Reads see reader ended → AreAt (places_of realms) reader.posters.items → AreOfInboxes (inboxes_in doors) (traces ended.posters.items)
+  reader_doors realms doors reader ended same reads at =
+      of_inboxes (inboxes_in doors) (places_of realms) ended.posters.items same (back_at see (offer_of (arc_value reader.plan)) (places_of realms) _ ended.source ended.posters.items ended.course reads at)
+
   -- and its posters
   posters_back : (realms after : List (Shown S)) (number : ℕ) (reader : Reader I O S) (ended : Ended I O S) → TakesIn realms (seen_of ended.course) after → Reads see reader ended → AreAt (places_of realms) reader.posters.items → AreOfSeat number reader.posters.items
       → AreAt (places_of after) ended.posters.items × AreOfSeat number ended.posters.items
@@ -217,7 +226,7 @@ module _ {I O S : Type 0} (see : Sight I O) where
 
   -- a connection leaves, and what its reader gave back was taken in
   pub left_standing : (plan next : Snapshot Plan) (realms after : List (Shown S)) (slots put : List (Option (List (Option (Poster S))))) (entries left : List (Option (Connection I O S))) (overs now : List (Over I O S)) (place conn : ℕ) (ended : Ended I O S) → next ≡ plan → left ≡ set entries place None
-      → (l : Leaves see (slice_get entries place) conn ended overs now) → AreOf l.entry.began.value.conn l.entry.began.value.posters.items → TakesIn realms (seen_of ended.course) after → put ≡ set slots place (Some ended.posters.items) → Standing plan.value realms slots entries overs → Standing next.value after put left now
+      → (l : Leaves see (slice_get entries place) conn ended overs now) → AreOf l.entry.began.value.conn l.entry.began.value.posters.items → TakesIn realms (seen_of ended.course) after → PutsBack place ended.posters.items slots put → Standing plan.value realms slots entries overs → Standing next.value after put left now
   left_standing plan next realms after slots put entries left overs now place conn ended e f l own t g h =
       let longer = takes_longer realms after (seen_of ended.course) t in
       let began = l.entry.began in
@@ -229,13 +238,16 @@ module _ {I O S : Type 0} (see : Sight I O) where
       let without : lists_at left ≡ set (lists_at entries) place None = ap lists_at f ∙ map-set (option_map (λ (x : Connection I O S). x.began.value.posters.items)) entries place None in
       let stood = entry_stood (places_of realms) entries place conn ended overs now l h.served in
       let back = posters_back realms after (place + 1) began.value ended t l.reads stood.0 stood.1 in
+      let these = g.back in
+      let at_these = at_traced (places_of after) ended.posters.items these g.same back.0 in
+      let of_these = seat_traced (place + 1) ended.posters.items these g.same back.1 in
       record {
-        free = subst (λ l. Stand (places_of after) l) (sym g) (stand_put (places_of after) slots place ended.posters.items back.0 back.1 (stand_on realms after slots longer h.free));
+        free = subst (λ l. Stand (places_of after) l) (sym g.put) (stand_put (places_of after) slots place these at_these of_these (stand_on realms after slots longer h.free));
         served = subst (λ l. Stand (places_of after) l) (sym without) (stand_taken (places_of after) (lists_at entries) place (stand_on realms after (lists_at entries) longer h.served));
-        say = subst (λ (p : Snapshot Plan). ∥ Said p.value after put left now ∥₁) (sym e) (∥∥₁_map h.say (λ s. subst (λ l. AllSay posted whole (length after) says put l) (sym without) (subst (λ l. AllSay posted whole (length after) says l (set (lists_at entries) place None)) (sym g)
-            (subst (λ (n : ℕ). AllSay posted whole n says (set slots place (Some ended.posters.items)) (set (lists_at entries) place None)) (sym (takes_long realms after (seen_of ended.course) t))
-            (seat_left posted whole (length realms) place said says slots (lists_at entries) were ended.posters.items held (λ i j other. posts_elsewhere (place + 1) (j + 1) i overs now began l.left l.over stood.1 (λ same. other (omega (arith, same))))
-            (posters_say see whole (length realms) (place + 1) overs now began l.left ended l.over l.left_is l.reads stood.1) s)))));
+        say = subst (λ (p : Snapshot Plan). ∥ Said p.value after put left now ∥₁) (sym e) (∥∥₁_map h.say (λ s. subst (λ l. AllSay posted whole (length after) says put l) (sym without) (subst (λ l. AllSay posted whole (length after) says l (set (lists_at entries) place None)) (sym g.put)
+            (subst (λ (n : ℕ). AllSay posted whole n says (set slots place (Some these)) (set (lists_at entries) place None)) (sym (takes_long realms after (seen_of ended.course) t))
+            (seat_left posted whole (length realms) place said says slots (lists_at entries) were these held (λ i j other. posts_elsewhere (place + 1) (j + 1) i overs now began l.left l.over stood.1 (λ same. other (omega (arith, same))))
+            (λ w. say_traced whole (length realms) (λ i. says i (place + 1)) ended.posters.items these g.same (posters_say see whole (length realms) (place + 1) overs now began l.left ended l.over l.left_is l.reads stood.1 w)) s)))));
         kept = ∥∥₁_map h.kept (seat_kept see realms after overs now began l.left ended l.over l.left_is l.reads stood.0 own t);
         began = subst (λ (p : Snapshot Plan). All (λ r. IsBegunBy p.value r) after) (sym e) (takes_began plan.value realms after (seen_of ended.course) t h.began);
       }
@@ -243,7 +255,7 @@ module _ {I O S : Type 0} (see : Sight I O) where
   -- a reader for which there was no thread gave back what it had
   pub ended_standing : (plan next : Snapshot Plan) (realms after : List (Shown S)) (conn : ℕ) (posters : List (Option (Poster S))) (slots between put : List (Option (List (Option (Poster S))))) (entries same : List (Option (Connection I O S))) (overs now : List (Over I O S)) (place : ℕ)
       (began : Snapshot (Reader I O S)) (left : Snapshot (Ended I O S)) (ended : Ended I O S) (over : Over I O S) → IsTaken conn slots posters between → place ≡ seat_of conn - 1 → began.value.conn ≡ conn → began.value.posters.items ≡ posters → next ≡ plan → same ≡ entries → now ≡ overs ++ over ∷ []
-      → over ≡ Seated began left → left.value ≡ ended → Reads see began.value ended → TakesIn realms (seen_of ended.course) after → put ≡ set between place (Some ended.posters.items) → Standing plan.value realms slots entries overs → Standing next.value after put same now
+      → over ≡ Seated began left → left.value ≡ ended → Reads see began.value ended → TakesIn realms (seen_of ended.course) after → PutsBack place ended.posters.items between put → Standing plan.value realms slots entries overs → Standing next.value after put same now
   ended_standing plan next realms after conn posters slots between put entries same overs now place began left ended over taken at number_is is e f g seated shows reads t p h =
       let longer = takes_longer realms after (seen_of ended.course) t in
       let number = seat_of conn - 1 in
@@ -257,14 +269,47 @@ module _ {I O S : Type 0} (see : Sight I O) where
       let own = subst (λ l. AreOfSeat (number + 1) l) (sym is) mine.1 in
       let of = subst (λ (n : ℕ). AreOf n began.value.posters.items) (sym number_is) (subst (λ l. AreOf conn l) (sym is) taken.relabels.own) in
       let back = posters_back realms after (number + 1) began.value ended t reads home own in
-      let put_is : put ≡ set (set slots number None) number (Some ended.posters.items) = p ∙ ap (λ l. set l place (Some ended.posters.items)) taken.left ∙ ap (λ n. set (set slots number None) n (Some ended.posters.items)) at in
+      let these = p.back in
+      let at_these = at_traced (places_of after) ended.posters.items these p.same back.0 in
+      let of_these = seat_traced (number + 1) ended.posters.items these p.same back.1 in
+      let put_is : put ≡ set (set slots number None) number (Some these) = p.put ∙ ap (λ l. set l place (Some these)) taken.left ∙ ap (λ n. set (set slots number None) n (Some these)) at in
       record {
-        free = subst (λ l. Stand (places_of after) l) (sym put_is) (stand_put (places_of after) (set slots number None) number ended.posters.items back.0 back.1 (stand_taken (places_of after) slots number (stand_on realms after slots longer h.free)));
+        free = subst (λ l. Stand (places_of after) l) (sym put_is) (stand_put (places_of after) (set slots number None) number these at_these of_these (stand_taken (places_of after) slots number (stand_on realms after slots longer h.free)));
         served = subst (λ (l : List (Option (Connection I O S))). Stand (places_of after) (lists_at l)) (sym f) (stand_on realms after (lists_at entries) longer h.served);
         say = subst (λ (p : Snapshot Plan). ∥ Said p.value after put same now ∥₁) (sym e) (∥∥₁_map h.say (λ s. subst (λ (l : List (Option (Connection I O S))). AllSay posted whole (length after) says put (lists_at l)) (sym f) (subst (λ l. AllSay posted whole (length after) says l (lists_at entries)) (sym put_is)
-            (subst (λ (n : ℕ). AllSay posted whole n says (set (set slots number None) number (Some ended.posters.items)) (lists_at entries)) (sym (takes_long realms after (seen_of ended.course) t))
-            (seat_back posted whole (length realms) number said says slots (lists_at entries) taken.were ended.posters.items taken.there (λ i j other. posts_elsewhere (number + 1) (j + 1) i overs now began left more own (λ same. other (omega (arith, same))))
-            (λ w. posters_say see whole (length realms) (number + 1) overs now began left ended more shows reads own (subst (λ l. Say posted whole (length realms) (λ i. posts_at i (number + 1) overs) l) (sym is) (said_relabelled conn whole (length realms) (λ i. posts_at i (number + 1) overs) taken.were posters taken.relabels w))) s)))));
+            (subst (λ (n : ℕ). AllSay posted whole n says (set (set slots number None) number (Some these)) (lists_at entries)) (sym (takes_long realms after (seen_of ended.course) t))
+            (seat_back posted whole (length realms) number said says slots (lists_at entries) taken.were these taken.there (λ i j other. posts_elsewhere (number + 1) (j + 1) i overs now began left more own (λ same. other (omega (arith, same))))
+            (λ w. say_traced whole (length realms) (λ i. says i (number + 1)) ended.posters.items these p.same (posters_say see whole (length realms) (number + 1) overs now began left ended more shows reads own (subst (λ l. Say posted whole (length realms) (λ i. posts_at i (number + 1) overs) l) (sym is) (said_relabelled conn whole (length realms) (λ i. posts_at i (number + 1) overs) taken.were posters taken.relabels w)))) s)))));
         kept = ∥∥₁_map h.kept (seat_kept see realms after overs now began left ended more shows reads home of t);
         began = subst (λ (p : Snapshot Plan). All (λ r. IsBegunBy p.value r) after) (sym e) (takes_began plan.value realms after (seen_of ended.course) t h.began);
       }
+
+  -- the doors were shown the posters of a connection that leaves
+  pub left_shown : (plan next : Snapshot Plan) (realms after : List (Shown S)) (slots put : List (Option (List (Option (Poster S))))) (entries left : List (Option (Connection I O S))) (overs now : List (Over I O S)) (place conn : ℕ) (ended : Ended I O S) (before doors : List (DoorView S)) → length entries ≡ 256
+      → (l : Leaves see (slice_get entries place) conn ended overs now) → PutsBack place ended.posters.items slots put → Standing plan.value realms slots entries overs → Standing next.value after put left now → AllSee (traces ended.posters.items) before doors → AreDoorsOf after doors
+      → ∥ AllCover overs before ∥₁ → ∥ AllCover now doors ∥₁
+  left_shown plan next realms after slots put entries left overs now place conn ended before doors long l p h s saw same cover =
+      ∥∥₁_elim h.say squash₁ (λ says.
+      let within : place < 256 = subst (λ (n : ℕ). place < n) long (slice_get_within entries place (Some l.entry) l.held) in
+      let held = map_get (option_map (λ (x : Connection I O S). x.began.value.posters.items)) entries place (Some l.entry) l.held in
+      let none = (said_in posted (length plan.value.realms.items) (length realms) place (λ realm number. posts_at realm number overs) (lists_at entries) slots l.entry.began.value.posters.items held (swapped posted (length plan.value.realms.items) (length realms) place (λ realm number. posts_at realm number overs) slots (lists_at entries) (says place within))).0 in
+      let at : slice_get put place ≡ Some (Some p.back) = ap (λ x. slice_get x place) p.put ∙ get_set slots place None (Some p.back) none in
+      let stood = entry_stood (places_of realms) entries place conn ended overs now l h.served in
+      left_covers (length next.value.realms.items) (length after) place overs now ended.posters.items p.back put (lists_at left) before doors within (doors_long after doors same) saw p.same at (s.free place p.back at).1 s.say
+      (λ i j other. posts_elsewhere (place + 1) (j + 1) i overs now l.entry.began l.left l.over stood.1 (λ same. other (omega (arith, same)))) cover)
+
+module _ {I O S : Type 0} where
+  -- or those of a reader for which there was no thread
+  pub ended_shown : (next : Snapshot Plan) (realms after : List (Shown S)) (conn : ℕ) (posters : List (Option (Poster S))) (slots between put : List (Option (List (Option (Poster S))))) (same : List (Option (Connection I O S))) (overs now : List (Over I O S)) (place : ℕ)
+      (began : Snapshot (Reader I O S)) (left : Snapshot (Ended I O S)) (ended : Ended I O S) (over : Over I O S) (before doors : List (DoorView S)) → IsTaken conn slots posters between → place ≡ seat_of conn - 1 → began.value.posters.items ≡ posters → now ≡ overs ++ over ∷ []
+      → over ≡ Seated began left → PutsBack place ended.posters.items between put → Stand (places_of realms) slots → Standing next.value after put same now → AllSee (traces ended.posters.items) before doors → AreDoorsOf after doors → ∥ AllCover overs before ∥₁ → ∥ AllCover now doors ∥₁
+  ended_shown next realms after conn posters slots between put same overs now place began left ended over before doors taken at is g seated p stands s saw alike cover =
+      let number = seat_of conn - 1 in
+      let more : now ≡ overs ++ Seated began left ∷ [] = g ∙ ap (λ o. overs ++ o ∷ []) seated in
+      let within : place < 256 = omega (arith, at) in
+      let none : slice_get between place ≡ Some None = ap (λ l. slice_get l place) taken.left ∙ ap (λ n. slice_get (set slots number None) n) at ∙ get_set slots number (Some taken.were) None taken.there in
+      let there : slice_get put place ≡ Some (Some p.back) = ap (λ l. slice_get l place) p.put ∙ get_set between place None (Some p.back) none in
+      let mine = taken_at (places_of realms) conn slots between posters taken stands in
+      let own = subst (λ l. AreOfSeat (number + 1) l) (sym is) mine.1 in
+      left_covers (length next.value.realms.items) (length after) place overs now ended.posters.items p.back put (lists_at same) before doors within (doors_long after doors alike) saw p.same there (s.free place p.back there).1 s.say
+      (λ i j other. posts_elsewhere (number + 1) (j + 1) i overs now began left more own (λ same. other (omega (arith, same, at)))) cover

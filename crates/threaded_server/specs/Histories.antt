@@ -10,6 +10,7 @@ use Rattle.realm.specs.Sessions.{IsHistory, live}
 use Rattle.realm.specs.Yield.{owed}
 use Rattle.realm.specs.declared.entry.Entry.TheVariants as entry
 use Rattle.realm_actor.specs.Handle.{entry_of, is_dropped}
+use Rattle.realm_inbox.specs.Behind.{HasAll, behind as told_by_stop}
 use Rattle.realm_inbox.specs.Seats.{InOrder, act_of_letter, conn_of_letter, stops_of}
 use Rattle.realm_inbox.specs.declared.act.Act.TheVariants.{Join}
 use Rattle.realm_inbox.specs.declared.joining.Joining.{Joining}
@@ -72,6 +73,12 @@ module _ {S : Type 0} where
     none : HandlesAll h [] h
     one_more : {posts : List (Post S)} {k l : History} (p : Post S) → HandlesAll h posts k → HandlesOne (posts ++ p ∷ []) k p l → HandlesAll h (posts ++ p ∷ []) l
 
+  -- what was received before the first stop
+  abbrev pub until_stop : List (Post S) → List (Post S)
+  until_stop [] = []
+  until_stop (Act l ∷ ps) = Act l ∷ until_stop ps
+  until_stop (Stop halt ∷ ps) = []
+
   -- The history was made, from an empty one with these grants on, of what was received first: up to the first stop, and no further. Each post was the next of its seat; each entry could
   -- come when it came; and in the end nobody is live
   pub record IsMade (start : Start) (received : List (Post S)) (h : History) : Type 0 where
@@ -79,6 +86,7 @@ module _ {S : Type 0} where
     pub halt : Halt
     pub first : IsPrefix (until ++ Stop halt ∷ []) received
     pub no_stop : stops_of until ≡ 0
+    pub behind : HasAll until (told_by_stop halt)
     pub in_order : InOrder [] (until ++ Stop halt ∷ [])
     pub made : HandlesAll (begun start.grants) (until ++ Stop halt ∷ []) h
     pub legal : IsHistory h

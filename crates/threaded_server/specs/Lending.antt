@@ -1,5 +1,5 @@
 -- The streams that an acceptor gives away, and those that were let go of.
-use Rattle.std.specs.Prelude.{ℕ, ◌+◌, List, [], ◌∷◌, ◌++◌, map}
+use Rattle.std.specs.Prelude.{ℕ, ◌+◌, List, [], ◌∷◌, ◌++◌, length, map}
 use Rattle.std.specs.declared.snapshot.Snapshot.{Snapshot}
 use Rattle.broker_threads.specs.declared.stream_fate.StreamFate.{StreamFate}
 use Rattle.ghost_state.specs.GhostList.{items_of}
@@ -25,6 +25,9 @@ module _ {I O : Type 0} where
   abbrev pub none_lent : Lending I O
   none_lent = record { lent = []; returned = []; refused = 0 }
 
+  abbrev pub returned_to : Lending I O → List (Returned I O)
+  returned_to l = l.returned
+
   abbrev pub with_lent : Lending I O → I × O → Lending I O
   with_lent l halves = record l { lent = l.lent ++ halves ∷ [] }
 
@@ -40,3 +43,7 @@ module _ {I O : Type 0} where
 
   abbrev pub lending_of : Account I O → Lending I O
   lending_of a = record { lent = items_of a.lent; returned = map shown (items_of a.returned); refused = a.refused }
+
+  -- how many had been let go of when accepting was asked last
+  abbrev pub asked_of : Account I O → ℕ
+  asked_of a = length (items_of a.asked.value)

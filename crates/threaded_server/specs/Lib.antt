@@ -16,6 +16,7 @@ pub mod Roster
 pub mod Seating
 pub mod Slots
 pub mod Starting
+pub mod Stopping
 pub mod Table
 pub mod Ties
 pub mod TrailCode

@@ -25,16 +25,16 @@ HaveOwnNames {I} {O} see lent = (i j : ℕ) (a b : I × O) → slice_get lent i 
 module _ (I O S : Type 0) where
   -- each stream that a broker served goes on
   abbrev pub StreamsGoOn : Type 0
-  StreamsGoOn = (see : Sight I O) (offer : Offer) (start : Start) (before now : List Answer) (was lending : Lending I O) (served : Served S see offer start before now was lending) (i : ℕ) (s : LentStream I O S)
+  StreamsGoOn = (see : Sight I O) (offer : Offer) (start : Start) (before now : List Answer) (was lending : Lending I O) (asked : ℕ) (served : Served S see offer start before now was lending asked) (i : ℕ) (s : LentStream I O S)
       → slice_get served.streams i ≡ Some s → GoesOn see s.lent s.back
 
   -- and none comes back in place of another, which took other octets before
   abbrev pub StreamsAreOwn : Type 0
-  StreamsAreOwn = (see : Sight I O) (offer : Offer) (start : Start) (before now : List Answer) (was lending : Lending I O) (served : Served S see offer start before now was lending) (i : ℕ) (s : LentStream I O S) (other : I × O)
+  StreamsAreOwn = (see : Sight I O) (offer : Offer) (start : Start) (before now : List Answer) (was lending : Lending I O) (asked : ℕ) (served : Served S see offer start before now was lending asked) (i : ℕ) (s : LentStream I O S) (other : I × O)
       → slice_get served.streams i ≡ Some s → Differ (see.writing s.lent.1).taken (see.writing other.1).taken → IsPrefix (see.writing other.1).taken (see.writing s.back.sink).taken → ⊥
 
   -- nor in place of another of another name: where no two of those that were lent have one name, what came back of a name is what was lent under it
   abbrev pub NamesAreOwn : Type 0
-  NamesAreOwn = (see : Sight I O) (offer : Offer) (start : Start) (before now : List Answer) (was lending : Lending I O) (served : Served S see offer start before now was lending) → HaveOwnNames see served.lent → (i j : ℕ) (s : LentStream I O S) (other : I × O)
+  NamesAreOwn = (see : Sight I O) (offer : Offer) (start : Start) (before now : List Answer) (was lending : Lending I O) (asked : ℕ) (served : Served S see offer start before now was lending asked) → HaveOwnNames see served.lent → (i j : ℕ) (s : LentStream I O S) (other : I × O)
       → slice_get served.streams i ≡ Some s → slice_get served.lent j ≡ Some other
       → ((see.reading s.back.source).name ≡ (see.reading other.0).name) ⊎ ((see.writing s.back.sink).name ≡ (see.writing other.1).name) → s.lent ≡ other

@@ -98,6 +98,12 @@ module _ {S : Type 0} where
   abbrev pub traces_of : List (Option (List (Option (Poster S)))) → List (Option (List (Option (ℕ × Place S × List (ℕ × Act S)))))
   traces_of slots = map (option_map traces) slots
 
+  -- posters with the traces of these are put at a place
+  pub record PutsBack (place : ℕ) (posters : List (Option (Poster S))) (before now : List (Option (List (Option (Poster S))))) : Type 0 where
+    pub back : List (Option (Poster S))
+    pub same : traces back ≡ traces posters
+    pub put : now ≡ set before place (Some back)
+
   -- it posts to this inbox, for a connection of this seat
   pub record IsOfInbox (place : Place S) (number : ℕ) (p : Poster S) : Type 0 where
     pub inbox : place ≡ inbox_of_poster p

@@ -5,7 +5,9 @@ use Rattle.chronicle.specs.Recorded.{Reaches}
 use Rattle.outbox_queue.specs.Ends.{IsOf}
 use Rattle.outbox_queue.specs.Tied.{Kept}
 use Rattle.realm.specs.History.{History, Begins}
-use Rattle.realm_inbox.specs.EndViews.{inbox_of, posted, received}
+use Rattle.realm_inbox.specs.Behind.{told_by}
+use Rattle.realm_inbox.specs.EndViews.{inbox_of, posted, received, told}
+use Rattle.realm_inbox.specs.EndViews.{shown as shown_to}
 use Rattle.realm_inbox.specs.Ends.{Place}
 use Rattle.realm_inbox.specs.Seats.{at_seat}
 use Rattle.realm_inbox.specs.declared.ends.Poster.{Poster}
@@ -64,9 +66,11 @@ module _ {S : Type 0} where
     pub acts : Acts began done
     pub begins : All (λ kept. Reaches Begins (Some kept.history) done.chronicle.history) realm.seen
 
-  -- a realm ran: so did its actor's thread, and then its inbox was emptied
+  -- A realm ran: so did its actor's thread, and then its inbox was emptied. What the stops told that the actor's thread received begins what its door's told, the last two of them what
+  -- that was shown in the end
   pub record RunsTo (realm : Shown S) (run : RealmRun S) : Type 0 where
     pub back : GivesBack realm run.began.value run.ended.value
+    pub stops : IsPrefix (told_by (received run.ended.value.inbox)) (told run.door.value ++ shown_to run.door.value ∷ shown_to run.door.value ∷ [])
     pub more : IsPrefix (received run.ended.value.inbox) (received run.inbox.value)
 
   -- each of them did, in their order

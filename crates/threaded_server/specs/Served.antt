@@ -13,7 +13,7 @@ use Rattle.realm_inbox.specs.declared.act.Act.{Act}
 use Rattle.realm_inbox.specs.declared.joining.Joining.{Joining}
 use Rattle.session.specs.Opened.{Session}
 use Rattle.threaded_server.specs.Answers.{came_in}
-use Rattle.threaded_server.specs.Histories.{IsRealm, Realm, Start}
+use Rattle.threaded_server.specs.Histories.{IsRealm, Realm, Start, until_stop}
 use Rattle.threaded_server.specs.Lending.{Lending, Returned}
 use Rattle.threaded_server.specs.SeatRules.{AscendAtSeats, FoundNoSeat, IsTurnedAway}
 use Rattle.threaded_server.specs.Sessions.{IsWritten, Joins, SaysSome, halves}
@@ -72,8 +72,12 @@ module _ {I O S : Type 0} where
   abbrev pub ReceivedAll : List (Realm S) → List (LentStream I O S) → Type 0
   ReceivedAll realms streams = (i k : ℕ) (realm : Realm S) → slice_get realms i ≡ Some realm → k < 256 → at_seat (k + 1) realm.received ≡ flat_map (λ s. posts_by i (k + 1) s s.conn) streams
 
--- what was served between two states of an acceptor
-pub record Served {I O : Type 0} (S : Type 0) (see : Sight I O) (offer : Offer) (start : Start) (before now : List Answer) (was lending : Lending I O) : Type 0 where
+  -- what these streams posted in a realm was received before the first stop, at which its actor ended: so all of it was handled
+  abbrev pub HandledAll : List (Realm S) → List (LentStream I O S) → Type 0
+  HandledAll realms early = (i k : ℕ) (realm : Realm S) → slice_get realms i ≡ Some realm → k < 256 → IsPrefix (flat_map (λ s. posts_by i (k + 1) s s.conn) early) (at_seat (k + 1) (until_stop realm.received))
+
+-- what was served between two states of an acceptor, where so many streams had come back to it when accepting was asked last
+pub record Served {I O : Type 0} (S : Type 0) (see : Sight I O) (offer : Offer) (start : Start) (before now : List Answer) (was lending : Lending I O) (asked : ℕ) : Type 0 where
   -- what accepting answered meanwhile: each stream that came was lent, or couldn't be taken apart, for want of memory
   pub given : List Answer
   pub answered : now ≡ before ++ given
@@ -93,6 +97,11 @@ pub record Served {I O : Type 0} (S : Type 0) (see : Sight I O) (offer : Offer) 
   pub histories : All (λ realm. IsRealm start realm) realms
   pub fates : All (λ s. IsFate see offer realms s s.back.fate) streams
   pub received : ReceivedAll realms streams
+  -- those that were over when the actors were told to stop were handled whole: all at least that had come back when accepting was asked last
+  pub early : List (LentStream I O S)
+  pub early_are : IsPrefix early streams
+  pub early_came : given ≢ [] → asked ≤ length was.returned + length early
+  pub handled : HandledAll realms early
   -- one was told that no seat is free only where none was; and the numbers of connections ascend at each seat, so no two had one number
   pub no_seat : (i : ℕ) (s : LentStream I O S) → slice_get streams i ≡ Some s → s.back.fate ≡ fate.NoSeat → FoundNoSeat lent i s.lent
   pub numbers : AscendAtSeats (flat_map (λ s. option_to_list s.conn) streams)

@@ -1,7 +1,7 @@
 //! Where streams come from.
-ghost use Rattle.std.specs.Prelude.{◌≡◌, ◌++◌, ◌∷◌, [], MatchResult};
+ghost use Rattle.std.specs.Prelude.{◌≡◌, ◌++◌, ◌∷◌, [], length, MatchResult};
 ghost use Rattle.threaded_server.specs.Answers.{answer_of};
-ghost use Rattle.threaded_server.specs.Lending.{returned, with_lent, with_refused, with_returned};
+ghost use Rattle.threaded_server.specs.Lending.{returned, returned_to, with_lent, with_refused, with_returned};
 
 use crate::answer::Answer;
 use broker_threads::{Closed, StreamFate};
@@ -46,7 +46,7 @@ pub struct Parts<I, O, S> {
 
 /// Gives the streams of clients, one after another, and tells when to stop.
 pub trait Acceptor {
-    ghost use Rattle.std.specs.Prelude.{List};
+    ghost use Rattle.std.specs.Prelude.{List, ℕ};
     ghost use Rattle.threaded_server.specs.Lending.{Lending};
     ghost use Rattle.threaded_server.specs.declared.answer.Answer.{Answer};
 
@@ -65,10 +65,14 @@ pub trait Acceptor {
     /// The streams that were taken apart, and those of them that were let go of.
     ghost lending: { Self → Lending Self.Source Self.Sink };
 
+    /// How many streams had been let go of when accepting was asked last.
+    ghost asked: { Self → ℕ };
+
     /// Waits for the next stream, or to be told to stop.
     fn accept(&mut self) -> Accepted<Self::Stream>
         ensures answers { answers self.new ≡ answers self.old ++ answer_of result ∷ [] }
-        ensures lending { lending self.new ≡ lending self.old };
+        ensures lending { lending self.new ≡ lending self.old }
+        ensures asked { asked self.new ≡ length (returned_to (lending self.old)) };
 
     /// Takes a stream apart. The parts share it: once it is shut, its source has ended and its sink fails. It is closed when the last
     /// part is dropped.
@@ -83,7 +87,8 @@ pub trait Acceptor {
         ensures answers { answers self.new ≡ answers self.old }
         ensures lending { MatchResult result
             (λ parts. lending self.new ≡ with_lent (lending self.old) (parts.source, parts.sink))
-            (λ _. lending self.new ≡ with_refused (lending self.old)) };
+            (λ _. lending self.new ≡ with_refused (lending self.old)) }
+        ensures asked { asked self.new ≡ asked self.old };
 
     /// Takes back what is left of a stream, once both of its halves were let go of, and is told what became of it.
     fn take_back(
@@ -94,7 +99,8 @@ pub trait Acceptor {
     )
         ensures answers { answers self.new ≡ answers self.old }
         ensures lending { lending self.new ≡ with_returned (lending self.old)
-            (returned source.last.value sink.last.value fate) };
+            (returned source.last.value sink.last.value fate) }
+        ensures asked { asked self.new ≡ asked self.old };
 
     /// Who is at the other end of a stream, in words: empty where that isn't known. `None` where memory was refused.
     fn peer(&self, alloc: Global, _stream: &Self::Stream) -> Option<String> {
@@ -109,5 +115,6 @@ pub trait Acceptor {
     /// A pause after a failure, before accepting is tried again: so many failures there were in a row, that one included.
     fn pause(&mut self, failures: u32)
         ensures answers { answers self.new ≡ answers self.old }
-        ensures lending { lending self.new ≡ lending self.old };
+        ensures lending { lending self.new ≡ lending self.old }
+        ensures asked { asked self.new ≡ asked self.old };
 }

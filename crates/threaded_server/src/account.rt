@@ -1,6 +1,6 @@
 //! The streams that an acceptor gives away.
-ghost use Rattle.std.specs.Prelude.{◌≡◌, [], ◌∷◌, ◌++◌};
-ghost use Rattle.threaded_server.specs.Lending.{lending_of, none_lent, returned, with_lent, with_refused, with_returned};
+ghost use Rattle.std.specs.Prelude.{◌≡◌, [], ◌∷◌, ◌++◌, length};
+ghost use Rattle.threaded_server.specs.Lending.{asked_of, lending_of, none_lent, returned, returned_to, with_lent, with_refused, with_returned};
 
 use crate::acceptor::Parts;
 use broker_threads::{Closed, StreamFate};
@@ -13,18 +13,31 @@ pub struct Account<I, O> {
     lent: GhostList<(I, O)>,
     returned: GhostList<(Snapshot<I>, Snapshot<O>, StreamFate)>,
     refused: GhostCount,
+    // Those that were let go of when accepting was asked last.
+    asked: Snapshot<GhostList<(Snapshot<I>, Snapshot<O>, StreamFate)>>,
 }
 
 impl<I: Drop, O: Drop> Account<I, O> {
     /// Nothing was given away.
     pub fn new() -> Account<I, O>
-        ensures { lending_of result ≡ none_lent }
+        ensures lending { lending_of result ≡ none_lent }
+        ensures asked { asked_of result ≡ 0 }
     {
+        let returned = GhostList::new();
         Account {
             lent: GhostList::new(),
-            returned: GhostList::new(),
+            asked: Snapshot::of(&returned),
+            returned,
             refused: GhostCount::new(),
         }
+    }
+
+    /// Accepting is asked.
+    pub fn asks(&mut self)
+        ensures lending { lending_of self.new ≡ lending_of self.old }
+        ensures asked { asked_of self.new ≡ length (returned_to (lending_of self.old)) }
+    {
+        self.asked = Snapshot::of(&self.returned);
     }
 
     /// A stream is given away, taken apart.
@@ -32,6 +45,7 @@ impl<I: Drop, O: Drop> Account<I, O> {
         ensures lending { lending_of self.new
             ≡ with_lent (lending_of self.old) (parts.source, parts.sink) }
         ensures same { result ≡ parts }
+        ensures asked { asked_of self.new ≡ asked_of self.old }
     {
         let Parts { source, sink, shut } = parts;
         let halves = (source, sink);
@@ -42,15 +56,17 @@ impl<I: Drop, O: Drop> Account<I, O> {
 
     /// A stream couldn't be taken apart.
     pub fn refuse(&mut self)
-        ensures { lending_of self.new ≡ with_refused (lending_of self.old) }
+        ensures lending { lending_of self.new ≡ with_refused (lending_of self.old) }
+        ensures asked { asked_of self.new ≡ asked_of self.old }
     {
         self.refused.tick();
     }
 
     /// Both halves of a stream were let go of, and this became of it.
     pub fn take_back(&mut self, source: Closed<I>, sink: Closed<O>, fate: StreamFate)
-        ensures { lending_of self.new ≡ with_returned (lending_of self.old)
+        ensures lending { lending_of self.new ≡ with_returned (lending_of self.old)
             (returned source.last.value sink.last.value fate) }
+        ensures asked { asked_of self.new ≡ asked_of self.old }
     {
         let back = (source.into_last(), sink.into_last(), fate);
         self.returned.add(Snapshot::of(&back));

@@ -15,6 +15,7 @@ ghost use Rattle.threaded_server.specs.Overs.{AllWent, GoesOver};
 ghost use Rattle.threaded_server.specs.Posters.{Stand, lists_at, lists_of};
 ghost use Rattle.threaded_server.specs.Posts.{AllSay, ReceivedPosted, posts_at};
 ghost use Rattle.threaded_server.specs.Realms.{IsAtHome, TakesIn, places_of, realms_of, shown};
+ghost use Rattle.threaded_server.specs.Stopping.{AllCover, AreDoorsOf, EarlyHandled, NoneStopped, StopsCover, door_view, doors_of, stops_of};
 ghost use Rattle.threaded_server.specs.Seating.{AreSeated};
 ghost use Rattle.broker_threads.specs.Streams.{offer_of, sight};
 ghost use Rattle.threaded_server.specs.Table.{IsUnused};
@@ -22,6 +23,7 @@ ghost use Rattle.threaded_server.specs.TrailCode.{trail_code};
 ghost use Rattle.threaded_server.specs.Ties.{IsBegunBy, IsRun, OverKept, OverTied};
 
 use crate::acceptor::Parts;
+use crate::doors::Doors;
 use crate::over::{Gone, Over};
 use crate::poster_table::PosterTable;
 use crate::realm_handle::RealmHandle;
@@ -36,7 +38,7 @@ use ghost_state::GhostList;
 use log_lines::{CloseReason, ConnectionRefusal};
 use rawsocket::devices::{Sink, Source, Turns, send};
 use rawsocket::no_seat_reply;
-use realm_inbox::{Seat, Shut};
+use realm_inbox::{Door, Seat, Shut};
 use std::alloc::{AllocError, Global};
 use std::snapshot::Snapshot;
 use std::sync::{Arc, Wait};
@@ -65,6 +67,7 @@ pub struct ConnectionTable<
     pub plan: Arc<Plan>,
     pub marks: Arc<SeatTable>,
     realms: Realms<S>,
+    doors: Doors<S>,
     posters: PosterTable<S>,
     seats: Seats,
     // By seat, from 0.
@@ -80,6 +83,8 @@ pub struct ConnectionTable<
     ghost seated: { AreSeated seats roster.entries.items (items_of roster.lent) },
     ghost kept: { ∥ All (λ over. OverKept (realms_of realms) over)
         (items_of roster.over.streams) ∥₁ },
+    ghost in_order: { AreDoorsOf (realms_of realms) (doors_of doors) } by { Prim.hlevel (codes, history_code, data_code, entries_code, trail_code) },
+    ghost shown: { ∥ AllCover (items_of roster.over.streams) (doors_of doors) ∥₁ },
     ghost began: { All (λ realm. IsBegunBy roster.over.plan.value realm) (realms_of realms) } by { Prim.hlevel (codes, history_code, data_code, entries_code, trail_code) },
 }
 
@@ -95,14 +100,17 @@ impl<
         ensures lent { IfOk result (λ t. items_of t.roster.lent ≡ []) }
         ensures unused { IfOk result (λ t.
             IsUnused t.roster.entries.items (items_of t.roster.over.streams)) }
+        ensures stops { IfOk result (λ t. NoneStopped (stops_of t.doors)) }
     {
         let realms = Realms::with_capacity(alloc, plan.realms.len())?;
+        let doors = Doors::with_capacity(alloc, plan.realms.len())?;
         let plan = Arc::new(alloc, plan)?;
         let roster = Roster::new(alloc, &plan)?;
         let posters = PosterTable::new(alloc, plan.realms.len())?;
         Ok(ConnectionTable {
             alloc,
             realms,
+            doors,
             posters,
             plan,
             marks: Arc::new(alloc, SeatTable::new(alloc)?)?,
@@ -120,6 +128,7 @@ impl<
 
     /// Joins the reader at this place, from 0, if it is over, and frees its seat. What is left of its stream, where it was.
     pub fn reap<R: Threads + Wait>(&mut self, rt: &R, place: usize) -> Option<Gone<I, O>>
+        ensures stops { stops_of self.new.doors ≡ stops_of self.old.doors }
         ensures plan { self.new.roster.over.plan ≡ self.old.roster.over.plan }
         ensures realms { length (realms_of self.new.realms) ≡ length (realms_of self.old.realms) }
         ensures lent { items_of self.new.roster.lent ≡ items_of self.old.roster.lent }
@@ -135,6 +144,7 @@ impl<
 
     /// Waits for the reader at this place, if there is one, and frees its seat. What is left of its stream, where there was one.
     pub fn release<R: Threads + Wait>(&mut self, rt: &R, place: usize) -> Option<Gone<I, O>>
+        ensures stops { stops_of self.new.doors ≡ stops_of self.old.doors }
         ensures plan { self.new.roster.over.plan ≡ self.old.roster.over.plan }
         ensures realms { length (realms_of self.new.realms) ≡ length (realms_of self.old.realms) }
         ensures lent { items_of self.new.roster.lent ≡ items_of self.old.roster.lent }
@@ -143,8 +153,9 @@ impl<
         ensures entries { self.new.roster.entries.items
             ≡ set self.old.roster.entries.items place None }
     {
-        let (conn, ended) = self.roster.join(rt, place)?;
-        let (gone, _) = take_in(rt, &mut self.realms, &mut self.posters, place, ended);
+        let (conn, mut left) = self.roster.join(rt, place)?;
+        self.doors.see(&mut left.posters);
+        let (gone, _) = take_in(rt, &mut self.realms, &mut self.posters, place, left);
         vacate(&self.marks, &mut self.seats, conn);
         Some(gone)
     }
@@ -154,7 +165,7 @@ impl<
         self.realms.len()
     }
 
-    /// One realm more, whose seats these are.
+    /// One realm more, whose door and whose seats these are.
     ///
     /// # Errors
     /// Where memory was refused.
@@ -162,6 +173,7 @@ impl<
         &mut self,
         rt: &R,
         handle: RealmHandle<S>,
+        door: Door<S>,
         seats: Vec<Seat<S>>,
     ) -> Result<(), AllocError>
         requires within { length (realms_of self.old.realms)
@@ -169,27 +181,36 @@ impl<
         requires unused { IsUnused self.old.roster.entries.items
             (items_of self.old.roster.over.streams) }
         requires began { IsBegunBy self.old.roster.over.plan.value (shown handle) }
+        requires door { ((door_view door).inbox ≡ inbox_of (shown handle).work.inbox)
+            × ((door_view door).shown ≡ []) × ((door_view door).told ≡ []) }
         requires count { length seats.items ≡ 256 }
         requires seats { AreNewSeats (inbox_of (shown handle).work.inbox) seats.items }
         ensures roster { self.new.roster ≡ self.old.roster }
         ensures one { OnOk result (length (realms_of self.new.realms)
             ≡ length (realms_of self.old.realms) + 1) }
+        ensures stops { NoneStopped (stops_of self.old.doors)
+            → NoneStopped (stops_of self.new.doors) }
     {
         let place = self.realms.len();
         if let Err(handle) = self.realms.add(handle) {
-            handle.join(rt);
+            handle.join(rt, door);
             return Err(AllocError);
         }
+        self.doors.add(rt, door);
         self.posters.add_realm(place, seats);
         Ok(())
     }
 
-    /// Stops the realms' actors, and waits until each has marked whose sessions it holds.
+    /// Stops the realms' actors, and waits until each has marked whose sessions it holds. What the streams posted that are over is handled
+    /// before.
     pub fn stop_actors<R: Wait>(&mut self, rt: &R)
         ensures roster { self.new.roster ≡ self.old.roster }
-        ensures realms { length (realms_of self.new.realms) ≡ length (realms_of self.old.realms) }
+        ensures realms { realms_of self.new.realms ≡ realms_of self.old.realms }
+        ensures stops { NoneStopped (stops_of self.old.doors)
+            → ∥ StopsCover (items_of self.old.roster.over.streams) (stops_of self.new.doors) ∥₁ }
     {
-        self.realms.stop(rt);
+        self.doors.stop(rt);
+        self.realms.await_marks(rt);
     }
 
     /// Nobody is served any more: waits for the realms' actors' threads. How each realm ran, and that each stream that was lent is over,
@@ -202,6 +223,8 @@ impl<
         ensures realms { length (items_of result) ≡ length (realms_of self.realms) }
         ensures received { ∥ ReceivedPosted (items_of result)
             (items_of self.roster.over.streams) ∥₁ }
+        ensures handled { ∥ EarlyHandled (items_of result) (items_of self.roster.over.streams)
+            (stops_of self.doors) ∥₁ }
         ensures ascend { AscendAtSeats (conns_of (items_of self.roster.over.streams)) }
         ensures tied { ∥ All (λ over. OverTied (items_of result) over)
             (items_of self.roster.over.streams) ∥₁ }
@@ -212,12 +235,13 @@ impl<
     {
         let ConnectionTable {
             realms,
+            doors,
             posters,
             roster,
             ..
         } = self;
         roster.shows_all_over();
-        realms.join(rt, posters)
+        realms.join(rt, doors, posters)
     }
 
     /// Ends the streams of those whose sessions no actor held at its end.
@@ -236,6 +260,7 @@ impl<
         rt: R,
         arrival: Arrival<I, O, S>,
     ) -> Option<Gone<I, O>>
+        ensures stops { stops_of self.new.doors ≡ stops_of self.old.doors }
         ensures plan { self.new.roster.over.plan ≡ self.old.roster.over.plan }
         ensures realms { length (realms_of self.new.realms) ≡ length (realms_of self.old.realms) }
         ensures lent { items_of self.new.roster.lent ≡ items_of self.old.roster.lent
@@ -263,9 +288,10 @@ impl<
                 self.roster.seat(place, halves, entry);
                 None
             }
-            Started::Ended(halves, began, ended) => {
+            Started::Ended(halves, began, mut ended) => {
                 let over = Over::Seated(began, Snapshot::of(&ended));
                 self.roster.pass(halves, Snapshot::of(&over));
+                self.doors.see(&mut ended.posters);
                 let (gone, why) = take_in(&rt, &mut self.realms, &mut self.posters, place, ended);
                 vacate(&self.marks, &mut self.seats, conn);
                 tell_unserved(&rt, &self.plan, conn, why);
@@ -283,6 +309,7 @@ impl<
 
     /// A stream is let go of, from which nothing was read, and to which nothing was written: memory was refused for it.
     pub fn let_go(&mut self, halves: (I, O)) -> Gone<I, O>
+        ensures stops { stops_of self.new.doors ≡ stops_of self.old.doors }
         ensures plan { self.new.roster.over.plan ≡ self.old.roster.over.plan }
         ensures realms { length (realms_of self.new.realms) ≡ length (realms_of self.old.realms) }
         ensures lent { items_of self.new.roster.lent
@@ -296,6 +323,7 @@ impl<
     // Tells the client of a stream that no seat is free, and lets go of it.
     fn turn_away(&mut self, parts: Parts<I, O, S>) -> Gone<I, O>
         requires full { (place : ℕ) → place < 256 → free_at self.old.seats place ≡ None }
+        ensures stops { stops_of self.new.doors ≡ stops_of self.old.doors }
         ensures plan { self.new.roster.over.plan ≡ self.old.roster.over.plan }
         ensures realms { length (realms_of self.new.realms) ≡ length (realms_of self.old.realms) }
         ensures lent { items_of self.new.roster.lent ≡ items_of self.old.roster.lent
@@ -333,7 +361,7 @@ fn take_in<
     place: usize,
     ended: Ended<I, O, S>,
 ) -> (Gone<I, O>, CloseReason)
-    requires { IfSome (seen_of ended.course) (λ seen. IsAtHome (realms_of realms.old) seen) }
+    requires seen { IfSome (seen_of ended.course) (λ seen. IsAtHome (realms_of realms.old) seen) }
     ensures realms { TakesIn (realms_of realms.old) (seen_of ended.course) (realms_of realms.new) }
     ensures posters { lists_of posters.new
         ≡ set (lists_of posters.old) place (Some ended.posters.items) }

@@ -8,13 +8,15 @@
 //! Contracts say here by which of its acceptor's answers `serve_on` ends, and what became of each stream that the
 //! acceptor gave: it came back, with its fate ([`StreamFate`]), and what was read of it, posted for it and written to
 //! it is what that fate says; and only where no seat is free is a client told so. Each realm has one history, made of
-//! what it received up to a stop, which of a seat begins what was posted there; another's act cuts a session only where
-//! that is owed as many items as its outbox holds. What a session's writer took begins what the history of its realm
-//! owes its connection; where the writer stopped, it is all of it, and where it is told that the outbox was full, it is
-//! as many items as that holds, or more. [`laws`] says that no stream comes back in place of another. Each call is made
-//! only where its own contract allows it: a connection's posts are made at its own seat, with its own outbox, which is
-//! open and new; each actor runs on a new inbox. When the stops are posted, that an outbox comes over, and which thread
-//! starts, ends or is waited for, is shown by runs alone.
+//! what it received first, up to a stop; what it received of a seat in the end is what was posted there; each stream
+//! that was over when the stop was posted was handled whole before it. Where ids are counted, each entry that draws a
+//! word has a count of its own. Another's act cuts a session only where that is owed as many items as its outbox holds.
+//! What a session's writer took begins what the history of its realm owes its connection; where the writer stopped, it
+//! is all of it, and where it is told that the outbox was full, it is as many items as that holds, or more. [`laws`]
+//! says that no stream comes back in place of another. Each call is made only where its own contract allows it: a
+//! connection's posts are made at its own seat, with its own outbox, which is open and new; each actor runs on a new
+//! inbox. That the actors are told to stop when accepting ends, and not later, that an outbox comes over, and which
+//! thread starts, ends or is waited for, is shown by runs alone.
 //! Nothing is promised of time: a peer that takes nothing holds up its own writer, and the end of `serve_on`, but no
 //! other session.
 #![tactic(auto)]
@@ -23,8 +25,10 @@ mod acceptor;
 mod account;
 mod answer;
 mod connection_table;
+mod doors;
 mod entry;
 pub mod laws;
+mod opening;
 mod over;
 mod overs;
 mod poster_table;

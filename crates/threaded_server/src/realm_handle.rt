@@ -1,5 +1,6 @@
 //! What the accepting thread has of a realm.
 ghost use Rattle.std.specs.Prelude.{◌≡◌, ◌++◌, ◌∷◌, [], Some, All, IfOk};
+ghost use mathlib.Core.List.{IsPrefix};
 ghost use Rattle.realm.specs.History.{Begins};
 ghost use Rattle.chronicle.specs.Recorded.{Reaches};
 
@@ -14,10 +15,9 @@ use std::sync::Wait;
 use std::thread::{PromisedHandle, Threads};
 use std::time::{Clock, CpuClock};
 
-/// What the accepting thread has of a realm: the door of its inbox, its actor's thread, and what that tells.
+/// What the accepting thread has of a realm beside the door of its inbox: its actor's thread, and what that tells.
 #[derive(Drop)]
 pub struct RealmHandle<S: Shut + Send + 'static> {
-    door: Door<S>,
     // What the actor's thread was given. It takes no bytes.
     began: Snapshot<ActorThread<S>>,
     actor: PromisedHandle<Acted<S>, Doing<ActorThread<S>>>,
@@ -29,9 +29,11 @@ pub struct RealmHandle<S: Shut + Send + 'static> {
 }
 
 impl<S: Shut + Send + 'static> RealmHandle<S> {
+    ghost use Rattle.realm_inbox.specs.Behind.{told_by};
+    ghost use Rattle.realm_inbox.specs.EndViews.{inbox_of, inbox_of_door, received, shown as shown_to, told};
     ghost use Rattle.threaded_server.specs.Realms.{GivesBack, shown};
 
-    /// Starts a realm's actor, which receives what is posted at this door and at the seats of its inbox, and tells what it tells to the
+    /// Starts a realm's actor, which receives what is posted at the door and at the seats of its inbox, and tells what it tells to the
     /// other end of `told`.
     ///
     /// # Errors
@@ -39,7 +41,6 @@ impl<S: Shut + Send + 'static> RealmHandle<S> {
     pub fn start<R: Threads + Wait + Clock + CpuClock + Copy + Send + 'static>(
         rt: R,
         alloc: Global,
-        door: Door<S>,
         told: Receiver<()>,
         work: ActorThread<S>,
     ) -> Result<RealmHandle<S>, AllocError>
@@ -51,7 +52,6 @@ impl<S: Shut + Send + 'static> RealmHandle<S> {
         let began = Snapshot::of(&work);
         let actor = start(rt, work)?;
         Ok(RealmHandle {
-            door,
             began,
             actor,
             told,
@@ -70,13 +70,6 @@ impl<S: Shut + Send + 'static> RealmHandle<S> {
         push_seen(rt, &mut self.seen, seen);
     }
 
-    /// Tells the actor to stop. Where it has ended nothing happens.
-    pub fn stop<R: Wait>(&mut self, rt: &R)
-        ensures { shown self.new ≡ shown self.old }
-    {
-        let _ = self.door.stop(rt);
-    }
-
     /// Waits until the actor, which was told to stop, has marked whose sessions it holds.
     pub fn await_marks<R: Wait>(&self, rt: &R) {
         let _ = self.told.recv(rt);
@@ -84,12 +77,18 @@ impl<S: Shut + Send + 'static> RealmHandle<S> {
 
     /// Waits for the actor's thread, once no reader is left that posts. It ends at the second stop: the first ends its actor, unless that
     /// was told to stop before, so two are posted. What it was given, and what it gave back: what the writers saw begins the history of
-    /// that.
-    pub fn join<R: Threads + Wait>(self, rt: &R) -> (Snapshot<ActorThread<S>>, Acted<S>)
-        ensures { GivesBack (shown self) result.0.value result.1 }
+    /// that; and what the stops told that it received is what the door's told.
+    pub fn join<R: Threads + Wait>(
+        self,
+        rt: &R,
+        mut door: Door<S>,
+    ) -> (Snapshot<ActorThread<S>>, Acted<S>)
+        requires inbox { inbox_of (shown self).work.inbox ≡ inbox_of_door door }
+        ensures back { GivesBack (shown self) result.0.value result.1 }
+        ensures told { IsPrefix (told_by (received result.1.inbox))
+            (told door ++ shown_to door ∷ shown_to door ∷ []) }
     {
         let RealmHandle {
-            mut door,
             began,
             actor,
             told,
@@ -100,6 +99,7 @@ impl<S: Shut + Send + 'static> RealmHandle<S> {
         let _ = door.stop(rt);
         let _ = door.stop(rt);
         let mut acted = actor.join(rt);
+        acted.inbox.compare_stops(&mut door);
         check_all(rt, &mut acted.chronicle, seen);
         (began, acted)
     }

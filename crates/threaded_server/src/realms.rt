@@ -1,9 +1,11 @@
 //! The realms of a broker, as the accepting thread has them.
-ghost use Rattle.std.specs.Prelude.{◌≡◌, ◌++◌, ◌∷◌, [], length, IfOk, IfSome, MatchResult};
+ghost use Rattle.std.specs.Prelude.{◌≡◌, ◌++◌, ◌∷◌, [], length, map, IfOk, IfSome, MatchResult};
 ghost use Rattle.ghost_state.specs.GhostList.{items_of};
 ghost use Rattle.threaded_server.specs.Posters.{Stand, lists_of};
+ghost use Rattle.threaded_server.specs.Stopping.{AreDoorsOf, door_view, doors_of};
 ghost use Rattle.threaded_server.specs.Realms.{AllReceived, EachRuns, IsAtHome, Keeps, TakesIn, places_of, realms_of, shown};
 
+use crate::doors::Doors;
 use crate::poster_table::PosterTable;
 use crate::realm_handle::RealmHandle;
 use crate::realm_run::RealmRun;
@@ -45,7 +47,7 @@ impl<S: Shut + Send + 'static> Realms<S> {
     pub fn add(&mut self, handle: RealmHandle<S>) -> Result<(), RealmHandle<S>>
         ensures { MatchResult result
             (λ _. realms_of self.new ≡ realms_of self.old ++ shown handle ∷ [])
-            (λ _. realms_of self.new ≡ realms_of self.old) }
+            (λ back. (realms_of self.new ≡ realms_of self.old) × (back ≡ handle)) }
     {
         match self.handles.push(handle) {
             Ok(()) => Ok(()),
@@ -71,46 +73,41 @@ impl<S: Shut + Send + 'static> Realms<S> {
         handle.keep(rt, seen.history);
     }
 
-    /// Stops the actors, and waits until each has marked whose sessions it holds.
-    pub fn stop<R: Wait>(&mut self, rt: &R)
-        ensures { realms_of self.new ≡ realms_of self.old }
-    {
-        for place in 0..self.handles.len() {
-            self.stop_at(rt, place);
-        }
+    /// Waits until each actor, which was told to stop, has marked whose sessions it holds.
+    pub fn await_marks<R: Wait>(&self, rt: &R) {
         for handle in self.handles.iter() {
             handle.await_marks(rt);
         }
     }
 
-    fn stop_at<R: Wait>(&mut self, rt: &R, place: usize)
-        ensures { realms_of self.new ≡ realms_of self.old }
-    {
-        if let Some(handle) = self.handles.get_mut(place) {
-            handle.stop(rt);
-        }
-    }
-
-    /// Waits for the actors' threads, once no reader is left that posts, and empties the inbox of each: what it received of a seat in the
-    /// end is what was posted there by the realm's poster of that seat.
+    /// Waits for the actors' threads, whose doors these are, once no reader is left that posts, and empties the inbox of each: what it
+    /// received of a seat in the end is what was posted there by the realm's poster of that seat.
     pub fn join<R: Threads + Wait>(
         self,
         rt: &R,
+        mut doors: Doors<S>,
         mut posters: PosterTable<S>,
     ) -> GhostList<RealmRun<S>>
-        requires { Stand (places_of (realms_of self)) (lists_of posters) }
+        requires posters { Stand (places_of (realms_of self)) (lists_of posters) }
+        requires doors { AreDoorsOf (realms_of self) (doors_of doors) }
+        ensures doors { doors_of doors ≡ map (λ run. door_view run.door.value) (items_of result) }
         ensures runs { EachRuns (realms_of self) (items_of result) }
         ensures received { AllReceived (items_of result) (lists_of posters) }
     {
         let mut handles = self.handles;
         let mut runs = GhostList::new();
         for realm in 0..handles.len() {
-            let (began, acted) = handles.remove(0).join(rt);
+            let Some(door) = doors.take_first() else {
+                unreachable!()
+            };
+            let last = Snapshot::of(&door);
+            let (began, acted) = handles.remove(0).join(rt, door);
             let ended = Snapshot::of(&acted);
             let mut inbox = acted.inbox;
             posters.drain_inbox(rt, realm, &mut inbox);
             let run = RealmRun {
                 began,
+                door: last,
                 ended,
                 inbox: Snapshot::of(&inbox),
             };

@@ -1,15 +1,13 @@
 //! The accepting thread.
 ghost use Rattle.std.specs.Prelude.{◌≡◌, ◌≢◌, ◌≤◌, ◌<◌, ◌+◌, [], ◌∷◌, ◌++◌, length, All, IfOk, MatchOption, None, OnOk};
 ghost use Rattle.ghost_state.specs.GhostList.{items_of};
-ghost use Rattle.realm.specs.Grants.{pairs_of};
-ghost use Rattle.realm.specs.History.{begun};
-ghost use Rattle.broker_threads.specs.Words.{are_counted};
 ghost use Rattle.threaded_server.specs.Answers.{Serves};
 ghost use Rattle.threaded_server.specs.Histories.{start_of};
-ghost use Rattle.threaded_server.specs.Lending.{returned, with_returned};
+ghost use Rattle.threaded_server.specs.Lending.{returned, returned_to, with_returned};
 ghost use Rattle.threaded_server.specs.Overs.{GoesOver, Moves};
 ghost use Rattle.threaded_server.specs.Realms.{realms_of};
 ghost use Rattle.threaded_server.specs.Served.{Served};
+ghost use Rattle.threaded_server.specs.Stopping.{NoneStopped, StopsCover, stops_of};
 ghost use Rattle.threaded_server.specs.body.Served.{LentUntil};
 ghost use Rattle.broker_threads.specs.Streams.{offer, offer_within, sight};
 ghost use Rattle.threaded_server.specs.Table.{IsUnused, books};
@@ -17,19 +15,16 @@ ghost use Rattle.broker_threads.specs.declared.fate.Marked.{Marked};
 
 use crate::acceptor::{Accepted, Acceptor, Parts};
 use crate::connection_table::{Arrival, ConnectionTable};
+use crate::opening::open;
 use crate::over::Gone;
-use crate::realm_handle::RealmHandle;
-use broker_config::{Config, Fault, copy_grants};
+use broker_config::{Config, Fault};
 use broker_threads::told::{tell_failed, tell_refused, tell_stopping};
-use broker_threads::{ActorThread, IdWords, Log, Marked, Plan};
+use broker_threads::{Log, Marked, Plan};
 use connection::{InUse, LongTurns};
-use crossbeam_channel::bounded;
 use log_lines::ConnectionRefusal;
 use rawsocket::MessageBound;
 use rawsocket::devices::{Sink, Source};
-use realm::{Realm, RealmConfig};
-use realm_inbox::opening::inbox_of_chronicle;
-use realm_inbox::{RealmChronicle, Shut};
+use realm_inbox::Shut;
 use std::alloc::{AllocError, Global};
 use std::random::RandomSource;
 use std::snapshot::Snapshot;
@@ -38,9 +33,6 @@ use std::sync::{Arc, Wait};
 use std::thread::Threads;
 use std::time::{Clock, CpuClock};
 use wamp_ids::Topic;
-
-/// How many posts may wait in a realm's inbox.
-const MOST_POSTS: usize = 1024;
 
 /// After so many failures in a row nothing is accepted any more.
 const MOST_FAILURES: u32 = 100;
@@ -69,7 +61,7 @@ pub fn serve_on<
         (sight A.Source.seen A.Sink.seen)
         (offer config.now.realms.items config.now.outbox) (start_of config.now)
         (A.answers acceptor.old) (A.answers acceptor.new) (A.lending acceptor.old)
-        (A.lending acceptor.new) ∥₁ }
+        (A.lending acceptor.new) (A.asked acceptor.new) ∥₁ }
 {
     serve_logged(rt, alloc, acceptor, config, None)
 }
@@ -90,7 +82,7 @@ pub fn serve_logged<
         (sight A.Source.seen A.Sink.seen)
         (offer config.now.realms.items config.now.outbox) (start_of config.now)
         (A.answers acceptor.old) (A.answers acceptor.new) (A.lending acceptor.old)
-        (A.lending acceptor.new) ∥₁ }
+        (A.lending acceptor.new) (A.asked acceptor.new) ∥₁ }
 {
     serve_within(rt, alloc, acceptor, config, MessageBound::largest(), log)
 }
@@ -119,13 +111,14 @@ pub fn serve_within<
         (sight A.Source.seen A.Sink.seen)
         (offer_within bound config.now.realms.items config.now.outbox) (start_of config.now)
         (A.answers acceptor.old) (A.answers acceptor.new) (A.lending acceptor.old)
-        (A.lending acceptor.new) ∥₁ }
+        (A.lending acceptor.new) (A.asked acceptor.new) ∥₁ }
 {
     let plan = plan_of(alloc, config, bound, log)?;
     let mut connection_table = ConnectionTable::new(alloc, plan)?;
     let served = open_and_accept(rt, acceptor, &mut connection_table, config);
     tell_stopping(&rt, &connection_table.plan.log, &served);
-    close(&rt, acceptor, &mut connection_table);
+    stop(&rt, &mut connection_table);
+    join_all(&rt, acceptor, &mut connection_table);
     connection_table.finish(&rt);
     served
 }
@@ -153,6 +146,10 @@ fn open_and_accept<
     ensures plan { connection_table.new.roster.over.plan ≡ connection_table.old.roster.over.plan }
     ensures realms { result ≢ Err Fault.NoMemory
         → length (realms_of connection_table.new.realms) ≡ length config.now.realms.items }
+    ensures stops { NoneStopped (stops_of connection_table.old.doors)
+        → NoneStopped (stops_of connection_table.new.doors) }
+    ensures asked { result ≢ Err Fault.NoMemory
+        → A.asked acceptor.new ≡ length (returned_to (A.lending acceptor.new)) }
 {
     if let Err(_) = open(rt, connection_table, config) {
         return Err(Fault::NoMemory);
@@ -206,102 +203,6 @@ fn plan_of(
     })
 }
 
-// What a realm of this name is made from.
-fn realm_config(alloc: Global, name: &Topic, config: &Config) -> Result<RealmConfig, AllocError>
-    ensures { IfOk result (λ made. (made.name ≡ name.now)
-        × (pairs_of made.grants.items ≡ pairs_of config.now.grants.items)) }
-{
-    Ok(RealmConfig {
-        name: name.try_copy(alloc)?,
-        grants: copy_grants(alloc, &config.grants)?,
-    })
-}
-
-// A realm of this name, which nothing has entered yet, and where its ids come from.
-fn new_realm<R: RandomSource>(
-    rt: &R,
-    alloc: Global,
-    name: &Topic,
-    config: &Config,
-) -> Result<(Realm, IdWords), AllocError>
-    ensures realm { IfOk result (λ made. made.0 ≡ begun (pairs_of config.now.grants.items)) }
-    ensures words { IfOk result (λ made. made.1
-        ≡ record { is_counting = are_counted config.now.ids; given = [] }) }
-{
-    let Ok(realm) = Realm::new(alloc, realm_config(alloc, name, config)?) else {
-        return Err(AllocError);
-    };
-    match IdWords::new(rt, config.ids) {
-        Ok(words) => Ok((realm, words)),
-        Err(_) => Err(AllocError),
-    }
-}
-
-// Starts the realms' actors.
-fn open<
-    R: Threads + Wait + Clock + CpuClock + RandomSource + Copy + Send + 'static,
-    I: Source + Drop + Send + 'static,
-    O: Sink + Drop + Send + 'static,
-    S: Shut + Send + 'static,
->(rt: R, connection_table: &mut ConnectionTable<I, O, S>, config: &Config) -> Result<(), AllocError>
-    requires config { connection_table.old.roster.over.plan.value.config.value ≡ config.now }
-    requires realms { connection_table.old.roster.over.plan.value.realms.items
-        ≡ config.now.realms.items }
-    requires none { realms_of connection_table.old.realms ≡ [] }
-    requires unused { IsUnused connection_table.old.roster.entries.items
-        (items_of connection_table.old.roster.over.streams) }
-    ensures roster { connection_table.new.roster ≡ connection_table.old.roster }
-    ensures realms { OnOk result
-        (length (realms_of connection_table.new.realms) ≡ length config.now.realms.items) }
-{
-    for name in &config.realms {
-        open_realm(rt, connection_table, config, name)?;
-    }
-    Ok(())
-}
-
-fn open_realm<
-    R: Threads + Wait + Clock + CpuClock + RandomSource + Copy + Send + 'static,
-    I: Source + Drop + Send + 'static,
-    O: Sink + Drop + Send + 'static,
-    S: Shut + Send + 'static,
->(
-    rt: R,
-    connection_table: &mut ConnectionTable<I, O, S>,
-    config: &Config,
-    name: &Topic,
-) -> Result<(), AllocError>
-    requires config { connection_table.old.roster.over.plan.value.config.value ≡ config.now }
-    requires within { length (realms_of connection_table.old.realms)
-        < length connection_table.old.roster.over.plan.value.realms.items }
-    requires unused { IsUnused connection_table.old.roster.entries.items
-        (items_of connection_table.old.roster.over.streams) }
-    ensures roster { connection_table.new.roster ≡ connection_table.old.roster }
-    ensures one { OnOk result (length (realms_of connection_table.new.realms)
-        ≡ length (realms_of connection_table.old.realms) + 1) }
-{
-    let alloc = connection_table.alloc;
-    let plan = Arc::try_clone(&connection_table.plan)?;
-    let marks = Arc::try_clone(&connection_table.marks)?;
-    let chronicle = RealmChronicle::new(alloc)?;
-    let (door, seats, inbox) = inbox_of_chronicle::<S>(alloc, MOST_POSTS, &chronicle)?;
-    let (teller, told) = bounded(alloc, 1)?;
-    let (kept, words) = new_realm(&rt, alloc, name, config)?;
-    let work = ActorThread {
-        alloc,
-        plan,
-        realm: connection_table.count_realms(),
-        kept,
-        words,
-        chronicle,
-        inbox,
-        teller,
-        marks,
-    };
-    let handle = RealmHandle::start(rt, alloc, door, told, work)?;
-    connection_table.add_realm(&rt, handle, seats)
-}
-
 // Accepts streams until there is an end to it.
 fn accept_all<R: Threads + Wait + Clock + Copy + Send + 'static, A: Acceptor>(
     rt: R,
@@ -315,6 +216,8 @@ fn accept_all<R: Threads + Wait + Clock + Copy + Send + 'static, A: Acceptor>(
     ensures plan { connection_table.new.roster.over.plan ≡ connection_table.old.roster.over.plan }
     ensures realms { length (realms_of connection_table.new.realms)
         ≡ length (realms_of connection_table.old.realms) }
+    ensures stops { stops_of connection_table.new.doors ≡ stops_of connection_table.old.doors }
+    ensures asked { A.asked acceptor.new ≡ length (returned_to (A.lending acceptor.new)) }
 {
     let mut failures: u32 = 0;
     'accepting: for _ in rt.forever() {
@@ -342,6 +245,7 @@ fn accept_all<R: Threads + Wait + Clock + Copy + Send + 'static, A: Acceptor>(
 // Takes back what is left of a stream, if it is over.
 fn take_back<A: Acceptor>(acceptor: &mut A, gone: Option<Gone<A::Source, A::Sink>>)
     ensures answers { A.answers acceptor.new ≡ A.answers acceptor.old }
+    ensures asked { A.asked acceptor.new ≡ A.asked acceptor.old }
     ensures lending { MatchOption gone (A.lending acceptor.new ≡ A.lending acceptor.old)
         (λ gone. A.lending acceptor.new ≡ with_returned (A.lending acceptor.old)
         (returned gone.source.last.value gone.sink.last.value gone.fate)) }
@@ -364,6 +268,7 @@ fn reap<R: Threads + Wait, A: Acceptor>(
     ensures plan { connection_table.new.roster.over.plan ≡ connection_table.old.roster.over.plan }
     ensures realms { length (realms_of connection_table.new.realms)
         ≡ length (realms_of connection_table.old.realms) }
+    ensures stops { stops_of connection_table.new.doors ≡ stops_of connection_table.old.doors }
 {
     for place in 0..connection_table.places() {
         let gone = connection_table.reap(rt, place);
@@ -378,12 +283,14 @@ fn join_all<R: Threads + Wait, A: Acceptor>(
     connection_table: &mut ConnectionTable<A::Source, A::Sink, Marked<A::Shut>>,
 )
     ensures answers { A.answers acceptor.new ≡ A.answers acceptor.old }
+    ensures asked { A.asked acceptor.new ≡ A.asked acceptor.old }
     ensures moves { Moves 0 (A.lending acceptor.old) (A.lending acceptor.new)
         (books connection_table.old.roster.lent connection_table.old.roster.over.streams)
         (books connection_table.new.roster.lent connection_table.new.roster.over.streams) }
     ensures plan { connection_table.new.roster.over.plan ≡ connection_table.old.roster.over.plan }
     ensures realms { length (realms_of connection_table.new.realms)
         ≡ length (realms_of connection_table.old.realms) }
+    ensures stops { stops_of connection_table.new.doors ≡ stops_of connection_table.old.doors }
     ensures none { All (λ slot. slot ≡ None) connection_table.new.roster.entries.items }
 {
     for place in 0..connection_table.places() {
@@ -406,6 +313,7 @@ fn receive<R: Threads + Wait + Clock + Copy + Send + 'static, A: Acceptor>(
     ensures plan { connection_table.new.roster.over.plan ≡ connection_table.old.roster.over.plan }
     ensures realms { length (realms_of connection_table.new.realms)
         ≡ length (realms_of connection_table.old.realms) }
+    ensures stops { stops_of connection_table.new.doors ≡ stops_of connection_table.old.doors }
 {
     let peer = peer_of(acceptor, &connection_table.plan, &stream);
     match acceptor.split(connection_table.alloc, stream) {
@@ -453,6 +361,7 @@ fn admit<
     ensures plan { connection_table.new.roster.over.plan ≡ connection_table.old.roster.over.plan }
     ensures realms { length (realms_of connection_table.new.realms)
         ≡ length (realms_of connection_table.old.realms) }
+    ensures stops { stops_of connection_table.new.doors ≡ stops_of connection_table.old.doors }
     ensures lent { items_of connection_table.new.roster.lent
         ≡ items_of connection_table.old.roster.lent
         ++ (parts.source, parts.sink) ∷ [] }
@@ -473,27 +382,9 @@ fn admit<
     connection_table.admit(rt, Arrival { parts, fate, peer })
 }
 
-// Stops the actors, ends the streams that no session's writer will end, and waits for all threads of connections. Each actor turns away what
-// is posted behind its stop until it is told once more to stop, which is last of all: so no thread waits for what nobody would do.
-fn close<R: Threads + Wait, A: Acceptor>(
-    rt: &R,
-    acceptor: &mut A,
-    connection_table: &mut ConnectionTable<A::Source, A::Sink, Marked<A::Shut>>,
-)
-    ensures answers { A.answers acceptor.new ≡ A.answers acceptor.old }
-    ensures moves { Moves 0 (A.lending acceptor.old) (A.lending acceptor.new)
-        (books connection_table.old.roster.lent connection_table.old.roster.over.streams)
-        (books connection_table.new.roster.lent connection_table.new.roster.over.streams) }
-    ensures plan { connection_table.new.roster.over.plan ≡ connection_table.old.roster.over.plan }
-    ensures realms { length (realms_of connection_table.new.realms)
-        ≡ length (realms_of connection_table.old.realms) }
-    ensures none { All (λ slot. slot ≡ None) connection_table.new.roster.entries.items }
-{
-    stop(rt, connection_table);
-    join_all(rt, acceptor, connection_table);
-}
-
-// Stops the actors, and ends the streams that no session's writer will end.
+// Stops the actors, and ends the streams that no session's writer will end. What the streams posted that are over was handled whole before.
+// Each actor turns away what is posted behind its stop until it is told once more to stop, which is last of all: so no thread waits for
+// what nobody would do.
 fn stop<
     R: Threads + Wait,
     I: Source + Drop + Send + 'static,
@@ -503,6 +394,9 @@ fn stop<
     ensures roster { connection_table.new.roster ≡ connection_table.old.roster }
     ensures realms { length (realms_of connection_table.new.realms)
         ≡ length (realms_of connection_table.old.realms) }
+    ensures stops { NoneStopped (stops_of connection_table.old.doors)
+        → ∥ StopsCover (items_of connection_table.old.roster.over.streams)
+        (stops_of connection_table.new.doors) ∥₁ }
 {
     connection_table
         .plan

@@ -126,11 +126,13 @@ fn parts_of(
 
 impl<R: Clock + Drop> Acceptor for TcpAcceptor<R> {
     ghost use Rattle.ghost_state.specs.GhostList.{items_of};
-    ghost use Rattle.threaded_server.specs.Lending.{lending_of, returned, with_returned};
+    ghost use Rattle.threaded_server.specs.Lending.{asked_of, lending_of, returned, with_returned};
 
     ghost answers = { λ a. items_of a.answers };
 
     ghost lending = { λ a. lending_of a.account };
+
+    ghost asked = { λ a. asked_of a.account };
 
     type Stream = TcpStream;
 
@@ -141,6 +143,7 @@ impl<R: Clock + Drop> Acceptor for TcpAcceptor<R> {
     type Shut = TcpHandle;
 
     fn accept(&mut self) -> Accepted<TcpStream> {
+        self.account.asks();
         let accepted = match self.listener.accept() {
             Ok((stream, _)) => Accepted::Stream(stream),
             Err(failure) => {
@@ -180,6 +183,7 @@ impl<R: Clock + Drop> Acceptor for TcpAcceptor<R> {
         ensures answers { items_of self.new.answers ≡ items_of self.old.answers }
         ensures lending { lending_of self.new.account ≡ with_returned (lending_of self.old.account)
             (returned source.last.value sink.last.value fate) }
+        ensures asked { asked_of self.new.account ≡ asked_of self.old.account }
     {
         self.account.take_back(source, sink, fate);
     }

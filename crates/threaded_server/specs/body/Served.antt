@@ -1,5 +1,5 @@
 -- What a broker served, as its accepting thread knows it.
-use Rattle.std.specs.Prelude.{◌≡◌, ◌≢◌, ◌+◌, ℕ, List, [], ◌++◌, Result, All, length, map}
+use Rattle.std.specs.Prelude.{◌≡◌, ◌≢◌, ◌≤◌, ◌+◌, ℕ, List, [], ◌++◌, Result, All, length, map}
 use Rattle.threaded_server.specs.Answers.{Serves, came_in}
 use Rattle.threaded_server.specs.SeatRules.{AscendAtSeats}
 use Rattle.threaded_server.specs.Conns.{conns_of}
@@ -7,6 +7,8 @@ use Rattle.threaded_server.specs.Histories.{Start}
 use Rattle.threaded_server.specs.Lending.{Lending}
 use Rattle.threaded_server.specs.Overs.{AllWent, Books, Moves, after_of, before_of}
 use Rattle.threaded_server.specs.Posts.{ReceivedPosted}
+use Rattle.threaded_server.specs.Stopping.{HandledBefore}
+use mathlib.Core.List.{IsPrefix}
 use Rattle.broker_threads.specs.Streams.{KeepsNames, Offer, Sight}
 use Rattle.threaded_server.specs.Ties.{IsRun, OverTied}
 use Rattle.threaded_server.specs.declared.answer.Answer.{Answer}
@@ -21,7 +23,7 @@ module _ {I O S : Type 0} where
     pub moves : Moves (came_in serves.given) was lending had has
 
 -- what was served between two states of an acceptor, in parts: by what each reader's thread, each writer's and each actor's was given, and gave back
-pub record ServedInParts {I O : Type 0} (S : Type 0) (see : Sight I O) (offer : Offer) (start : Start) (before now : List Answer) (was lending : Lending I O) : Type 0 where
+pub record ServedInParts {I O : Type 0} (S : Type 0) (see : Sight I O) (offer : Offer) (start : Start) (before now : List Answer) (was lending : Lending I O) (asked : ℕ) : Type 0 where
   -- what accepting answered meanwhile
   pub given : List Answer
   pub answered : now ≡ before ++ given
@@ -46,6 +48,11 @@ pub record ServedInParts {I O : Type 0} (S : Type 0) (see : Sight I O) (offer : 
   pub each_ran : All (λ run. IsRun start run) runs
   -- what a realm received of a seat is what the streams posted there
   pub received : ∥ ReceivedPosted runs streams ∥₁
+  -- those that were over when the actors were told to stop were handled whole: all at least that had come back when accepting was asked last
+  pub early : List (Over I O S)
+  pub early_are : IsPrefix early streams
+  pub early_came : given ≢ [] → asked ≤ length was.returned + length early
+  pub handled : ∥ HandledBefore runs early ∥₁
   -- what a session's writer took begins what the one history of the realm that its HELLO names owes its connection, and is all of that where it stopped; where its outbox was found
   -- full, it took as many items as that holds, or more
   pub tied : ∥ All (λ over. OverTied runs over) streams ∥₁

@@ -1,12 +1,12 @@
-use Rattle.realm_inbox.proofs.StepEffects.{lends_by, merges_by}
+use Rattle.realm_inbox.proofs.LentSteps.{lends_reader, goes_by, comes_by, posts_lend}
 use Rattle.realm_inbox.proofs.BesideSteps.{receives_beside, forks_after, returns_after, seat_after, reader_after, all_received}
 use Rattle.realm_inbox.proofs.beside.receive_passes.Goals as goal
 
 pub another-lent-requires-clause-rule : goal.another-lent-requires-clause-rule
-another-lent-requires-clause-rule g c = lends_by _ _ c.requires.posting.1
+another-lent-requires-clause-rule g c = goes_by _ _ (lends_reader _ _ c.requires.reading.2 (posts_lend _ c.requires.posting.1)) _
 
 pub absorb-requires-clause-rule : goal.absorb-requires-clause-rule
-absorb-requires-clause-rule g c = merges_by _ _ _ _ _ c.requires.reading.2 c.requires.posting.1 c.another-lent.ensures.rule.1
+absorb-requires-clause-rule g c = comes_by _ _ (lends_reader _ _ c.requires.reading.2 (posts_lend _ c.requires.posting.1)) _ c.another-lent.ensures.rule.1 _ _
 
 pub try_recv_as-found-requires-clause-rule : goal.try_recv_as-found-requires-clause-rule
 try_recv_as-found-requires-clause-rule g c = receives_beside _ _ _ _ c.requires.reading.2 c.requires.posting.1 c.another-lent.ensures.rule.1 c.absorb.ensures.rule _

@@ -13,4 +13,4 @@ bounded_with-requires-clause-rule g c = begins
 pub invariant_of-result-2-clause-dealt : goal.invariant_of-result-2-clause-dealt
 invariant_of-result-2-clause-dealt g c =
     let v = view c.cut_seats.new.pass in
-    ∣ none_waits (home_in v) (received_in v) (items_of c.new-5.result) (waiting c.in_ok-lines.lines) (c.new-5.ensures ∙ sym c.in_ok-seats.ensures.pass.2) c.in_ok-lines.ensures.none ∣₁
+    ∣ none_waits (home_in v) (received_in v) (items_of c.new-6.result) (waiting c.in_ok-lines.lines) (c.new-6.ensures ∙ sym c.in_ok-seats.ensures.pass.2) c.in_ok-lines.ensures.none ∣₁

@@ -1,7 +1,7 @@
 use Rattle.std.proofs.Common.{◌≡◌, ◌+◌, ◌-◌, ◌∷◌, length, take, drop, None, Some, cond, sym, ap, ◌∙◌, arith}
 use Rattle.wamp_ids.specs.Uri.{components}
 use Rattle.subscription_index.specs.body.Shapes.{mask_of}
-use Rattle.subscription_index.proofs.BlocksLemmas.{rest_is}
+use Rattle.subscription_index.proofs.PiecesLemmas.{rest_is}
 use Rattle.subscription_index.proofs.ShapesLemmas.{digit_bounded, digit_next, depth_more, mask_behind, is_deeper_than}
 use Rattle.subscription_index.proofs.shapes.mask_of.Goals as goal
 

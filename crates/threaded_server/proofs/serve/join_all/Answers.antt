@@ -5,7 +5,7 @@ use Rattle.threaded_server.proofs.Moving.{moves_none, moves_on, taken_back}
 use Rattle.threaded_server.proofs.serve.join_all.Goals as goal
 
 pub loop-place-init : goal.loop-place-init
-loop-place-init g c = (refl, moves_none _ _, refl, sym c.places-place-end.ensures, AllWithin-none (λ slot. slot ≡ None) c.args.connection_table.now.roster.entries.items 0, refl)
+loop-place-init g c = (refl, moves_none _ _, refl, sym c.places-place-end.ensures, AllWithin-none (λ slot. slot ≡ None) c.args.connection_table.now.roster.entries.items 0, refl, refl, refl)
 
 pub loop-place-preserved : goal.loop-place-preserved
 loop-place-preserved g c =
@@ -18,6 +18,8 @@ loop-place-preserved g c =
       ap length c.release-gone.ensures.entries ∙ length-set entries c.loop-place.place None ∙ held.3,
       subst (λ xs. AllWithin (λ slot. slot ≡ None) xs 0 (c.loop-place.place + 1)) (sym c.release-gone.ensures.entries) (AllWithin-more_set entries c.loop-place.place None within (λ slot. slot ≡ None) held.4 refl),
       c.release-gone.ensures.realms ∙ held.5,
+      c.release-gone.ensures.stops ∙ held.6,
+      c.take_back.ensures.asked ∙ held.7,
     )
 
 pub returns-clause-none : goal.returns-clause-none

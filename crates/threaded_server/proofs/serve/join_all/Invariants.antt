@@ -2,6 +2,7 @@ use Rattle.std.proofs.Common.{◌≡◌, None, length}
 use Rattle.std.specs.List.{AllWithin}
 use Rattle.threaded_server.specs.Overs.{Moves}
 use Rattle.threaded_server.specs.Realms.{realms_of}
+use Rattle.threaded_server.specs.Stopping.{stops_of}
 use Rattle.threaded_server.specs.Table.{books}
 use Rattle.threaded_server.proofs.serve.join_all.Given as goal
 
@@ -15,3 +16,5 @@ invariant-loop-place g l =
     × (length now.entries.items ≡ l.place-end)
     × AllWithin (λ slot. slot ≡ None) now.entries.items 0 l.place
     × (length (realms_of l.connection_table.realms) ≡ length (realms_of l.initial.connection_table.realms))
+    × (stops_of l.connection_table.doors ≡ stops_of l.initial.connection_table.doors)
+    × (g.A.Acceptor.asked l.acceptor ≡ g.A.Acceptor.asked l.initial.acceptor)

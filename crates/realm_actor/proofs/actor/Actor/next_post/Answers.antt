@@ -2,6 +2,7 @@ use Rattle.std.proofs.Common.{◌≡◌, [], ◌∷◌, ◌++◌, ap, ◌∙◌,
 use Rattle.std.specs.Prelude.{IfSome, MatchOption}
 use Rattle.realm_inbox.specs.EndViews.{received}
 use Rattle.realm_inbox.specs.Seats.{IsHomed, IsNext}
+use Rattle.realm_inbox.specs.Behind.{IsBehind}
 use Rattle.std.proofs.lemmas.Option.{MatchOption-at_none, MatchOption-at_some}
 use Rattle.realm_actor.proofs.actor.Actor.next_post.Goals as goal
 
@@ -25,6 +26,13 @@ returns-clause-in_turn g c =
     let first = received c.try_receive-ready.new.self in
     let none : first ≡ was = MatchOption-at_none (first ≡ was) (λ p. first ≡ was ++ p ∷ []) c.in_default.is c.try_receive-ready.ensures.given in
     subst (λ got. IfSome c.wait_for_post-post.result (λ p. IsNext got p)) none c.wait_for_post-post.ensures.in_turn
+
+pub returns-clause-behind : goal.returns-clause-behind
+returns-clause-behind g c =
+    let was = received c.args.inbox.now in
+    let first = received c.try_receive-ready.new.self in
+    let none : first ≡ was = MatchOption-at_none (first ≡ was) (λ p. first ≡ was ++ p ∷ []) c.in_default.is c.try_receive-ready.ensures.given in
+    subst (λ got. IfSome c.wait_for_post-post.result (λ p. IsBehind got p)) none c.wait_for_post-post.ensures.behind
 
 pub returns-clause-home : goal.returns-clause-home
 returns-clause-home g c = subst (λ h. IfSome c.wait_for_post-post.result (λ p. IsHomed h p)) (ap (λ p. p.2) c.try_receive-ready.ensures.same.0) c.wait_for_post-post.ensures.home

@@ -50,7 +50,7 @@ pub returns-then-ends : goal.returns-then-ends
 returns-then-ends g c =
     let told = c.note_time.ensures.none in
     let s = ends_stopped c.args.self c.loop.self c.sweep.new.self c.take_shown.new.self (received c.args.inbox.now) (received c.loop.inbox) (received c.note_time.new.inbox) c.take_shown.result c.in-Some-next_post.post
-    (sym c.is_stop-ends.ensures ∙ c.if-ends.true) c.loop.invariant.progress c.sweep.ensures.sweeps (told ∙ c.in-Some-next_post.ensures.given) c.in-Some-next_post.ensures.in_turn c.take_shown.ensures.handles in
+    (sym c.is_stop-ends.ensures ∙ c.if-ends.true) c.loop.invariant.progress c.sweep.ensures.sweeps (told ∙ c.in-Some-next_post.ensures.given) c.in-Some-next_post.ensures.in_turn c.in-Some-next_post.ensures.behind c.take_shown.ensures.handles in
     let e = s.0 in
     record {
       ran = (e.0, e.1, e.2, e.3, λ _. s.1);

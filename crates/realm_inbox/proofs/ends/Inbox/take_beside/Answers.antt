@@ -4,9 +4,9 @@ use Rattle.crossbeam_channel.specs.Claims.{view}
 use Rattle.wamp_ids.specs.Numbers.{seat_of}
 use Rattle.ghost_state.specs.GhostList.{items_of}
 use Rattle.realm_inbox.specs.Seats.{at_seat}
-use Rattle.realm_inbox.specs.SeatLines.{IsDealt, place_of_post, waiting}
+use Rattle.realm_inbox.specs.SeatLines.{IsDealt, waiting}
 use Rattle.realm_inbox.specs.Ends.{home_in, received_in, is_reader}
-use Rattle.realm_inbox.proofs.SeatLineSteps.{exchanged, told_next_exchanged, told_homed_exchanged, all_given}
+use Rattle.realm_inbox.proofs.SeatLineSteps.{exchanged, told_next_exchanged, told_homed_exchanged, told_behind_exchanged, all_given}
 use Rattle.realm_inbox.proofs.StepEffects.{receipt_told}
 use Rattle.realm_inbox.proofs.ends.Inbox.take_beside.Goals as goal
 
@@ -34,13 +34,13 @@ invariant_of-self-2 g c =
     let v = view i.pass in
     let w = view c.receive.new.reading in
     let t = receipt_told i.next v w c.in-Ok.taken i.reads c.in-Ok.ensures.found in
-    let now = waiting c.exchange-first.new.self in
+    let now = waiting c.exchange-place.new.self in
     let longer = c.add.ensures ∙ ap (λ x. items_of i.given ++ x ∷ []) c.of.ensures in
     record {
       at = c.receive.ensures.reading;
       reads = t.0;
       dealt = ∥∥₁_map i.dealt (λ d. subst (λ h. IsDealt h (received_in w) (items_of c.add.new.self) now) (sym t.4)
-          (exchanged (home_in v) (received_in v) (received_in w) (items_of i.given) (waiting i.lines) now (place_of_post c.in-Ok.taken) c.in-Ok.taken c.exchange-first.result t.1 t.2 t.3 c.exchange-first.ensures d (items_of c.add.new.self) longer));
+          (exchanged (home_in v) (received_in v) (received_in w) (items_of i.given) (waiting i.lines) now c.exchange-place.result.0 c.in-Ok.taken c.exchange-place.result.1 t.1 t.2 t.3 t.5 c.exchange-place.ensures.first d (items_of c.add.new.self) longer));
     }
 
 pub returns-clause-given : goal.returns-clause-given
@@ -52,7 +52,7 @@ returns-clause-in_turn g c =
     let v = view i.pass in
     let w = view c.receive.new.reading in
     let t = receipt_told i.next v w c.in-Ok.taken i.reads c.in-Ok.ensures.found in
-    told_next_exchanged g.row.S (home_in v) (received_in v) (items_of i.given) (received_in w) (waiting i.lines) (waiting c.exchange-first.new.self) (place_of_post c.in-Ok.taken) c.in-Ok.taken c.exchange-first.result t.1 t.2 t.3 c.exchange-first.ensures i.dealt
+    told_next_exchanged g.row.S (home_in v) (received_in v) (items_of i.given) (received_in w) (waiting i.lines) (waiting c.exchange-place.new.self) c.exchange-place.result.0 c.in-Ok.taken c.exchange-place.result.1 t.1 t.2 t.3 t.5 c.exchange-place.ensures.first i.dealt
 
 pub returns-clause-home : goal.returns-clause-home
 returns-clause-home g c =
@@ -60,7 +60,15 @@ returns-clause-home g c =
     let v = view i.pass in
     let w = view c.receive.new.reading in
     let t = receipt_told i.next v w c.in-Ok.taken i.reads c.in-Ok.ensures.found in
-    told_homed_exchanged g.row.S (home_in v) (received_in v) (items_of i.given) (received_in w) (waiting i.lines) (waiting c.exchange-first.new.self) (place_of_post c.in-Ok.taken) c.in-Ok.taken c.exchange-first.result t.1 t.2 t.3 c.exchange-first.ensures i.dealt
+    told_homed_exchanged g.row.S (home_in v) (received_in v) (items_of i.given) (received_in w) (waiting i.lines) (waiting c.exchange-place.new.self) c.exchange-place.result.0 c.in-Ok.taken c.exchange-place.result.1 t.1 t.2 t.3 t.5 c.exchange-place.ensures.first i.dealt
+
+pub returns-clause-behind : goal.returns-clause-behind
+returns-clause-behind g c =
+    let i = c.args.self.now in
+    let v = view i.pass in
+    let w = view c.receive.new.reading in
+    let t = receipt_told i.next v w c.in-Ok.taken i.reads c.in-Ok.ensures.found in
+    told_behind_exchanged g.row.S (home_in v) (received_in v) (items_of i.given) (received_in w) (waiting i.lines) (waiting c.exchange-place.new.self) c.exchange-place.result.0 c.in-Ok.taken c.exchange-place.result.1 t.1 t.2 t.3 t.5 c.exchange-place.ensures.first i.dealt c.exchange-place.ensures.last
 
 pub returns-clause-same : goal.returns-clause-same
 returns-clause-same g c =

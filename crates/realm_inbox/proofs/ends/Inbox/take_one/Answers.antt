@@ -31,5 +31,5 @@ invariant_of-self-2 g c =
       at = c.try_recv_as.ensures.channel.0;
       reads = t.0;
       dealt = ∥∥₁_map i.dealt (λ d. subst (λ h. IsDealt h (received_in w) (items_of i.given) (waiting c.add.new.self)) (sym t.4)
-          (taken_in (home_in v) (received_in v) (items_of i.given) (received_in w) c.in-Ok.taken t.1 t.2 t.3 (waiting i.lines) (waiting c.add.new.self) d c.add.ensures));
+          (taken_in (home_in v) (received_in v) (items_of i.given) (received_in w) c.in-Ok.taken t.1 t.2 t.3 t.5 (waiting i.lines) (waiting c.add.new.self) d c.add.ensures));
     }

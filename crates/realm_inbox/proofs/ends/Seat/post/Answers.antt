@@ -1,5 +1,7 @@
-use Rattle.std.proofs.Common.{[], ◌∷◌, ◌++◌, refl, sym, ap, ◌∙◌}
+use Rattle.std.proofs.Common.{◌+◌, [], ◌∷◌, ◌++◌, length, length-append, refl, sym, ap, ◌∙◌}
+use Rattle.crossbeam_channel.specs.Claims.{view}
 use Rattle.ghost_state.specs.GhostList.{items_of}
+use Rattle.realm_inbox.specs.Ends.{posted_in}
 use Rattle.realm_inbox.proofs.StepEffects.{posts_by, post_told}
 use Rattle.realm_inbox.proofs.ends.Seat.post.Goals as goal
 
@@ -14,6 +16,7 @@ invariant_of-self g c =
       in_range = p.in_range;
       at = c.send_quietly.ensures.channel.0;
       sits = t.0;
+      counted = c.tick.ensures ∙ ap (λ n. n + 1) p.counted ∙ sym (length-append (posted_in (view p.pass)) ((c.args.conn, c.args.act) ∷ [])) ∙ ap length (sym t.1);
       told = c.add.ensures ∙ ap (λ x. items_of p.past ++ x ∷ []) c.of-last.ensures ∙ ap (λ l. l ++ (c.args.conn, c.args.act) ∷ []) p.told ∙ sym t.1;
     }
 

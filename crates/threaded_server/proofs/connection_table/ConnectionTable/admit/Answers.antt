@@ -5,11 +5,13 @@ use Rattle.threaded_server.proofs.Numbering.{back_numbered, over_numbered, seat_
 use Rattle.threaded_server.proofs.RealmSteps.{takes_long}
 use Rattle.threaded_server.proofs.RosterSteps.{seated_before}
 use Rattle.threaded_server.proofs.SeatSteps.{free_place, seat_given, seat_kept, still_seated}
-use Rattle.threaded_server.proofs.TableStanding.{back_standing, ended_standing, posters_there, reader_left, seat_asks, seat_standing, taken_at, untouched_standing}
+use Rattle.threaded_server.proofs.StoppingLemmas.{doors_after, over_covers, same_cover}
+use Rattle.threaded_server.proofs.TableStanding.{back_standing, ended_shown, reader_doors, ended_standing, posters_there, reader_left, seat_asks, seat_standing, taken_at, untouched_standing}
 use Rattle.threaded_server.proofs.TableSteps.{lent_on, seated_adds, untouched_adds}
 use Rattle.broker_threads.specs.Courses.{seen_of}
 use Rattle.threaded_server.specs.Overs.{Found, Went}
-use Rattle.threaded_server.specs.Posters.{AreAt, AreOf, lists_of}
+use Rattle.threaded_server.specs.Posters.{AreAt, AreOf, PutsBack, lists_of, traces}
+use Rattle.threaded_server.specs.Stopping.{doors_of}
 use Rattle.threaded_server.specs.Realms.{places_of, realms_of}
 use Rattle.threaded_server.specs.Roster.{halves_of}
 use Rattle.broker_threads.specs.Streams.{Reads, offer_of, sight}
@@ -28,6 +30,8 @@ invariant_of-self g c =
       numbered = took_numbered table.seats c.take.new.self c.take.result table.roster.entries.items (items_of table.roster.over.streams) c.take.ensures.ok c.take.ensures.err table.numbered;
       seated = still_seated table.seats c.take.new.self table.roster.entries.items table.roster.entries.items (items_of table.roster.lent) (items_of table.roster.lent) c.in_default.ensures.err refl refl table.seated;
       kept = table.kept;
+      in_order = table.in_order;
+      shown = table.shown;
       began = table.began;
     }
 
@@ -64,6 +68,8 @@ invariant_of-self-in-Runs g c =
       seated = seat_given table.seats c.take.new.self conn table.roster.entries.items c.seat.new.self.entries.items (items_of table.roster.lent) (items_of c.seat.new.self.lent) (halves_of c.in-Runs.entry) c.seat_index-place.result c.in-Runs.entry table.numbered.long c.in-Ok.ensures.ok c.seat_index-place.ensures
           c.in-Runs.ensures.1.number c.seat.ensures.entries c.seat.ensures.lent table.seated;
       kept = s.kept;
+      in_order = table.in_order;
+      shown = same_cover (items_of table.roster.over.streams) (items_of c.seat.new.self.over.streams) (doors_of table.doors) c.seat.ensures.over table.shown;
       began = s.began;
     }
 
@@ -81,12 +87,19 @@ pass-requires-clause-found g c κs within =
     let roster = c.args.self.now.roster in
     subst (λ o. Found (items_of roster.lent ++ c.in-Ended.halves.value ∷ []) (length (items_of roster.over.streams)) o) (sym c.of-in-Ended.ensures) tt
 
-pub take_in-gone-requires-after_bounds : goal.take_in-gone-requires-after_bounds
-take_in-gone-requires-after_bounds g c κs within =
+pub take_in-gone-requires-clause-seen : goal.take_in-gone-requires-clause-seen
+take_in-gone-requires-clause-seen g c κs within =
     let table = c.args.self.now in
     let places = places_of (realms_of c.args.self.now.realms) in
     let at = taken_at places c.in-Ok.conn (lists_of table.posters) (lists_of c.take-posters.new.self) c.take-posters.result.items c.take-posters.ensures table.free in
     reader_left (sight g.I.Source.seen g.O.Sink.seen) (realms_of table.realms) c.in-Ended.began.value c.in-Ended.ended c.in-Ended.ensures.2 (subst (λ l. AreAt places l) (sym c.in-Ended.ensures.1.posts) at.0)
+
+pub see-requires-clause-inboxes : goal.see-requires-clause-inboxes
+see-requires-clause-inboxes g c κs within =
+    let table = c.args.self.now in
+    let places = places_of (realms_of table.realms) in
+    let at = taken_at places c.in-Ok.conn (lists_of table.posters) (lists_of c.take-posters.new.self) c.take-posters.result.items c.take-posters.ensures table.free in
+    reader_doors (sight g.I.Source.seen g.O.Sink.seen) (realms_of table.realms) (doors_of table.doors) c.in-Ended.began.value c.in-Ended.ended table.in_order c.in-Ended.ensures.2 (subst (λ l. AreAt places l) (sym c.in-Ended.ensures.1.posts) at.0)
 
 pub invariant_of-self-in-Ended : goal.invariant_of-self-in-Ended
 invariant_of-self-in-Ended g c =
@@ -95,9 +108,13 @@ invariant_of-self-in-Ended g c =
     let number = taken_numbered table.seats c.take.new.self c.in-Ok.conn table.roster.entries.items (items_of table.roster.over.streams) c.in-Ok.ensures.ok table.numbered in
     let free = free_place table.seats c.take.new.self conn table.roster.entries.items (items_of table.roster.lent) c.seat_index-place.result c.in-Ok.ensures.ok c.seat_index-place.ensures table.seated in
     let same = ap (λ v. v.items) c.pass.ensures.entries in
+    let took = c.take_in-gone.ensures in
+    let saw = c.see.ensures in
+    let put : PutsBack c.seat_index-place.result c.in-Ended.ended.posters.items (lists_of c.take-posters.new.self) (lists_of c.take_in-gone.new.posters) = record { back = c.see.new.posters.items; same = saw.traces; put = took.posters } in
     let s = ended_standing (sight g.I.Source.seen g.O.Sink.seen) table.roster.over.plan c.pass.new.self.over.plan (realms_of table.realms) (realms_of c.take_in-gone.new.realms) conn c.take-posters.result.items (lists_of table.posters) (lists_of c.take-posters.new.self) (lists_of c.take_in-gone.new.posters)
     table.roster.entries.items c.pass.new.self.entries.items (items_of table.roster.over.streams) (items_of c.pass.new.self.over.streams) c.seat_index-place.result c.in-Ended.began c.of.result c.in-Ended.ended c.of-in-Ended.result.value c.take-posters.ensures c.seat_index-place.ensures
-    c.in-Ended.ensures.1.number c.in-Ended.ensures.1.posts c.pass.ensures.plan same c.pass.ensures.over c.of-in-Ended.ensures c.of.ensures c.in-Ended.ensures.2 c.take_in-gone.ensures.realms c.take_in-gone.ensures.posters (record { free = table.free; served = table.served; say = table.say; kept = table.kept; began = table.began }) in
+    c.in-Ended.ensures.1.number c.in-Ended.ensures.1.posts c.pass.ensures.plan same c.pass.ensures.over c.of-in-Ended.ensures c.of.ensures c.in-Ended.ensures.2 took.realms put (record { free = table.free; served = table.served; say = table.say; kept = table.kept; began = table.began }) in
+    let in_order = doors_after (realms_of table.realms) (realms_of c.take_in-gone.new.realms) (seen_of c.in-Ended.ended.course) (traces c.in-Ended.ended.posters.items) (doors_of table.doors) (doors_of c.see.new.self) took.realms saw.seen table.in_order in
     record {
       same = table.same ∙ ap (λ p. p.value) (sym c.pass.ensures.plan);
       free = s.free;
@@ -108,6 +125,10 @@ invariant_of-self-in-Ended g c =
           c.pass.ensures.over c.of-in-Ended.ensures c.in-Ended.ensures.1.number number.1 number.0);
       seated = seat_kept table.seats c.take.new.self c.vacate.new.seats conn table.roster.entries.items c.pass.new.self.entries.items (items_of table.roster.lent) (items_of c.pass.new.self.lent) c.in-Ended.halves.value table.numbered.long c.in-Ok.ensures.ok c.vacate.ensures same c.pass.ensures.lent table.seated;
       kept = s.kept;
+      in_order = in_order;
+      shown = ended_shown c.pass.new.self.over.plan (realms_of table.realms) (realms_of c.take_in-gone.new.realms) conn c.take-posters.result.items (lists_of table.posters) (lists_of c.take-posters.new.self) (lists_of c.take_in-gone.new.posters) c.pass.new.self.entries.items (items_of table.roster.over.streams)
+          (items_of c.pass.new.self.over.streams) c.seat_index-place.result c.in-Ended.began c.of.result c.in-Ended.ended c.of-in-Ended.result.value (doors_of table.doors) (doors_of c.see.new.self) c.take-posters.ensures c.seat_index-place.ensures c.in-Ended.ensures.1.posts c.pass.ensures.over c.of-in-Ended.ensures put
+          table.free s saw.seen in_order table.shown;
       began = s.began;
     }
 
@@ -130,6 +151,8 @@ invariant_of-self-in-Refused g c =
           (over_numbered c.take.new.self table.roster.entries.items c.let_go-gone.new.self.entries.items (items_of table.roster.over.streams) (items_of c.let_go-gone.new.self.over.streams) (Untouched c.let_go-gone.ensures.over.shown) same c.let_go-gone.ensures.over.added refl number.0);
       seated = seat_kept table.seats c.take.new.self c.vacate-in-Refused.new.seats conn table.roster.entries.items c.let_go-gone.new.self.entries.items (items_of table.roster.lent) (items_of c.let_go-gone.new.self.lent) c.in-Refused.halves table.numbered.long c.in-Ok.ensures.ok c.vacate-in-Refused.ensures same c.let_go-gone.ensures.lent table.seated;
       kept = s.kept;
+      in_order = table.in_order;
+      shown = over_covers (items_of table.roster.over.streams) (items_of c.let_go-gone.new.self.over.streams) (Untouched c.let_go-gone.ensures.over.shown) (doors_of table.doors) c.let_go-gone.ensures.over.added (λ realm number. refl) table.shown;
       began = s.began;
     }
 
@@ -143,6 +166,9 @@ returns-in-Ended-clause-lent g c =
 
 pub returns-in-Ended-clause-realms : goal.returns-in-Ended-clause-realms
 returns-in-Ended-clause-realms g c = takes_long (realms_of c.args.self.now.realms) (seen_of c.in-Ended.ended.course) (realms_of c.take_in-gone.new.realms) c.take_in-gone.ensures.realms
+
+pub returns-in-Ended-clause-stops : goal.returns-in-Ended-clause-stops
+returns-in-Ended-clause-stops g c = c.see.ensures.seen.stops
 
 pub returns-in-Ended-clause-over : goal.returns-in-Ended-clause-over
 returns-in-Ended-clause-over g c =

@@ -2,10 +2,12 @@ use Rattle.std.proofs.Common.{sym, ap, ◌∙◌, refl}
 use Rattle.ghost_state.specs.GhostList.{items_of}
 use Rattle.threaded_server.proofs.Numbering.{over_numbered}
 use Rattle.threaded_server.proofs.SeatSteps.{more_lent}
+use Rattle.threaded_server.proofs.StoppingLemmas.{over_covers}
 use Rattle.threaded_server.proofs.TableStanding.{untouched_standing}
 use Rattle.threaded_server.proofs.TableSteps.{untouched_adds}
 use Rattle.threaded_server.specs.Posters.{lists_of}
 use Rattle.threaded_server.specs.Realms.{realms_of}
+use Rattle.threaded_server.specs.Stopping.{doors_of}
 use Rattle.threaded_server.specs.declared.over.Over.TheVariants.{Untouched}
 use Rattle.threaded_server.proofs.connection_table.ConnectionTable.let_go.Goals as goal
 
@@ -27,5 +29,7 @@ invariant_of-self g c =
       numbered = over_numbered table.seats table.roster.entries.items c.let_go.new.self.entries.items (items_of table.roster.over.streams) (items_of c.let_go.new.self.over.streams) (Untouched c.let_go.ensures.over.shown) same c.let_go.ensures.over.added refl table.numbered;
       seated = more_lent table.seats table.roster.entries.items c.let_go.new.self.entries.items (items_of table.roster.lent) (items_of c.let_go.new.self.lent) c.args.halves same c.let_go.ensures.lent table.seated;
       kept = s.kept;
+      in_order = table.in_order;
+      shown = over_covers (items_of table.roster.over.streams) (items_of c.let_go.new.self.over.streams) (Untouched c.let_go.ensures.over.shown) (doors_of table.doors) c.let_go.ensures.over.added (λ realm number. refl) table.shown;
       began = s.began;
     }

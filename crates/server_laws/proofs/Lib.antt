@@ -1,0 +1,4 @@
+pub mod Leaving
+pub mod Posting
+pub mod Whole
+pub mod WholeSteps

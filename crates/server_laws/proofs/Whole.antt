@@ -1,0 +1,92 @@
+-- A client's whole session.
+use Rattle.std.proofs.Common.{◌≡◌, ◌⊎◌, ◌<◌, ◌-◌, ◌%◌, ℕ, true, false, List, [], ◌∷◌, ◌++◌, Some, All, slice_get, refl, sym, ap, ◌∙◌, subst, append_assoc, arith, inl, inr}
+use Rattle.std.specs.List.{list_any}
+use Rattle.std.proofs.lemmas.Option.{get_or_from_slice_get, slice_get_within}
+use mathlib.Core.List.{IsPrefix}
+use Rattle.broker_threads.specs.Streams.{Offer, Sight}
+use Rattle.broker_threads.specs.Talks.{start_of}
+use Rattle.broker_threads.specs.declared.stream_fate.SessionEnds.{SessionEnds}
+use Rattle.connection.specs.Reader.{IsReadBy}
+use Rattle.connection.specs.declared.reader.ReadEnd.{ReadEnd}
+use Rattle.connection.specs.declared.reader.ReadEnd.TheVariants as read_end
+use Rattle.rawsocket.specs.Frames.{fault_of}
+use Rattle.realm.specs.History.{History}
+use Rattle.realm.specs.Yield.{owed}
+use Rattle.realm_inbox.proofs.Lemmas.{at_seat_append}
+use Rattle.realm_inbox.specs.Seats.{at_seat}
+use Rattle.realm_inbox.specs.declared.act.Act as the
+use Rattle.realm_inbox.specs.declared.letter.Post.TheVariants.{Stop}
+use Rattle.server_laws.proofs.Leaving.{join_first, left_by}
+use Rattle.server_laws.proofs.Posting.{acts_said, posted_whole, posts_there, until_first}
+use Rattle.server_laws.proofs.WholeSteps.{AreInTurn, Went, acts_of, went_whole}
+use Rattle.server_laws.specs.WholeSessions.{IsAnswered, IsWelcomed, until_last, HasNotJoined, SessionsGoWhole, WasCut, WentWhole, is_last}
+use Rattle.threaded_server.specs.Histories.{IsMade, IsRealm, Realm, Start, until_stop}
+use Rattle.threaded_server.specs.Lending.{Lending}
+use Rattle.threaded_server.specs.Served.{IsSession, LentStream, Served}
+use Rattle.threaded_server.specs.Sessions.{SaysSome}
+use Rattle.threaded_server.specs.declared.answer.Answer.{Answer}
+use Rattle.wamp_ids.specs.Numbers.{seat_of}
+use Rattle.wamp_messages.specs.declared.item.Item.{Item}
+
+all_at : {A : Type 0} (P : A → Type 0) (xs : List A) (i : ℕ) (x : A) → All P xs → slice_get xs i ≡ Some x → P x
+all_at P xs i x h at = subst P (get_or_from_slice_get xs i x x at) (h i x (slice_get_within xs i x at))
+
+module _ {S : Type 0} where
+  -- a session that left posted its acts in turn, and something after which nothing more counts
+  pub record Said (posted : List (the.Act S)) : Type 0 where
+    pub in_turn : AreInTurn posted
+    pub last : list_any is_last posted ≡ true
+
+  went_so : (c : ℕ) (posted : List (the.Act S)) (h : History) (items : List Item) → list_any is_last posted ≡ true → items ≡ owed h c → Went c posted h → WentWhole c posted h items ⊎ (WasCut c posted h ⊎ HasNotJoined h c)
+  went_so c posted h items last all (Went.before none nothing unowed dead) = absurd (let apart : false ≡ true = sym (ap (list_any is_last) none) ∙ last in cc)
+  went_so c posted h items last all (Went.serves some enter hail going alive) = absurd (let apart : false ≡ true = sym going ∙ last in cc)
+  went_so c posted h items last all (Went.ended enter hail bye done dead) = inl (record { over = done; entered = enter; welcomed = subst IsWelcomed (sym all) hail; answered = subst (λ l. IsAnswered (until_last posted) l) (sym all) bye })
+  went_so c posted h items last all (Went.cut w dead) = inr (inl w)
+  went_so c posted h items last all (Went.never some none dead) = inr (inr none)
+
+module _ {I O S : Type 0} where
+  said_whole : (see : Sight I O) (offer : Offer) (realms : List (Realm S)) (s : LentStream I O S) (conn : ℕ) (ends : SessionEnds) → IsSession see offer realms s conn ends → ends.read ≡ read_end.Left → Said s.posted
+  said_whole see offer realms s conn ends h is = by_says h.says
+    where
+      by_says : SaysSome see.reading h.hello h.join h.source s.back.source ends.read s.posted → Said s.posted
+      by_says (inl r) =
+          let read = subst (λ (end : ReadEnd). IsReadBy (start_of h.hello) end r.octets r.acts) is r.says in
+          let begun = start_of h.hello in
+          let left = left_by begun.serializer (fault_of begun.most read.all.new) (begun.early ++ read.all.frames) r.acts read.all.posts in
+          record { in_turn = join_first h.join s.posted r.acts r.posted_are left.no_join; last = ap (list_any is_last) r.posted_are ∙ left.last }
+      by_says (inr n) = absurd (by_end n.2)
+        where
+          by_end : (ends.read ≡ read_end.ActorGone) ⊎ (ends.read ≡ read_end.NoMemory) → ⊥
+          by_end (inl e) = let apart : read_end.Left ≡ read_end.ActorGone = sym is ∙ e in cc
+          by_end (inr e) = let apart : read_end.Left ≡ read_end.NoMemory = sym is ∙ e in cc
+
+  -- what it posted is what its connection posted before the first stop
+  acts_whole : (see : Sight I O) (offer : Offer) (start : Start) (before now : List Answer) (was lending : Lending I O) (asked : ℕ) (served : Served S see offer start before now was lending asked) (i : ℕ) (s : LentStream I O S) (conn : ℕ) (realm : Realm S)
+      → slice_get served.early i ≡ Some s → s.conn ≡ Some conn → slice_get served.realms s.realm ≡ Some realm → (made : IsMade start realm.received realm.history) → acts_of conn made.until ≡ s.posted
+  acts_whole see offer start before now was lending asked served i s conn realm at is named made =
+      acts_said conn made.until ∙ posted_whole s.realm conn served.early served.streams i s (at_seat (seat_of conn) made.until) (at_seat (seat_of conn) (Stop made.halt ∷ made.first.0)) at is refl served.early_are served.numbers handled received
+    where
+      within : (conn - 1) % 256 < 256
+      within = omega arith
+
+      came : realm.received ≡ made.until ++ Stop made.halt ∷ made.first.0
+      came = sym made.first.1 ∙ append_assoc made.until (Stop made.halt ∷ []) made.first.0
+
+      handled : IsPrefix (posts_there s.realm (seat_of conn) served.early) (at_seat (seat_of conn) made.until)
+      handled = subst (λ ps. IsPrefix (posts_there s.realm (seat_of conn) served.early) (at_seat (seat_of conn) ps)) (ap (λ ps. until_stop ps) came ∙ until_first made.until made.first.0 made.halt made.no_stop) (served.handled s.realm ((conn - 1) % 256) realm named within)
+
+      received : at_seat (seat_of conn) made.until ++ at_seat (seat_of conn) (Stop made.halt ∷ made.first.0) ≡ posts_there s.realm (seat_of conn) served.streams
+      received = sym (at_seat_append (seat_of conn) made.until (Stop made.halt ∷ made.first.0)) ∙ ap (λ ps. at_seat (seat_of conn) ps) (sym came) ∙ served.received s.realm ((conn - 1) % 256) realm named within
+
+  pub sessions_go_whole : SessionsGoWhole I O S
+  sessions_go_whole see offer start before now was lending asked served i s conn ends at is h left stopped =
+      (h.whole stopped, went_so conn s.posted h.realm.history h.items said.last (h.whole stopped) (subst (λ acts. Went conn acts h.realm.history) acts (went_whole conn start.grants made.until (made.until ++ Stop made.halt ∷ []) made.halt h.realm.history (subst AreInTurn (sym acts) said.in_turn) (ap (list_any is_last) acts ∙ said.last) made.no_stop refl made.made made.legal)))
+    where
+      made : IsMade start h.realm.received h.realm.history
+      made = all_at (λ (realm : Realm S). IsRealm start realm) served.realms h.hello.realm h.realm served.histories h.named
+
+      said : Said s.posted
+      said = said_whole see offer served.realms s conn ends h left
+
+      acts : acts_of conn made.until ≡ s.posted
+      acts = acts_whole see offer start before now was lending asked served i s conn h.realm at is (ap (slice_get served.realms) h.there ∙ h.named) made

@@ -1,0 +1,11 @@
+use Rattle.std.proofs.Common.{◌≤◌, drop, length}
+use Rattle.wamp_ids.specs.Uri.{components}
+use Rattle.wamp_ids.specs.Pattern.{fits}
+use Rattle.subscription_index.proofs.PiecesLemmas.{Going}
+use Rattle.subscription_index.proofs.deep.fits_pieces.Given as goal
+
+abbrev pub invariant-loop-index : goal.invariant-loop-index
+invariant-loop-index l = record {
+  within : l.place ≤ length (components l.fn.topic);
+  going : Going (drop l.index l.deep.pieces.items) l.rest (drop l.place (components l.fn.topic)) (fits (components l.fn.text) (components l.fn.topic));
+}
