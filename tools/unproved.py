@@ -83,10 +83,16 @@ def say(begun):
 
 def start(port, log):
     """Starts `rt try`, out of reach of the terminal's Ctrl-C, since it ends everything below it when it is told once; and is told so if we are killed."""
-    libc = ctypes.CDLL(None)
+    libc, parent = ctypes.CDLL(None), os.getpid()
+
+    def ends_with_us():
+        libc.prctl(SET_PDEATHSIG, signal.SIGTERM)
+        if os.getppid() != parent:
+            os._exit(1)
+
     words = ["rt", "try", "--", "subscribe", "--port", str(port), "a", "a"]
     how = {"cwd": f"{ROOT}/crates/{built.NAME}", "env": {**os.environ, "TMPDIR": ROOM}, "stdin": subprocess.DEVNULL, "stdout": log, "stderr": log}
-    return subprocess.Popen(words, start_new_session=True, preexec_fn=lambda: libc.prctl(SET_PDEATHSIG, signal.SIGTERM), **how)
+    return subprocess.Popen(words, start_new_session=True, preexec_fn=ends_with_us, **how)
 
 
 def end(tried):
