@@ -8,12 +8,13 @@ use Rattle.connection.specs.Watch.{Notice, Taken, Written, GivenUp, notices_of, 
 use Rattle.connection.specs.body.Watch.{IsWhy, GivesUp}
 use Rattle.connection.specs.body.Writer.{Output, EndsBetween, EndsWith}
 use Rattle.connection.specs.declared.writer.WriteEnd.{WriteEnd}
-use Rattle.connection.specs.declared.writer.WriteEnd.TheVariants.{Stopped, Full, Dropped, Device, TooLong, NoMemory, TooManyTurns}
+use Rattle.connection.specs.declared.writer.WriteEnd.TheVariants.{Stopped, Full, Lost, Dropped, Device, TooLong, NoMemory, TooManyTurns}
 
 -- an item is given up
 pub gives_up : (f : Fault) (end : WriteEnd) (item : Item) (told now : List Notice) (before : Output) (written : List ℕ) → EndsWith f end before written → now ≡ told ++ GivenUp item f ∷ [] → GivesUp end item told now
 gives_up f Stopped item told now before written e is = absurd e
 gives_up f Full item told now before written e is = absurd e
+gives_up f Lost item told now before written e is = absurd e
 gives_up f Dropped item told now before written e is = absurd e
 gives_up f TooLong item told now before written e is = record { fault = Some f; why = ap Some e.0; told = is }
 gives_up f NoMemory item told now before written e is = record { fault = Some f; why = ap Some e.0; told = is }
@@ -23,6 +24,7 @@ gives_up f TooManyTurns item told now before written e is = record { fault = Som
 none_in_hand : (end : WriteEnd) (before : Output) (now : List ℕ) → EndsBetween end before now → AreToldBy end [] []
 none_in_hand Stopped before now e = refl
 none_in_hand Full before now e = refl
+none_in_hand Lost before now e = refl
 none_in_hand Dropped before now e = refl
 none_in_hand TooLong before now e = absurd e
 none_in_hand NoMemory before now e = absurd e
@@ -37,6 +39,7 @@ ends_untold end taken later told before now took e =
 last_untold : (end : WriteEnd) (item : Item) (fault : Option Fault) → IsWhy end fault → AreToldBy end (item ∷ []) (Taken item ∷ given_up item fault)
 last_untold Stopped item fault why = absurd why
 last_untold Full item fault why = absurd why
+last_untold Lost item fault why = absurd why
 last_untold Dropped item fault why = absurd why
 last_untold TooLong item fault why = record { written = []; last = item; items_are = refl; notices_are = ap (λ f. Taken item ∷ given_up item f) why }
 last_untold NoMemory item fault why = record { written = []; last = item; items_are = refl; notices_are = ap (λ f. Taken item ∷ given_up item f) why }
@@ -75,6 +78,7 @@ so_far a b x y p (inr q) = inr (q.0, but_last q.0 a b x y p q.1)
 joined : (end : WriteEnd) (a b : List Item) (x y : List Notice) → AreTold a x → AreToldBy end b y → AreToldBy end (a ++ b) (x ++ y)
 joined Stopped a b x y p q = both a b x y p q
 joined Full a b x y p q = both a b x y p q
+joined Lost a b x y p q = both a b x y p q
 joined Dropped a b x y p q = both a b x y p q
 joined TooLong a b x y p q = but_last (Some fault.TooLongForClient) a b x y p q
 joined NoMemory a b x y p q = but_last (Some fault.NoMemory) a b x y p q

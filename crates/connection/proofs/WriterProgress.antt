@@ -12,7 +12,7 @@ use Rattle.connection.specs.Writer.{IsWritable, frames_of, IsWhole, LacksLast, I
 use Rattle.connection.specs.body.Writer.{output, Passes, HandsOver, IsOfDevice, EndsBetween, EndsWith, StopsAt, EndsFrom, BreaksAt}
 use Rattle.connection.specs.declared.writer.ClientTerms.{ClientTerms}
 use Rattle.connection.specs.declared.writer.WriteEnd.{WriteEnd}
-use Rattle.connection.specs.declared.writer.WriteEnd.TheVariants.{Stopped, Full, Dropped, Device, TooLong, NoMemory, TooManyTurns}
+use Rattle.connection.specs.declared.writer.WriteEnd.TheVariants.{Stopped, Full, Lost, Dropped, Device, TooLong, NoMemory, TooManyTurns}
 
 module _ (client : ClientTerms) where
   pub none_so_far : (taken : List Item) (written held : List ℕ) → held ≡ [] → WritesSince taken taken written written (Passes client [] held)
@@ -33,6 +33,7 @@ module _ (client : ClientTerms) where
   between : (end : WriteEnd) (before now held : List ℕ) → length held < 65536 → EndsBetween end (output before held) now → (octets : List ℕ) × (now ≡ before ++ octets) × EndsFrom client end held [] octets
   between Stopped before now held short e = (held, e, (refl, refl))
   between Full before now held short e = (held, e, (refl, refl))
+  between Lost before now held short e = (held, e, (refl, refl))
   between Dropped before now held short e = (held, e, (refl, refl))
   between Device before now held short g = (take g.0 held, g.2, begun_before held before now [] (omega arith) short g)
   between TooLong before now held short e = absurd e
@@ -51,6 +52,7 @@ module _ (client : ClientTerms) where
       → EndsWith f end (output before held) now → BreaksAt client end item (output before held) now
   breaks_at f Stopped item before now held short long e = absurd e
   breaks_at f Full item before now held short long e = absurd e
+  breaks_at f Lost item before now held short long e = absurd e
   breaks_at f Dropped item before now held short long e = absurd e
   breaks_at f TooLong item before now held short long e =
       record { octets = held; wrote = e.1; ends = record { item = item; items_are = refl; octets_are = refl; ends = (refl, long e.0) } }
@@ -80,6 +82,7 @@ module _ (client : ClientTerms) where
       → length held_before < 65536 → GrowsByBeginning before now held → BreaksAt client end item (output before held_before) now
   breaks_by_device Stopped item before now held_before held is made writable short g = absurd is
   breaks_by_device Full item before now held_before held is made writable short g = absurd is
+  breaks_by_device Lost item before now held_before held is made writable short g = absurd is
   breaks_by_device Dropped item before now held_before held is made writable short g = absurd is
   breaks_by_device TooLong item before now held_before held is made writable short g = absurd is
   breaks_by_device NoMemory item before now held_before held is made writable short g = absurd is
@@ -111,6 +114,7 @@ module _ (client : ClientTerms) where
       → EndsFrom client end held_before items (front ++ octets)
   end_behind Stopped front held_before held items octets is e = (e.0, ap (λ o. front ++ o) e.1 ∙ is)
   end_behind Full front held_before held items octets is e = (e.0, ap (λ o. front ++ o) e.1 ∙ is)
+  end_behind Lost front held_before held items octets is e = (e.0, ap (λ o. front ++ o) e.1 ∙ is)
   end_behind Dropped front held_before held items octets is e = (e.0, ap (λ o. front ++ o) e.1 ∙ is)
   end_behind TooLong front held_before held items octets is e = record { item = e.item; items_are = e.items_are; octets_are = ap (λ o. front ++ o) e.octets_are ∙ is; ends = e.ends }
   end_behind NoMemory front held_before held items octets is e = record { item = e.item; items_are = e.items_are; octets_are = ap (λ o. front ++ o) e.octets_are ∙ is; ends = e.ends }
@@ -179,6 +183,7 @@ module _ (client : ClientTerms) where
   written_join : (end : WriteEnd) (held : List ℕ) (a b : List Item) (x y : List ℕ) → Passes client [] held a x → EndsFrom client end held b y → IsWrittenBy client.serializer client.limit end (a ++ b) (x ++ y)
   written_join Stopped held a b x y p q = whole_join held a b x y p q
   written_join Full held a b x y p q = whole_join held a b x y p q
+  written_join Lost held a b x y p q = whole_join held a b x y p q
   written_join Dropped held a b x y p q = whole_join held a b x y p q
   written_join TooLong held a b x y p q = lacks (IsRefused client.serializer client.limit) held a b x y p q
   written_join NoMemory held a b x y p q = lacks IsMissing held a b x y p q

@@ -45,6 +45,7 @@ AreToldSoFar items notices = AreTold items notices ⊎ ((fault : Option Fault) �
 abbrev pub AreToldBy : WriteEnd → List Item → List Notice → Type 0
 AreToldBy end.Stopped items notices = AreTold items notices
 AreToldBy end.Full items notices = AreTold items notices
+AreToldBy end.Lost items notices = AreTold items notices
 AreToldBy end.Dropped items notices = AreTold items notices
 AreToldBy end.TooLong items notices = AreToldButLast (Some fault.TooLongForClient) items notices
 AreToldBy end.NoMemory items notices = AreToldButLast (Some fault.NoMemory) items notices

@@ -10,7 +10,7 @@ use Rattle.outbox_queue.specs.Ends.{Taking}
 use Rattle.outbox_queue.specs.Rule.{Grows}
 use Rattle.session.specs.ItemFrames.{octets_of, Fits, IsSpelled, IsTooLong}
 use Rattle.connection.specs.declared.writer.WriteEnd.{WriteEnd}
-use Rattle.connection.specs.declared.writer.WriteEnd.TheVariants.{Stopped, Full, Dropped, Device, TooLong, NoMemory, TooManyTurns}
+use Rattle.connection.specs.declared.writer.WriteEnd.TheVariants.{Stopped, Full, Lost, Dropped, Device, TooLong, NoMemory, TooManyTurns}
 
 -- the item can be written to a client that takes so many octets in one payload
 abbrev pub IsWritable : Serializer → ℕ → Item → Type 0
@@ -57,6 +57,7 @@ pub record IsBegun (s : Serializer) (limit : ℕ) (held_before : List ℕ) (item
 abbrev pub IsWrittenBy : Serializer → ℕ → WriteEnd → List Item → List ℕ → Type 0
 IsWrittenBy s limit Stopped items octets = IsWhole s limit items octets
 IsWrittenBy s limit Full items octets = IsWhole s limit items octets
+IsWrittenBy s limit Lost items octets = IsWhole s limit items octets
 IsWrittenBy s limit Dropped items octets = IsWhole s limit items octets
 IsWrittenBy s limit TooLong items octets = LacksLast s limit (IsRefused s limit) items octets
 IsWrittenBy s limit NoMemory items octets = LacksLast s limit IsMissing items octets

@@ -2,7 +2,7 @@
 ghost use Rattle.std.specs.Prelude.{◌≡◌, ◌≢◌, ◌≤◌, ◌<◌, ◌++◌, ◌∷◌, ◌⊎◌, [], length, IfOk, IfErr, OnOk, OnErr, Some, ⊤};
 ghost use Rattle.rawsocket.specs.Devices.{Takes, TakesBeginning};
 ghost use Rattle.rawsocket.specs.Steps.{Steps, WriteSteps, told_by, write_meter};
-ghost use Rattle.outbox_queue.specs.Ends.{TookFull, TookUnvouched, TookWhole};
+ghost use Rattle.outbox_queue.specs.Ends.{TookFull, TookLost, TookUnvouched, TookWhole};
 ghost use Rattle.outbox_queue.specs.Outbox.{MatchDrained};
 ghost use Rattle.session.specs.LargeFrames.{octets_in};
 ghost use Rattle.connection.specs.Watch.{AreTold, AreToldBy, TellsSince};
@@ -32,6 +32,8 @@ pub enum WriteEnd {
     Stopped,
     /// The same, but the outbox was found full: as many items as it holds were taken, or more, and what the history owes beside them isn't written.
     Full,
+    /// The same as for [`WriteEnd::Stopped`], but memory was refused for something of the session's, and so its realm had cut it.
+    Lost,
     /// The same as for [`WriteEnd::Stopped`], but its other end was dropped: nothing vouches for what was added.
     Dropped,
     /// The device failed. A beginning of the frames of all items is written, in which less than 65,536 octets and one frame may lack.
@@ -180,15 +182,17 @@ fn wait<R: Wait, H: Owed<Item>>(
     requires gathered { _gathered.now.frames.items ≡ [] }
     ensures took { MatchDrained result (λ item. drain.new.taken ≡ drain.old.taken ++ item ∷ [])
         (drain.new.taken ≡ drain.old.taken) (drain.new.taken ≡ drain.old.taken)
-        (drain.new.taken ≡ drain.old.taken) }
+        (drain.new.taken ≡ drain.old.taken) (drain.new.taken ≡ drain.old.taken) }
     ensures drain { IsLater H.begins drain.old drain.new }
     ensures found { MatchDrained result (λ _. ⊤) (drain.old.empty_finds < drain.new.empty_finds)
         (drain.old.empty_finds < drain.new.empty_finds)
+        (drain.old.empty_finds < drain.new.empty_finds)
         (drain.old.empty_finds < drain.new.empty_finds) }
     ensures whole { MatchDrained result (λ _. ⊤)
-        (until ≡ Until.Whole → TookWhole H.owed H.is_over drain.new)
-        ((until ≡ Until.Whole) × TookFull H.owed H.is_over drain.new)
-        ((until ≡ Until.Whole) × TookUnvouched H.owed H.is_over drain.new) }
+        (until ≡ Until.Whole → TookWhole H.owed H.is_over H.was_cut drain.new)
+        ((until ≡ Until.Whole) × TookFull H.owed H.is_over H.was_cut drain.new)
+        ((until ≡ Until.Whole) × TookLost H.owed H.is_over H.was_cut drain.new)
+        ((until ≡ Until.Whole) × TookUnvouched H.owed H.is_over H.was_cut drain.new) }
 {
     match until {
         Until::Closed => match drain.wait_next(rt) {
@@ -217,13 +221,16 @@ fn next_item<R: Wait, H: Owed<Item>, S: Sink>(
     ensures stopped { result ≡ Err WriteEnd.Stopped
         → drain.old.empty_finds < drain.new.empty_finds }
     ensures whole { result ≡ Err WriteEnd.Stopped → until ≡ Until.Whole
-        → TookWhole H.owed H.is_over drain.new }
+        → TookWhole H.owed H.is_over H.was_cut drain.new }
     ensures full { result ≡ Err WriteEnd.Full
         → (until ≡ Until.Whole) × (drain.old.empty_finds < drain.new.empty_finds)
-        × TookFull H.owed H.is_over drain.new }
+        × TookFull H.owed H.is_over H.was_cut drain.new }
+    ensures lost { result ≡ Err WriteEnd.Lost
+        → (until ≡ Until.Whole) × (drain.old.empty_finds < drain.new.empty_finds)
+        × TookLost H.owed H.is_over H.was_cut drain.new }
     ensures dropped { result ≡ Err WriteEnd.Dropped
         → (until ≡ Until.Whole) × (drain.old.empty_finds < drain.new.empty_finds)
-        × TookUnvouched H.owed H.is_over drain.new }
+        × TookUnvouched H.owed H.is_over H.was_cut drain.new }
     ensures steps { Steps (write_meter (S.seen sink.old) gathered.old.turns)
         (write_meter (S.seen sink.new) gathered.new.turns) (told_by write_told result) }
 {
@@ -238,6 +245,7 @@ fn next_item<R: Wait, H: Owed<Item>, S: Sink>(
         Drained::Item(item) => Ok(item),
         Drained::Stopped => Err(WriteEnd::Stopped),
         Drained::Full => Err(WriteEnd::Full),
+        Drained::Lost => Err(WriteEnd::Lost),
         Drained::Dropped => Err(WriteEnd::Dropped),
     }
 }
@@ -323,13 +331,16 @@ fn write_next<R: Wait, H: Owed<Item>, S: Sink, W: Watch>(
     ensures stopped { result ≡ Err WriteEnd.Stopped
         → drain.old.empty_finds < drain.new.empty_finds }
     ensures whole { result ≡ Err WriteEnd.Stopped → until ≡ Until.Whole
-        → TookWhole H.owed H.is_over drain.new }
+        → TookWhole H.owed H.is_over H.was_cut drain.new }
     ensures full { result ≡ Err WriteEnd.Full
         → (until ≡ Until.Whole) × (drain.old.empty_finds < drain.new.empty_finds)
-        × TookFull H.owed H.is_over drain.new }
+        × TookFull H.owed H.is_over H.was_cut drain.new }
+    ensures lost { result ≡ Err WriteEnd.Lost
+        → (until ≡ Until.Whole) × (drain.old.empty_finds < drain.new.empty_finds)
+        × TookLost H.owed H.is_over H.was_cut drain.new }
     ensures dropped { result ≡ Err WriteEnd.Dropped
         → (until ≡ Until.Whole) × (drain.old.empty_finds < drain.new.empty_finds)
-        × TookUnvouched H.owed H.is_over drain.new }
+        × TookUnvouched H.owed H.is_over H.was_cut drain.new }
     ensures steps { Steps (write_meter (S.seen sink.old) gathered.old.turns)
         (write_meter (S.seen sink.new) gathered.new.turns) (told_by write_told result) }
 {
@@ -365,6 +376,7 @@ pub fn write_items<R: Wait, H: Owed<Item>, S: Sink>(
     ensures drain { IsLater H.begins drain result.0 }
     ensures stopped { result.1 ≡ WriteEnd.Stopped → drain.empty_finds < result.0.empty_finds }
     ensures never_full { result.1 ≢ WriteEnd.Full }
+    ensures never_lost { result.1 ≢ WriteEnd.Lost }
     ensures never { result.1 ≢ WriteEnd.Dropped }
     ensures writes { WriteSteps (S.seen sink.old) (S.seen sink.new) (write_told result.1) }
 {
@@ -380,8 +392,9 @@ pub fn write_items<R: Wait, H: Owed<Item>, S: Sink>(
 }
 
 /// The same, while somebody watches, and until the outbox's other end came over: all that was added was taken then. Where a history came
-/// with it, that vouches for it: it ends by [`WriteEnd::Stopped`] where that is all that the history owes, and by [`WriteEnd::Full`] where
-/// the outbox was found full. Else it ends by [`WriteEnd::Dropped`].
+/// with it, that vouches for it: it ends by [`WriteEnd::Stopped`] where that is all that the history owes, by [`WriteEnd::Lost`] where the
+/// history cut the session though the outbox was never found full, and by [`WriteEnd::Full`] where it was. Else it ends by
+/// [`WriteEnd::Dropped`].
 pub fn write_watched<R: Wait, H: Owed<Item>, S: Sink, W: Watch>(
     rt: &R,
     alloc: Global,
@@ -398,11 +411,13 @@ pub fn write_watched<R: Wait, H: Owed<Item>, S: Sink, W: Watch>(
         (AreToldBy result.1) }
     ensures drain { IsLater H.begins drain result.0 }
     ensures stopped { result.1 ≡ WriteEnd.Stopped → drain.empty_finds < result.0.empty_finds }
-    ensures whole { result.1 ≡ WriteEnd.Stopped → TookWhole H.owed H.is_over result.0 }
-    ensures full { result.1 ≡ WriteEnd.Full
-        → (drain.empty_finds < result.0.empty_finds) × TookFull H.owed H.is_over result.0 }
-    ensures dropped { result.1 ≡ WriteEnd.Dropped
-        → (drain.empty_finds < result.0.empty_finds) × TookUnvouched H.owed H.is_over result.0 }
+    ensures whole { result.1 ≡ WriteEnd.Stopped → TookWhole H.owed H.is_over H.was_cut result.0 }
+    ensures full { result.1 ≡ WriteEnd.Full → (drain.empty_finds < result.0.empty_finds)
+        × TookFull H.owed H.is_over H.was_cut result.0 }
+    ensures lost { result.1 ≡ WriteEnd.Lost → (drain.empty_finds < result.0.empty_finds)
+        × TookLost H.owed H.is_over H.was_cut result.0 }
+    ensures dropped { result.1 ≡ WriteEnd.Dropped → (drain.empty_finds < result.0.empty_finds)
+        × TookUnvouched H.owed H.is_over H.was_cut result.0 }
     ensures writes { WriteSteps (S.seen sink.old) (S.seen sink.new) (write_told result.1) }
 {
     write_until(
@@ -434,13 +449,13 @@ fn write_until<R: Wait, H: Owed<Item>, S: Sink, W: Watch>(
     ensures drain { IsLater H.begins drain result.0 }
     ensures stopped { result.1 ≡ WriteEnd.Stopped → drain.empty_finds < result.0.empty_finds }
     ensures whole { result.1 ≡ WriteEnd.Stopped → until ≡ Until.Whole
-        → TookWhole H.owed H.is_over result.0 }
+        → TookWhole H.owed H.is_over H.was_cut result.0 }
     ensures full { result.1 ≡ WriteEnd.Full
         → (until ≡ Until.Whole) × (drain.empty_finds < result.0.empty_finds)
-        × TookFull H.owed H.is_over result.0 }
+        × TookFull H.owed H.is_over H.was_cut result.0 }
     ensures dropped { result.1 ≡ WriteEnd.Dropped
         → (until ≡ Until.Whole) × (drain.empty_finds < result.0.empty_finds)
-        × TookUnvouched H.owed H.is_over result.0 }
+        × TookUnvouched H.owed H.is_over H.was_cut result.0 }
     ensures writes { WriteSteps (S.seen sink.old) (S.seen sink.new) (write_told result.1) }
 {
     let mut drain = drain;

@@ -164,12 +164,13 @@ impl<T: Drop, H: Owed<T>> Producer<T, H> {
 }
 
 /// What came with the end that added: a history that vouches for what was added, if one does, how often that end had found the queue
-/// full, and whether it had at all.
+/// full, whether it had at all, and whether the connection was lost.
 #[derive(Drop)]
 pub struct Came<H> {
     history: Option<H>,
     finds: Finds,
     was_full: bool,
+    is_lost: bool,
 }
 
 /// The end that takes. Contracts see what was taken, the history seen, how often the queue was found empty, and what came with the end
@@ -202,7 +203,7 @@ impl<T, H: Owed<T>> Model for Consumer<T, H> {
       last = last_of e.came (shown e.place.pass).added;
     } };
 
-    ghost invariant = { IsTaking H.owed H.is_over H.is_of };
+    ghost invariant = { IsTaking H.owed H.is_over H.was_cut H.is_of };
 }
 
 impl<T: Drop, H: Owed<T>> Consumer<T, H> {
@@ -228,7 +229,7 @@ impl<T: Drop, H: Owed<T>> Consumer<T, H> {
     pub fn pop<R: Wait>(&mut self, rt: &R) -> Option<Stamped<T, H>>
         ensures { MatchOption result
             ((self.new ≡ record self.old { empty_finds = self.old.empty_finds + 1 })
-            × IfSome self.old.last (λ _. TookAll H.owed H.is_over self.old))
+            × IfSome self.old.last (λ _. TookAll H.owed H.is_over H.was_cut self.old))
             (λ x. TakesNote H.begins H.is_of self.old x self.new) }
     {
         if self.came.is_some() {
@@ -255,7 +256,7 @@ impl<T: Drop, H: Owed<T>> Consumer<T, H> {
         requires { is_some self.old.last ≡ true }
         ensures { MatchOption result
             ((self.new ≡ record self.old { empty_finds = self.old.empty_finds + 1 })
-            × IfSome self.old.last (λ _. TookAll H.owed H.is_over self.old))
+            × IfSome self.old.last (λ _. TookAll H.owed H.is_over H.was_cut self.old))
             (λ x. TakesNote H.begins H.is_of self.old x self.new) }
     {
         let item = self
@@ -293,6 +294,16 @@ impl<T: Drop, H: Owed<T>> Consumer<T, H> {
         }
     }
 
+    /// Whether the connection was lost, as that end says.
+    pub fn is_lost(&self) -> bool
+        ensures { IfSome self.now.last (λ l. l.is_lost ≡ result) }
+    {
+        match &self.came {
+            None => false,
+            Some(came) => came.is_lost,
+        }
+    }
+
     /// The end that added comes over, with a history that vouches for what was added, if one does.
     pub fn take_over(&mut self, farewell: Farewell<T, H>)
         requires whose { whose_of farewell.end ≡ whose_drain self.old }
@@ -302,10 +313,11 @@ impl<T: Drop, H: Owed<T>> Consumer<T, H> {
             history = farewell.history;
             added = farewell.end.added;
             full_finds = farewell.end.full_finds;
+            is_lost = farewell.is_lost;
           });
         } }
     {
-        let (end, history) = farewell.into_parts();
+        let (end, history, is_lost) = farewell.into_parts();
         end.shows();
         let was_full = end.was_full();
         let (theirs, finds) = end.into_place();
@@ -315,6 +327,7 @@ impl<T: Drop, H: Owed<T>> Consumer<T, H> {
             history,
             finds,
             was_full,
+            is_lost,
         });
     }
 

@@ -115,10 +115,12 @@ impl<T: Drop, H: Owed<T>> Outbox<T, H> {
     }
 
     /// Closes it, and hands it over to its drain, with a history that vouches for what was added: it owes the connection nothing more,
-    /// and what was added begins what it owes, and is all of that unless the queue was found full. Who waits at the drain is woken, to be
-    /// told so once all was taken.
-    pub fn hand_over(self, history: H)
-        requires vouches { Vouches H.owed H.is_over history self.conn self.added self.full_finds }
+    /// and what was added begins what it owes, and is all of that unless the queue was found full. It cut the connection short only where
+    /// the queue was found full, or the connection is lost, which is told with it. Who waits at the drain is woken, to be told so once all
+    /// was taken.
+    pub fn hand_over(self, history: H, is_lost: bool)
+        requires vouches { Vouches H.owed H.is_over H.was_cut history self.conn self.added
+            self.full_finds is_lost }
         requires chronicle { Belongs H.is_of history self.chronicle }
     {
         let Self {
@@ -128,7 +130,7 @@ impl<T: Drop, H: Owed<T>> Outbox<T, H> {
             mut pass,
             waker,
         } = self;
-        link.put(&mut pass, Farewell::new(end, Some(history)));
+        link.put(&mut pass, Farewell::new(end, Some(history), is_lost));
         link.is_shut.store(true, Ordering::SeqCst);
         waker.unpark();
     }
@@ -231,7 +233,7 @@ impl<T: Drop, H: Owed<T>> Drop for Outbox<T, H> {
             mut pass,
             waker,
         } = self;
-        link.put(&mut pass, Farewell::new(end, None));
+        link.put(&mut pass, Farewell::new(end, None, false));
         link.is_shut.store(true, Ordering::SeqCst);
         waker.unpark();
     }

@@ -6,11 +6,13 @@ use crate::ends::Producer;
 use crate::owed::Owed;
 use std::marker::Model;
 
-/// The end that adds, once nothing more is added, and a history that vouches for what was added, if one does.
+/// The end that adds, once nothing more is added, a history that vouches for what was added, if one does, and whether the connection
+/// was lost.
 #[derive(Drop)]
 pub struct Farewell<T, H: Owed<T>> {
     end: Producer<T, H>,
     history: Option<H>,
+    is_lost: bool,
 }
 
 impl<T, H: Owed<T>> Model for Farewell<T, H> {
@@ -19,30 +21,40 @@ impl<T, H: Owed<T>> Model for Farewell<T, H> {
 
     ghost Value = { Parting T H };
 
-    ghost view = { λ f. record { end = f.end; history = f.history } };
+    ghost view = { λ f. record { end = f.end; history = f.history; is_lost = f.is_lost } };
 
-    ghost invariant = { IsParting H.owed H.is_over H.is_of };
+    ghost invariant = { IsParting H.owed H.is_over H.was_cut H.is_of };
 }
 
 impl<T: Drop, H: Owed<T>> Farewell<T, H> {
-    /// The end, with a history that vouches for what was added, if one does.
-    pub fn new(end: Producer<T, H>, history: Option<H>) -> Farewell<T, H>
-        requires vouched { IsVouched H.owed H.is_over history end.conn end.added end.full_finds }
+    /// The end, with a history that vouches for what was added, if one does, and for whether the connection was lost.
+    pub fn new(end: Producer<T, H>, history: Option<H>, is_lost: bool) -> Farewell<T, H>
+        requires vouched { IsVouched H.owed H.is_over H.was_cut history end.conn end.added
+            end.full_finds is_lost }
         requires chronicle { IsOf H.is_of history end.chronicle }
-        ensures { result ≡ record { end = end; history = history } }
+        ensures { result ≡ record { end = end; history = history; is_lost = is_lost } }
     {
-        Farewell { end, history }
+        Farewell {
+            end,
+            history,
+            is_lost,
+        }
     }
 
-    /// The end, and the history.
-    pub fn into_parts(self) -> (Producer<T, H>, Option<H>)
+    /// The end, the history, and whether the connection was lost.
+    pub fn into_parts(self) -> (Producer<T, H>, Option<H>, bool)
         ensures end { result.0 ≡ self.end }
         ensures history { result.1 ≡ self.history }
-        ensures vouched { IsVouched H.owed H.is_over self.history self.end.conn self.end.added
-            self.end.full_finds }
+        ensures lost { result.2 ≡ self.is_lost }
+        ensures vouched { IsVouched H.owed H.is_over H.was_cut self.history self.end.conn
+            self.end.added self.end.full_finds self.is_lost }
         ensures chronicle { IsOf H.is_of self.history self.end.chronicle }
     {
-        let Farewell { end, history } = self;
-        (end, history)
+        let Farewell {
+            end,
+            history,
+            is_lost,
+        } = self;
+        (end, history, is_lost)
     }
 }

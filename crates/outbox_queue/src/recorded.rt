@@ -69,6 +69,8 @@ impl<T, H: Owed<T>> Owed<T> for Recorded<T, H> {
     ghost is_of = { λ h chronicle. h.chronicle ≡ chronicle };
 
     ghost is_over = { λ h conn. H.is_over h.history conn };
+
+    ghost was_cut = { λ h conn. H.was_cut h.history conn };
 }
 
 impl<T, H: Owed<T>> Recorded<T, H> {

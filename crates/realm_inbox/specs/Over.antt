@@ -1,9 +1,17 @@
--- When a history owes a connection nothing more.
-use Rattle.std.specs.Prelude.{◌≡◌, ℕ}
-use Rattle.realm.specs.History.{History, Begins}
+-- When a history owes a connection nothing more, and whether it cut it.
+use Rattle.std.specs.Prelude.{◌≡◌, ◌==◌, ◌||◌, ℕ, Bool, false}
+use Rattle.realm.specs.History.{History, Begins, begun, ◌▷◌}
+use Rattle.realm.specs.declared.entry.Entry.TheVariants.{Cut}
 use Rattle.realm.specs.Sessions.{IsHistory}
 use Rattle.realm.specs.Yield.{owed}
 
--- however h goes on, it owes c what it does now
-abbrev pub OwesNoMore : History → ℕ → Type 0
-OwesNoMore h c = (k : History) → Begins h k → IsHistory k → owed k c ≡ owed h c
+-- a Cut of c stands in the history
+abbrev pub was_cut : History → ℕ → Bool
+was_cut (begun grants) c = false
+was_cut (h ▷ Cut d word) c = d == c || was_cut h c
+was_cut (h ▷ e) c = was_cut h c
+
+-- however h goes on, it owes c what it does now, and has no other Cut of c
+pub record OwesNoMore (h : History) (c : ℕ) : Type 0 where
+  pub owes : (k : History) → Begins h k → IsHistory k → owed k c ≡ owed h c
+  pub cuts : (k : History) → Begins h k → IsHistory k → was_cut k c ≡ was_cut h c

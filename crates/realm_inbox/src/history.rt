@@ -29,7 +29,7 @@ impl Owed<Item> for RealmMoment {
     ghost use Rattle.realm.specs.History.{Begins};
     ghost use Rattle.realm.specs.Yield.{owed as owed_by};
     ghost use Rattle.realm_inbox.specs.HistoryBeginnings.{begins_same, begins_longer, owed_more};
-    ghost use Rattle.realm_inbox.specs.Over.{OwesNoMore};
+    ghost use Rattle.realm_inbox.specs.Over.{OwesNoMore, was_cut as is_cut_in};
 
     ghost begins = { Begins };
 
@@ -44,6 +44,8 @@ impl Owed<Item> for RealmMoment {
     ghost is_of = { λ h chronicle. ⊤ };
 
     ghost is_over = { OwesNoMore };
+
+    ghost was_cut = { is_cut_in };
 }
 
 impl RealmMoment {

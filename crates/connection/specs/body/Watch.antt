@@ -5,7 +5,7 @@ use Rattle.session.specs.declared.fault.Fault.TheVariants as fault
 use Rattle.wamp_messages.specs.declared.item.Item.{Item}
 use Rattle.connection.specs.Watch.{Notice, given_up}
 use Rattle.connection.specs.declared.writer.WriteEnd.{WriteEnd}
-use Rattle.connection.specs.declared.writer.WriteEnd.TheVariants.{Stopped, Full, Dropped, Device, TooLong, NoMemory, TooManyTurns}
+use Rattle.connection.specs.declared.writer.WriteEnd.TheVariants.{Stopped, Full, Lost, Dropped, Device, TooLong, NoMemory, TooManyTurns}
 
 -- by which fault an item is given up, if it is, by the end that comes of it
 abbrev pub IsWhy : WriteEnd → Option Fault → Type 0
@@ -15,6 +15,7 @@ IsWhy Device why = Unit {0}
 IsWhy TooManyTurns why = Unit {0}
 IsWhy Stopped why = ⊥
 IsWhy Full why = ⊥
+IsWhy Lost why = ⊥
 IsWhy Dropped why = ⊥
 
 -- it is told that the item is given up, or nothing, and the end comes

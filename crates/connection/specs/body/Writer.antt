@@ -9,7 +9,7 @@ use Rattle.session.specs.ItemFrames.{octets_of}
 use Rattle.connection.specs.Writer.{IsWritable, IsRefused, IsMissing, IsBegun, frames_of}
 use Rattle.connection.specs.declared.writer.ClientTerms.{ClientTerms}
 use Rattle.connection.specs.declared.writer.WriteEnd.{WriteEnd}
-use Rattle.connection.specs.declared.writer.WriteEnd.TheVariants.{Stopped, Full, Dropped, Device, TooLong, NoMemory, TooManyTurns}
+use Rattle.connection.specs.declared.writer.WriteEnd.TheVariants.{Stopped, Full, Lost, Dropped, Device, TooLong, NoMemory, TooManyTurns}
 
 -- what a writer has written, and what it holds back behind that
 pub record Output : Type 0 where
@@ -48,6 +48,7 @@ IsOfDevice _ = ⊥
 abbrev pub EndsBetween : WriteEnd → Output → List ℕ → Type 0
 EndsBetween Stopped before now = now ≡ before.written ++ before.held
 EndsBetween Full before now = now ≡ before.written ++ before.held
+EndsBetween Lost before now = now ≡ before.written ++ before.held
 EndsBetween Dropped before now = now ≡ before.written ++ before.held
 EndsBetween Device before now = GrowsByBeginning before.written now before.held
 EndsBetween TooManyTurns before now = GrowsByBeginning before.written now before.held
@@ -61,6 +62,7 @@ EndsWith f Device before now = GrowsByBeginning before.written now before.held
 EndsWith f TooManyTurns before now = GrowsByBeginning before.written now before.held
 EndsWith f Stopped before now = ⊥
 EndsWith f Full before now = ⊥
+EndsWith f Lost before now = ⊥
 EndsWith f Dropped before now = ⊥
 
 -- the only one of the items has this fault, and all that was held back is written
@@ -74,6 +76,7 @@ pub record StopsAt (Ends : Item → List ℕ → Type 0) (held_before : List ℕ
 abbrev pub EndsFrom : ClientTerms → WriteEnd → List ℕ → List Item → List ℕ → Type 0
 EndsFrom client Stopped held items octets = (items ≡ []) × (octets ≡ held)
 EndsFrom client Full held items octets = (items ≡ []) × (octets ≡ held)
+EndsFrom client Lost held items octets = (items ≡ []) × (octets ≡ held)
 EndsFrom client Dropped held items octets = (items ≡ []) × (octets ≡ held)
 EndsFrom client TooLong held items octets = StopsAt (IsRefused client.serializer client.limit) held items octets
 EndsFrom client NoMemory held items octets = StopsAt IsMissing held items octets

@@ -1,5 +1,5 @@
 -- What always holds of the two ends.
-use Rattle.std.specs.Prelude.{◌≡◌, ◌<◌, ◌≤◌, ℕ, true, false, Option, None, Some, List, [], length}
+use Rattle.std.specs.Prelude.{◌≡◌, ◌<◌, ◌≤◌, ℕ, Bool, true, false, Option, None, Some, List, [], length}
 use mathlib.Core.List.{IsPrefix}
 use Rattle.std.specs.Arc.{arc_value}
 use Rattle.atomic_table.specs.Seated.{TableId}
@@ -32,15 +32,15 @@ module _ {T H : Type 0} (owed : H → ℕ → List T) (belongs : H → TableId �
 -- what came with the end that added, as contracts see it
 abbrev pub last_of : {T H : Type 0} → Option (Came H) → List T → Option (Last T H)
 last_of None added = None
-last_of (Some came) added = Some (record { history = came.history; added = added; full_finds = came.finds.count })
+last_of (Some came) added = Some (record { history = came.history; added = added; full_finds = came.finds.count; is_lost = came.is_lost })
 
-module _ {T H : Type 0} (owed : H → ℕ → List T) (is_over : H → ℕ → Type 0) (belongs : H → TableId → Type 0) where
+module _ {T H : Type 0} (owed : H → ℕ → List T) (is_over : H → ℕ → Type 0) (was_cut : H → ℕ → Bool) (belongs : H → TableId → Type 0) where
   -- the other end came over: its pass is one with this one's; what was taken begins what was added, and the history that came, if one did, vouches for that;
   -- where a step found the queue full, as many items were added as it holds, or more, and it says so
   pub record CameOver (capacity : ℕ) (v : OutboxView T H) (came : Came H) : Type 0 where
     pub adds : v.adds ≡ true
     pub begins : IsPrefix v.taken v.added
-    pub vouches : VouchesFor owed is_over belongs came.history v.conn v.chronicle v.added came.finds.count
+    pub vouches : VouchesFor owed is_over was_cut belongs came.history v.conn v.chronicle v.added came.finds.count came.is_lost
     pub room : 0 < came.finds.count → capacity ≤ length v.added
     pub full : came.was_full ≡ true → 0 < came.finds.count
     pub never : came.was_full ≡ false → came.finds.count ≡ 0

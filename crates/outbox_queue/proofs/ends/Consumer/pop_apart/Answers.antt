@@ -29,5 +29,5 @@ invariant_of-self-2 g c =
       owes = subst Q (sym eq) (owes_next o.begins o.owed o.owes_on v.seen v.conn v.taken x.history x.item old.owes told.3 owes);
       is_of = subst C (sym eq) told.4;
       conn = old.conn ∙ sym (ap (λ u. u.conn) eq);
-      last = let none = ap (λ a. a.last) c.self.view_is ∙ c.requires in subst (λ (w : OutboxView g.row.T.Denot g.row.H.Denot). MayHaveCome o.owed o.is_over o.is_of (ruled_capacity (arc_value c.self.inside.queue)) w c.self.inside.came) (sym eq) (apart o.owed o.is_over o.is_of (ruled_capacity (arc_value c.self.inside.queue)) (with_taken v x) v.added c.self.inside.came none);
+      last = let none = ap (λ a. a.last) c.self.view_is ∙ c.requires in subst (λ (w : OutboxView g.row.T.Denot g.row.H.Denot). MayHaveCome o.owed o.is_over o.was_cut o.is_of (ruled_capacity (arc_value c.self.inside.queue)) w c.self.inside.came) (sym eq) (apart o.owed o.is_over o.was_cut o.is_of (ruled_capacity (arc_value c.self.inside.queue)) (with_taken v x) v.added c.self.inside.came none);
     }

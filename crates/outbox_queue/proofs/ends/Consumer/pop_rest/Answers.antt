@@ -10,7 +10,7 @@ use Rattle.outbox_queue.proofs.ends.Consumer.pop_rest.Goals as goal
 
 pub pop_counted-requires-clause-rule : goal.pop_counted-requires-clause-rule
 pop_counted-requires-clause-rule g c =
-    let o = g.H.Owed in let mays = c.self.invariant.takes in let may = came_adds o.owed o.is_over o.is_of _ _ _ c.self.invariant.last (ap (λ a. is_some a.last) c.self.view_is ∙ c.requires) in
+    let o = g.H.Owed in let mays = c.self.invariant.takes in let may = came_adds o.owed o.is_over o.was_cut o.is_of _ _ _ c.self.invariant.last (ap (λ a. is_some a.last) c.self.view_is ∙ c.requires) in
     (settles o.begins o.is_of o.begins_itself o.begins_on _ _ may mays, learns_waiting o.begins o.is_of o.begins_itself o.begins_on _ _ may mays)
 
 pub invariant_of-self-2 : goal.invariant_of-self-2
@@ -28,5 +28,5 @@ invariant_of-self-2 g c =
       owes = subst Q (sym eq) (owes_next o.begins o.owed o.owes_on v.seen v.conn v.taken x.history x.item old.owes told.3 owes);
       is_of = subst C (sym eq) told.4;
       conn = old.conn ∙ sym (ap (λ u. u.conn) eq);
-      last = goes_on o.owed o.is_over o.is_of o.begins _ v _ x _ old.last settled;
+      last = goes_on o.owed o.is_over o.was_cut o.is_of o.begins _ v _ x _ old.last settled;
     }
