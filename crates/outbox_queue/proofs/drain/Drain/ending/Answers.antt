@@ -15,7 +15,6 @@ returns-then-was_full g c =
     full_for o.owed o.is_over o.was_cut o.is_of c.args.self.now c.requires (ap (λ a. is_some (came_with a.last)) (sym c.self.view_is) ∙ sym c.is_vouched.ensures ∙ c.if-not-is_vouched.false)
     (subst (λ a. IfSome a.last (λ l. 0 < l.full_finds)) c.self.view_is (told_of o.owed o.is_over o.was_cut o.is_of _ _ true (λ l. 0 < l.full_finds) c.was_full.ensures.full c.if-was_full.true))
 
-
 pub returns-then-is_lost : goal.returns-then-is_lost
 returns-then-is_lost g c =
     let o = g.H.Owed in
