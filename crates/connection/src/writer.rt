@@ -453,6 +453,9 @@ fn write_until<R: Wait, H: Owed<Item>, S: Sink, W: Watch>(
     ensures full { result.1 ≡ WriteEnd.Full
         → (until ≡ Until.Whole) × (drain.empty_finds < result.0.empty_finds)
         × TookFull H.owed H.is_over H.was_cut result.0 }
+    ensures lost { result.1 ≡ WriteEnd.Lost
+        → (until ≡ Until.Whole) × (drain.empty_finds < result.0.empty_finds)
+        × TookLost H.owed H.is_over H.was_cut result.0 }
     ensures dropped { result.1 ≡ WriteEnd.Dropped
         → (until ≡ Until.Whole) × (drain.empty_finds < result.0.empty_finds)
         × TookUnvouched H.owed H.is_over H.was_cut result.0 }

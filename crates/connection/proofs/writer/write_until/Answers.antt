@@ -52,5 +52,8 @@ returns-in-Err-clause-whole g c = λ stopped until. c.in-Err.ensures.whole (ap E
 pub returns-in-Err-clause-full : goal.returns-in-Err-clause-full
 returns-in-Err-clause-full g c = λ full. let told = c.in-Err.ensures.full (ap Err full) in (told.0, omega (arith, told.1, c.items.invariant.later.finds), told.2)
 
+pub returns-in-Err-clause-lost : goal.returns-in-Err-clause-lost
+returns-in-Err-clause-lost g c = λ lost. let told = c.in-Err.ensures.lost (ap Err lost) in (told.0, omega (arith, told.1, c.items.invariant.later.finds), told.2)
+
 pub returns-in-Err-clause-dropped : goal.returns-in-Err-clause-dropped
 returns-in-Err-clause-dropped g c = λ dropped. let told = c.in-Err.ensures.dropped (ap Err dropped) in (told.0, omega (arith, told.1, c.items.invariant.later.finds), told.2)
