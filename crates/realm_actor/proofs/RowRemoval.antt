@@ -206,6 +206,7 @@ module _ {S : Type 0} where
       let f = due.0 in
       let conn : m.outbox.conn ≡ c = due.1 ∙ e.own in
       record {
+        rows = e;
         outbox = m.outbox;
         was = holds_at old.rows c e.place e.old s.sound.ascending e.stands e.own ∙ m.was;
         added = m.joins.whole;

@@ -52,7 +52,8 @@ module _ {S : Type 0} where
     pub stands : Stands new.history new.rows
     pub handled : new.handled ≡ old.handled ++ said_of p
 
-  -- from `a` these posts of connections were handled, each after a sweep
+  -- from `a` these posts of connections were handled, each after a sweep. No step begins with rows that nobody could have: a sweep leaves
+  -- exactly the rows of live sessions, and after a post they stand with the history
   pub data Runs (a : Acting S) : List (Post S) → Acting S → Type 0 where
     none : Runs a [] a
     one_more : {came : List (Post S)} {b c d : Acting S} {result : Outcome} (l : Letter S) → Runs a came b → Sweeps b c → Handles result (post.Act l) c d → Runs a (came ++ post.Act l ∷ []) d

@@ -50,6 +50,7 @@ module _ {S : Type 0} where
   -- realm's history owes c, and is all of that unless a step found the outbox full, since when nothing was added; what the drain
   -- saw begins the realm's history. The outbox is held no longer, and nothing else changed
   pub record Settles (c : ℕ) (drain : Taking Item (Kept History)) (rest : List Item) (old new : Acting S) : Type 0 where
+    pub rows : EmptiesOne c drain rest old.rows new.rows
     pub outbox : Box
     pub was : outbox_of old.rows c ≡ Some outbox
     pub added : drain.taken ++ rest ≡ outbox.added
@@ -64,11 +65,12 @@ module _ {S : Type 0} where
     pub last_cut : new.last_cut ≡ old.last_cut
     pub handled : new.handled ≡ old.handled
 
-  -- p is the row o, and as it was where its session is live; else its outbox was handed over
+  -- p is the row o, and as it was where its session is live; else it holds no outbox any more
   pub record Parted (h : History) (o p : Row S) : Type 0 where
     pub conn : p.conn ≡ o.conn
     pub was_lost : p.was_lost ≡ o.was_lost
     pub lives : live h o.conn ≡ true → p ≡ o
+    pub gone : live h o.conn ≡ false → p.held ≡ None
 
   abbrev pub EachParted : History → List (Row S) → List (Row S) → Type 0
   EachParted h olds news =

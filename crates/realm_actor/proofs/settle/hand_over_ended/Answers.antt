@@ -1,5 +1,4 @@
 use Rattle.std.proofs.Common.{◌<◌, ◌≤◌, ◌∙◌, ap, refl, sym, subst, length, get_or, arith}
-use Rattle.realm_actor.specs.declared.row.Row.{Row}
 use Rattle.realm_actor.specs.Rows.{RowHome}
 use Rattle.realm_actor.proofs.Parting.{parted_first, parted_next, parted_last}
 use Rattle.realm_actor.proofs.RowPlaces.{read}

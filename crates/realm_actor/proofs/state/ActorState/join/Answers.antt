@@ -1,4 +1,4 @@
-use Rattle.std.proofs.Common.{◌≡◌, ap, sym, ◌∙◌, true, subst, ◌++◌, ◌∷◌, [], length, ◌+◌, ◌≤◌, arith}
+use Rattle.std.proofs.Common.{◌≡◌, ap, sym, ◌∙◌, true, subst, ◌∷◌, [], length, ◌+◌, ◌≤◌, arith}
 use Rattle.realm.specs.History.{◌▷◌}
 use Rattle.realm.specs.declared.entry.Entry.TheVariants.{Join}
 use Rattle.std.specs.Prelude.{vec_capacity}

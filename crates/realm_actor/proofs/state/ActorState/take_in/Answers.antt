@@ -1,4 +1,4 @@
-use Rattle.std.proofs.Common.{refl, ap, ◌∙◌, subst, ◌++◌, ◌∷◌}
+use Rattle.std.proofs.Common.{refl, ap, ◌∙◌, subst, ◌∷◌}
 use Rattle.realm_actor.specs.Tables.{standing, EachMarked}
 use Rattle.realm_actor.specs.Cuts.{Accepted}
 use Rattle.realm_actor.proofs.FoundFull.{ready_live}

@@ -1,4 +1,4 @@
-use Rattle.std.proofs.Common.{refl, sym, ap, ◌∙◌, subst, [], ◌∷◌, ◌++◌, append-nil, append_assoc, length}
+use Rattle.std.proofs.Common.{refl, sym, ap, ◌∙◌, subst, [], ◌∷◌, length}
 use Rattle.std.proofs.lemmas.Option.{slice_get_read}
 use Rattle.realm_actor.specs.Tables.{standing, EachMarked}
 use Rattle.realm_actor.specs.Cuts.{Accepted}

@@ -1,4 +1,4 @@
-use Rattle.std.proofs.Common.{sym, ap, ◌∙◌, subst, [], ◌∷◌, ◌++◌, append-nil, append_assoc}
+use Rattle.std.proofs.Common.{sym, ap, ◌∙◌, subst, [], ◌∷◌, ◌++◌}
 use Rattle.std.specs.Prelude.{None}
 use Rattle.realm_actor.specs.Rows.{Ascending}
 use Rattle.realm_actor.specs.Cuts.{none, one_more, IsLeastFull}

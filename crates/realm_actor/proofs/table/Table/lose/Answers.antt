@@ -1,4 +1,4 @@
-use Rattle.std.proofs.Common.{sym, ap, ◌∙◌, subst, ◌++◌, ◌∷◌, [], append_assoc}
+use Rattle.std.proofs.Common.{sym, ap, ◌∙◌, subst, ◌∷◌, []}
 use Rattle.std.specs.Prelude.{None}
 use Rattle.realm.specs.declared.entry.Entry.TheVariants.{Cut}
 use Rattle.realm.specs.History.{◌▷◌}
