@@ -1,6 +1,6 @@
 -- Wildcards in pieces, and the topics that they fit.
 use Rattle.std.proofs.Common.{◌≡◌, ℕ, zero, suc, ◌+◌, ◌-◌, ◌<◌, ◌≤◌, Bool, true, false, not, ◌==◌, ◌&&◌, ◌||◌, List, [], ◌∷◌, ◌++◌, map, take, drop, length, get_or, replicate, refl, sym, ap, ap₂, subst, ◌∙◌, add-one, arith, append_assoc, length-append, length-drop}
-use Rattle.std.proofs.lemmas.List.{take_all, append-nil, drop-drop, take-append-drop, take-append-le, drop-append-le, length-take-le, length-replicate, replicate_more}
+use Rattle.std.proofs.lemmas.List.{take_all, append-nil, drop-drop, take-append-drop, take-append-le, length-take-le, length-replicate, replicate_more}
 use Rattle.std.proofs.lemmas.List.Folds.{list_all-append}
 use Rattle.std.proofs.lemmas.Bool.{and_parts, ltb-false, ltb-true, not-true}
 use Rattle.std.proofs.Math.Dec.{ltb}

@@ -130,16 +130,16 @@ fn add_part(draft: &mut Draft, part: &[u8]) -> Result<(), AllocError>
     }
 }
 
-/// No component yet.
-fn no_part(alloc: Global) -> Draft
-    ensures { IsDraft result [] }
+/// No component yet, and room for the octets of a text of this length.
+fn no_part(alloc: Global, length: usize) -> Result<Draft, AllocError>
+    ensures { IfOk result (λ draft. IsDraft draft []) }
 {
-    Draft {
+    Ok(Draft {
         pieces: Vec::new(alloc),
-        named: Vec::new(alloc),
+        named: Vec::with_capacity(alloc, length.saturating_add(1 + PADDING.len()))?,
         last: NOTHING,
         is_open: true,
-    }
+    })
 }
 
 /// The wildcard of this text.
@@ -148,7 +148,7 @@ pub(crate) fn deep_of(alloc: Global, text: &[u8], number: Id) -> Result<Deep, Al
     ensures made { IfOk result (λ deep. IsMade deep text.now) }
 {
     wamp_ids::laws::components_joined();
-    let mut draft = no_part(alloc);
+    let mut draft = no_part(alloc, text.len())?;
     let mut dots = 0;
     let mut rest = text;
     while let Some(i) = dot_in(rest) {

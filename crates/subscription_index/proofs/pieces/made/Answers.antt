@@ -1,5 +1,4 @@
-use Rattle.std.proofs.Common.{ap, ◌++◌, ◌∙◌}
-use Rattle.subscription_index.specs.body.Pieces.{padding}
+use Rattle.std.proofs.Common.{◌∙◌}
 use Rattle.subscription_index.proofs.PiecesLemmas.{draft_made}
 use Rattle.subscription_index.proofs.pieces.made.Goals as goal
 

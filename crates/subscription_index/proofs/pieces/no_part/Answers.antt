@@ -3,4 +3,4 @@ use Rattle.subscription_index.proofs.PiecesLemmas.{draft_none}
 use Rattle.subscription_index.proofs.pieces.no_part.Goals as goal
 
 pub returns : goal.returns
-returns c = draft_none _ c.new.ensures.items c.new-2.ensures.items refl
+returns c = draft_none _ c.new.ensures.items c.in_ok-with_capacity.ensures.items refl

@@ -1,4 +1,4 @@
-use Rattle.std.proofs.Common.{ap, ◌∙◌, take, length, arith}
+use Rattle.std.proofs.Common.{ap, ◌∙◌, take, arith}
 use Rattle.std.proofs.lemmas.List.{length-take-le, take-take}
 use Rattle.subscription_index.specs.body.Words.{worth}
 use Rattle.subscription_index.proofs.WordsLemmas.{first_word, small_take}
