@@ -6,7 +6,7 @@ ghost use Rattle.wamp_ids.specs.Pattern.{fits};
 ghost use Rattle.subscription_index.specs.body.Found.{Adds};
 ghost use Rattle.subscription_index.specs.body.Pieces.{IsMade, deep_number, ended, padding, starts_of};
 
-use crate::pieces::{Deep, PADDING, Piece, deep_of};
+use crate::pieces::{Deep, PADDING, Piece, SHORT, deep_of};
 use crate::words::begin_alike;
 use std::alloc::{AllocError, Global};
 use std::collections::BTreeMap;
@@ -147,8 +147,9 @@ fn count_at(starts: &[u32], piece: Piece, place: usize) -> usize
     ensures short { piece.octets ≤ 8 → result ≡ piece.octets }
     ensures alone { 8 < piece.octets → result ≡ get_or starts.now (place + 1) 0 - get_or starts.now place 0 }
 {
-    if piece.octets <= 8 {
-        return piece.octets as usize;
+    let octets = piece.octets as usize;
+    if octets <= SHORT {
+        return octets;
     }
     start_at(starts, place + 1).saturating_sub(start_at(starts, place))
 }

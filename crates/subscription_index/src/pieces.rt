@@ -19,7 +19,7 @@ pub(crate) struct Piece {
 const NOTHING: Piece = Piece { octets: 0, step: 0 };
 
 /// So many octets are compared at once.
-const SHORT: usize = 8;
+pub(crate) const SHORT: usize = 8;
 
 /// One component, of any length.
 const ALONE: u8 = u8::MAX;
