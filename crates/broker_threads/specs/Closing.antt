@@ -48,6 +48,7 @@ by_writer c write.TooLong = reason_by_octets c
 by_writer c write.NoMemory = NoMemory
 by_writer c write.TooManyTurns = TooManyTurns
 by_writer c write.Full = OutboxFull c.outbox
+by_writer c write.Lost = NoMemory
 by_writer c write.Stopped = reason_by_reader c
 by_writer c write.Dropped = reason_by_reader c
 by_writer c write.Device = reason_by_reader c

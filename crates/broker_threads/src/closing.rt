@@ -51,6 +51,7 @@ impl Closing {
             WriteEnd::NoMemory => CloseReason::NoMemory,
             WriteEnd::TooManyTurns => CloseReason::TooManyTurns,
             WriteEnd::Full => CloseReason::OutboxFull(self.outbox),
+            WriteEnd::Lost => CloseReason::NoMemory,
             WriteEnd::Stopped => self.by_reader(),
             WriteEnd::Dropped => self.by_reader(),
             WriteEnd::Device => self.by_reader(),

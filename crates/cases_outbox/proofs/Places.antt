@@ -27,7 +27,7 @@ all-added n (Some h) conn xs same begins all =
     let p : IsPrefix xs (counted n.first n.count) = subst (λ (k : Numbers). IsPrefix xs (counted k.first k.count)) same begins in
     sym (nothing-more xs p.0 n.count all (ap length p.1 ∙ counted-length n.first n.count)) ∙ p.1
 
-pub vouched : (n : Numbers) (history : Option Numbers) (conn : ℕ) (xs : List ℕ) (finds : ℕ) → Grows Same history (Some n) → Owes owed history conn xs → n.count ≤ length xs → Vouches owed (λ _ _. ⊤) n conn xs finds
+pub vouched : (n : Numbers) (history : Option Numbers) (conn : ℕ) (xs : List ℕ) (finds : ℕ) → Grows Same history (Some n) → Owes owed history conn xs → n.count ≤ length xs → Vouches owed (λ _ _. ⊤) (λ h _. h.is_cut) n conn xs finds n.is_cut
 vouched n history conn xs finds grows owes all =
     let is = all-added n history conn xs grows owes all in
-    record { over = tt; begins = ([], append-nil xs ∙ is); whole = λ _. is }
+    record { over = tt; begins = ([], append-nil xs ∙ is); whole = λ _. is; uncut = λ _ same. same; lost = λ same. same }

@@ -50,16 +50,17 @@ impl Case {
                 self.alone = None;
                 line_of(alloc, line)
             }
-            Some(("queue", text)) => self.begin(alloc, text),
+            Some(("queue", text)) => self.begin(alloc, text, false),
+            Some(("lost", text)) => self.begin(alloc, text, true),
             Some(("threads", text)) => pass_all(rt, alloc, text),
             Some(_) => line_of(alloc, "no case has this word"),
             None => self.step(&rt, alloc, line),
         }
     }
 
-    /// Makes a queue: its capacity, the first number, and how many are owed.
-    fn begin(&mut self, alloc: Global, text: &str) -> io::Result<String> {
-        let Some((cap, numbers)) = numbers_of(text) else {
+    /// Makes a queue: its capacity, the first number, and how many are owed, over a history that cut the connection or didn't.
+    fn begin(&mut self, alloc: Global, text: &str, is_cut: bool) -> io::Result<String> {
+        let Some((cap, numbers)) = numbers_of(text, is_cut) else {
             return line_of(alloc, "no queue");
         };
         self.ends = ends_of(alloc, cap, numbers)?;
@@ -129,14 +130,21 @@ impl Case {
     }
 }
 
-/// A capacity, and so many numbers from the first.
-pub fn numbers_of(text: &str) -> Option<(usize, Numbers)> {
+/// A capacity, and so many numbers from the first, of a history that cut the connection or didn't.
+pub fn numbers_of(text: &str, is_cut: bool) -> Option<(usize, Numbers)> {
     let (cap, rest) = text.split_once(' ')?;
     let (first, count) = rest.split_once(' ')?;
     let cap = cap.parse::<usize>().ok()?;
     let first = first.parse::<u64>().ok()?;
     let count = count.parse::<u64>().ok()?;
-    Some((cap, Numbers { first, count }))
+    Some((
+        cap,
+        Numbers {
+            first,
+            count,
+            is_cut,
+        },
+    ))
 }
 
 fn rest_line(alloc: Global, items: &[u64]) -> io::Result<String> {
@@ -175,6 +183,7 @@ fn drained(alloc: Global, drained: Drained<u64>) -> io::Result<String> {
         Drained::Item(number) => Ok(format!(in alloc; "took {number}\n")?),
         Drained::Stopped => line_of(alloc, "stopped"),
         Drained::Full => line_of(alloc, "was full"),
+        Drained::Lost => line_of(alloc, "lost"),
         Drained::Dropped => line_of(alloc, "dropped"),
     }
 }

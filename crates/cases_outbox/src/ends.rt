@@ -86,7 +86,8 @@ impl Adder {
         self.outbox.close();
     }
 
-    /// Hands the outbox over, if all that is owed was added; else drops it. True where it was handed over.
+    /// Hands the outbox over, if all that is owed was added, as one whose connection was lost where the history cut it; else drops it.
+    /// True where it was handed over.
     pub fn part(self) -> bool {
         let Adder {
             outbox,
@@ -97,7 +98,7 @@ impl Adder {
             return false;
         }
         outbox.shows();
-        outbox.hand_over(numbers);
+        outbox.hand_over(numbers, numbers.is_cut);
         true
     }
 

@@ -2,6 +2,7 @@
 //!
 //! - `# TEXT` begins a case, and is printed as it stands.
 //! - `queue CAP FIRST COUNT`: a queue of this capacity, over a history that owes so many numbers from the first.
+//! - `lost CAP FIRST COUNT`: the same, but the history cut the connection, which is handed over as lost.
 //! - `add` adds the next number, `next` takes one, `wait` waits for one, `close` closes, `facts` tells what the ends
 //!   know, and `settle` puts the ends together and prints what is left.
 //! - `threads CAP FIRST COUNT`: one thread adds all the numbers and closes, another takes them and waits.

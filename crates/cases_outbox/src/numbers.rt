@@ -4,11 +4,12 @@ ghost use Rattle.cases_outbox.specs.Counting.{counted};
 
 use outbox_queue::Owed;
 
-/// A history that owes each connection so many numbers from the first, one after another.
+/// A history that owes each connection so many numbers from the first, one after another, and cut each or none.
 #[derive(Clone, Copy, Drop)]
 pub struct Numbers {
     pub first: u64,
     pub count: u64,
+    pub is_cut: bool,
 }
 
 impl Owed<u64> for Numbers {
@@ -29,4 +30,6 @@ impl Owed<u64> for Numbers {
     ghost is_of = { λ h chronicle. ⊤ };
 
     ghost is_over = { λ h conn. ⊤ };
+
+    ghost was_cut = { λ h conn. h.is_cut };
 }

@@ -59,7 +59,7 @@ pub fn pass_all<R: Threads + Wait + Copy + Send + 'static>(
     alloc: Global,
     text: &str,
 ) -> io::Result<String> {
-    let Some((cap, numbers)) = numbers_of(text) else {
+    let Some((cap, numbers)) = numbers_of(text, false) else {
         return Ok(String::from_str(alloc, "no numbers\n")?);
     };
     let Some(ends) = ends_of(alloc, cap, numbers)? else {

@@ -13,13 +13,14 @@ use Rattle.rawsocket.specs.Frames.{fault_of}
 use Rattle.realm.specs.History.{History}
 use Rattle.realm.specs.Yield.{owed}
 use Rattle.realm_inbox.proofs.Lemmas.{at_seat_append}
+use Rattle.realm_inbox.specs.Over.{was_cut}
 use Rattle.realm_inbox.specs.Seats.{at_seat}
 use Rattle.realm_inbox.specs.declared.act.Act as the
 use Rattle.realm_inbox.specs.declared.letter.Post.TheVariants.{Stop}
 use Rattle.server_laws.proofs.Leaving.{join_first, left_by}
 use Rattle.server_laws.proofs.Posting.{acts_said, posted_whole, posts_there, until_first}
-use Rattle.server_laws.proofs.WholeSteps.{AreInTurn, Went, acts_of, went_whole}
-use Rattle.server_laws.specs.WholeSessions.{IsAnswered, IsWelcomed, until_last, HasNotJoined, SessionsGoWhole, WasCut, WentWhole, is_last}
+use Rattle.server_laws.proofs.WholeSteps.{AreInTurn, Went, acts_of, clash, cut_in, entered_uncut, not_joined_uncut, went_whole}
+use Rattle.server_laws.specs.WholeSessions.{CutSessionsAreTold, until_last, HasNotJoined, SessionsGoWhole, WasCut, WentWhole, is_last}
 use Rattle.threaded_server.specs.Histories.{IsMade, IsRealm, Realm, Start, until_stop}
 use Rattle.threaded_server.specs.Lending.{Lending}
 use Rattle.threaded_server.specs.Served.{IsSession, LentStream, Served}
@@ -37,12 +38,24 @@ module _ {S : Type 0} where
     pub in_turn : AreInTurn posted
     pub last : list_any is_last posted ≡ true
 
-  went_so : (c : ℕ) (posted : List (the.Act S)) (h : History) (items : List Item) → list_any is_last posted ≡ true → items ≡ owed h c → Went c posted h → WentWhole c posted h items ⊎ (WasCut c posted h ⊎ HasNotJoined h c)
-  went_so c posted h items last all (Went.before none nothing unowed dead) = absurd (let apart : false ≡ true = sym (ap (list_any is_last) none) ∙ last in cc)
-  went_so c posted h items last all (Went.serves some enter hail going alive) = absurd (let apart : false ≡ true = sym going ∙ last in cc)
-  went_so c posted h items last all (Went.ended enter hail bye done dead) = inl (record { over = done; entered = enter; welcomed = subst IsWelcomed (sym all) hail; answered = subst (λ l. IsAnswered (until_last posted) l) (sym all) bye })
-  went_so c posted h items last all (Went.cut w dead) = inr (inl w)
-  went_so c posted h items last all (Went.never some none dead) = inr (inr none)
+  -- how it went, by what it is owed
+  went_by : (c : ℕ) (posted : List (the.Act S)) (h : History) → list_any is_last posted ≡ true → Went c posted h → WentWhole c posted h (owed h c) ⊎ (WasCut c posted h ⊎ HasNotJoined h c (owed h c))
+  went_by c posted h last (Went.before none nothing unowed dead) = absurd (clash (list_any is_last posted) last (ap (list_any is_last) none))
+  went_by c posted h last (Went.serves some enter hail going alive) = absurd (clash (list_any is_last posted) last going)
+  went_by c posted h last (Went.ended enter hail bye done dead) = inl (record { over = done; entered = enter; welcomed = hail; answered = bye })
+  went_by c posted h last (Went.cut w dead) = inr (inl w)
+  went_by c posted h last (Went.never some none dead) = inr (inr none)
+
+  -- by whether a Cut of it stands in the history
+  not_cut : (c : ℕ) (posted : List (the.Act S)) (h : History) (items : List Item) → items ≡ owed h c → was_cut h c ≡ false → WentWhole c posted h (owed h c) ⊎ (WasCut c posted h ⊎ HasNotJoined h c (owed h c)) → WentWhole c posted h items ⊎ HasNotJoined h c items
+  not_cut c posted h items all uncut (inl w) = inl (subst (λ l. WentWhole c posted h l) (sym all) w)
+  not_cut c posted h items all uncut (inr (inl w)) = absurd (clash (was_cut h c) (cut_in c posted h w) uncut)
+  not_cut c posted h items all uncut (inr (inr none)) = inr (subst (λ l. HasNotJoined h c l) (sym all) none)
+
+  by_cut : (c : ℕ) (posted : List (the.Act S)) (h : History) → was_cut h c ≡ true → WentWhole c posted h (owed h c) ⊎ (WasCut c posted h ⊎ HasNotJoined h c (owed h c)) → WasCut c posted h
+  by_cut c posted h cut (inl w) = absurd (clash (was_cut h c) cut (entered_uncut c (until_last posted) h w.entered))
+  by_cut c posted h cut (inr (inl w)) = w
+  by_cut c posted h cut (inr (inr none)) = absurd (clash (was_cut h c) cut (not_joined_uncut h c none))
 
 module _ {I O S : Type 0} where
   said_whole : (see : Sight I O) (offer : Offer) (realms : List (Realm S)) (s : LentStream I O S) (conn : ℕ) (ends : SessionEnds) → IsSession see offer realms s conn ends → ends.read ≡ read_end.Left → Said s.posted
@@ -78,9 +91,11 @@ module _ {I O S : Type 0} where
       received : at_seat (seat_of conn) made.until ++ at_seat (seat_of conn) (Stop made.halt ∷ made.first.0) ≡ posts_there s.realm (seat_of conn) served.streams
       received = sym (at_seat_append (seat_of conn) made.until (Stop made.halt ∷ made.first.0)) ∙ ap (λ ps. at_seat (seat_of conn) ps) (sym came) ∙ served.received s.realm ((conn - 1) % 256) realm named within
 
-  pub sessions_go_whole : SessionsGoWhole I O S
-  sessions_go_whole see offer start before now was lending asked served i s conn ends at is h left stopped =
-      (h.whole stopped, went_so conn s.posted h.realm.history h.items said.last (h.whole stopped) (subst (λ acts. Went conn acts h.realm.history) acts (went_whole conn start.grants made.until (made.until ++ Stop made.halt ∷ []) made.halt h.realm.history (subst AreInTurn (sym acts) said.in_turn) (ap (list_any is_last) acts ∙ said.last) made.no_stop refl made.made made.legal)))
+  went : (see : Sight I O) (offer : Offer) (start : Start) (before now : List Answer) (was lending : Lending I O) (asked : ℕ) (served : Served S see offer start before now was lending asked) (i : ℕ) (s : LentStream I O S) (conn : ℕ) (ends : SessionEnds)
+      → slice_get served.early i ≡ Some s → s.conn ≡ Some conn → (h : IsSession see offer served.realms s conn ends) → ends.read ≡ read_end.Left
+      → WentWhole conn s.posted h.realm.history (owed h.realm.history conn) ⊎ (WasCut conn s.posted h.realm.history ⊎ HasNotJoined h.realm.history conn (owed h.realm.history conn))
+  went see offer start before now was lending asked served i s conn ends at is h left =
+      went_by conn s.posted h.realm.history said.last (subst (λ acts. Went conn acts h.realm.history) acts (went_whole conn start.grants made.until (made.until ++ Stop made.halt ∷ []) made.halt h.realm.history (subst AreInTurn (sym acts) said.in_turn) (ap (list_any is_last) acts ∙ said.last) made.no_stop refl made.made made.legal))
     where
       made : IsMade start h.realm.received h.realm.history
       made = all_at (λ (realm : Realm S). IsRealm start realm) served.realms h.hello.realm h.realm served.histories h.named
@@ -90,3 +105,12 @@ module _ {I O S : Type 0} where
 
       acts : acts_of conn made.until ≡ s.posted
       acts = acts_whole see offer start before now was lending asked served i s conn h.realm at is (ap (slice_get served.realms) h.there ∙ h.named) made
+
+  pub sessions_go_whole : SessionsGoWhole I O S
+  sessions_go_whole see offer start before now was lending asked served i s conn ends at is h left stopped =
+      (h.whole stopped, not_cut conn s.posted h.realm.history h.items (h.whole stopped) (h.uncut stopped) (went see offer start before now was lending asked served i s conn ends at is h left))
+
+  pub cut_sessions_are_told : CutSessionsAreTold I O S
+  cut_sessions_are_told see offer start before now was lending asked served i s conn ends at is h left =
+      let so = went see offer start before now was lending asked served i s conn ends at is h left in
+      ((λ lost. ((h.lost lost).0, by_cut conn s.posted h.realm.history (h.lost lost).1 so)), (λ full. ((h.due, h.full full), so)))

@@ -3,7 +3,7 @@ use Rattle.std.proofs.Common.{◌≡◌, ◌≢◌, ◌⊎◌, ◌+◌, ℕ, Boo
 use Rattle.std.specs.Prelude.{◌==◌, ◌&&◌, ◌||◌, not, is_some}
 use Rattle.std.specs.List.{list_any}
 use Rattle.std.specs.Result.{result_ok}
-use Rattle.std.proofs.Math.Bool.{or-false}
+use Rattle.std.proofs.Math.Bool.{or-false, or-true}
 use Rattle.std.proofs.lemmas.Bool.{eq-eqb, ne_eqb}
 use Rattle.std.proofs.lemmas.List.Folds.{list_any-append}
 use Rattle.eligibility.specs.declared.who.Who.{Who}
@@ -11,7 +11,7 @@ use Rattle.realm.specs.Grants.{Grants}
 use Rattle.realm.specs.History.{Begins, History, begun, ◌▷◌, grants_of}
 use Rattle.realm.specs.History as begins
 use Rattle.realm.proofs.NothingAfterAnEnding.{no_events}
-use Rattle.realm.specs.MetaEvents.{departure}
+use Rattle.realm.specs.MetaEvents.{arrival, departure}
 use Rattle.realm.specs.Subscriptions.{held}
 use Rattle.realm.specs.Yield.{events, owed, reply, sent_events, welcome, yield}
 use Rattle.realm.specs.Sessions.{admission, conn_of, is_last_word, live, who, IsHistory}
@@ -19,6 +19,7 @@ use Rattle.realm.specs.declared.entry.Entry.{Entry}
 use Rattle.realm.specs.declared.entry.Entry.TheVariants as entry
 use Rattle.realm_actor.specs.Handle.{entry_of, is_dropped}
 use Rattle.realm_inbox.proofs.Lemmas.{stops_snoc}
+use Rattle.realm_inbox.specs.Over.{was_cut}
 use Rattle.realm_inbox.specs.Seats.{act_of_letter, conn_of_letter, stops_of}
 use Rattle.realm_inbox.specs.declared.letter.Halt.{Halt}
 use Rattle.realm_inbox.specs.declared.act.Act as the
@@ -36,7 +37,7 @@ use Rattle.wamp_messages.specs.declared.item.Reason.{Reason}
 use Rattle.wamp_messages.specs.declared.item.Reason.TheVariants.{GoodbyeAndOut}
 use Rattle.wamp_messages.specs.declared.said.Said.TheVariants as say
 
-clash : (b : Bool) → b ≡ true → b ≡ false → ⊥
+pub clash : (b : Bool) → b ≡ true → b ≡ false → ⊥
 clash true e f = let apart : true ≡ false = f in cc
 clash false e f = let apart : false ≡ true = e in cc
 
@@ -113,9 +114,57 @@ same_snoc (a ∷ xs) (b ∷ ys) x y e =
     let below = same_snoc xs ys x y tail in
     ((λ i. head i ∷ below.0 i), below.1)
 
-not_joined_other : (h : History) (e : Entry) (c : ℕ) → conn_of e ≢ c → HasNotJoined h c → HasNotJoined (h ▷ e) c
-not_joined_other h e c other (inl none) = inl (entries_other h e c other ∙ none)
-not_joined_other h e c other (inr r) = inr (record { before = r.before; word = r.word; authid = r.authid; reason = r.reason; begins = begins.Begins.longer r.begins; refused = r.refused; alone = entries_other h e c other ∙ r.alone })
+-- a Join that is refused is answered by ABORT alone
+abort_given : (h : History) (c word : ℕ) (authid : Option (List ℕ)) (reason : Reason) → owed h c ≡ [] → admission h c word authid ≡ Err reason → owed (h ▷ entry.Join c word authid) c ≡ item.Abort reason ∷ []
+unfolding yield
+abort_given h c word authid reason none is =
+    let e = entry.Join c word authid in
+    ap (λ l. l ++ yield h e c) none ∙ ap (λ b. cond b (reply h e) [] ++ events h e c) (same_conn c) ∙ ap (λ (answer : Result Who Reason). welcome answer ++ sent_events (option_map (arrival word) (result_ok answer)) (who h c) (held h c)) is
+
+-- what a connection is that didn't join, by what it is owed
+abbrev NotJoined : History → ℕ → Type 0
+NotJoined h c = HasNotJoined h c (owed h c)
+
+not_joined_other : (h : History) (e : Entry) (c : ℕ) → conn_of e ≢ c → live h c ≡ false → NotJoined h c → NotJoined (h ▷ e) c
+not_joined_other h e c other dead (inr none) = inr (entries_other h e c other ∙ none.0, owed_other h e c other dead ∙ none.1)
+not_joined_other h e c other dead (inl r) =
+    inl (record { before = r.before; word = r.word; authid = r.authid; reason = r.reason; begins = begins.Begins.longer r.begins; refused = r.refused; alone = entries_other h e c other ∙ r.alone; answered = owed_other h e c other dead ∙ r.answered })
+
+abbrev is_cut : Entry → Bool
+is_cut (entry.Join d word authid) = false
+is_cut (entry.Said d word said) = false
+is_cut (entry.Ping d payload) = false
+is_cut (entry.Spoilt d word) = false
+is_cut (entry.Gone d word) = false
+is_cut (entry.Cut d word) = true
+is_cut (entry.Closed d word) = false
+
+-- a Cut of a connection stands in a history where one stands among its entries
+cut_stands : (h : History) (c : ℕ) → list_any is_cut (entries_of h c) ≡ was_cut h c
+cut_stands (begun grants) c = refl
+cut_stands (h ▷ e) c = list_any-append is_cut (entries_of h c) (cond (conn_of e == c) (e ∷ []) []) ∙ ap (λ b. b || list_any is_cut (cond (conn_of e == c) (e ∷ []) [])) (cut_stands h c) ∙ by_entry e
+  where
+    uncut : (e : Entry) → is_cut e ≡ false → (b : Bool) → (was_cut h c || list_any is_cut (cond b (e ∷ []) [])) ≡ was_cut h c
+    uncut e is true = ap (λ x. was_cut h c || (x || false)) is ∙ or-false (was_cut h c)
+    uncut e is false = or-false (was_cut h c)
+
+    by_cut : (d : ℕ) (word : Option ℕ) (b : Bool) → (was_cut h c || list_any is_cut (cond b (entry.Cut d word ∷ []) [])) ≡ (b || was_cut h c)
+    by_cut d word true = or-true (was_cut h c)
+    by_cut d word false = or-false (was_cut h c)
+
+    by_entry : (e : Entry) → (was_cut h c || list_any is_cut (cond (conn_of e == c) (e ∷ []) [])) ≡ was_cut (h ▷ e) c
+    by_entry (entry.Join d word authid) = uncut (entry.Join d word authid) refl (d == c)
+    by_entry (entry.Said d word said) = uncut (entry.Said d word said) refl (d == c)
+    by_entry (entry.Ping d payload) = uncut (entry.Ping d payload) refl (d == c)
+    by_entry (entry.Spoilt d word) = uncut (entry.Spoilt d word) refl (d == c)
+    by_entry (entry.Gone d word) = uncut (entry.Gone d word) refl (d == c)
+    by_entry (entry.Cut d word) = by_cut d word (d == c)
+    by_entry (entry.Closed d word) = uncut (entry.Closed d word) refl (d == c)
+
+-- who didn't join wasn't cut
+pub not_joined_uncut : (h : History) (c : ℕ) → NotJoined h c → was_cut h c ≡ false
+not_joined_uncut h c (inl r) = sym (cut_stands h c) ∙ ap (list_any is_cut) r.alone
+not_joined_uncut h c (inr none) = sym (cut_stands h c) ∙ ap (list_any is_cut) none.0
 
 module _ {S : Type 0} where
   abbrev pub is_join : the.Act S → Bool
@@ -164,14 +213,14 @@ module _ {S : Type 0} where
     serves : (acts ≡ [] → ⊥) → AllEnter c acts (entries_of h c) → IsWelcomed (owed h c) → list_any is_last acts ≡ false → live h c ≡ true → Went c acts h
     ended : AllEnter c (until_last acts) (entries_of h c) → IsWelcomed (owed h c) → IsAnswered (until_last acts) (owed h c) → list_any is_last acts ≡ true → live h c ≡ false → Went c acts h
     cut : WasCut c acts h → live h c ≡ false → Went c acts h
-    never : (acts ≡ [] → ⊥) → HasNotJoined h c → live h c ≡ false → Went c acts h
+    never : (acts ≡ [] → ⊥) → NotJoined h c → live h c ≡ false → Went c acts h
 
   others : (c : ℕ) (acts : List (the.Act S)) (h : History) (e : Entry) → conn_of e ≢ c → Went c acts h → Went c acts (h ▷ e)
   others c acts h e other (before none nothing unowed dead) = before none (entries_other h e c other ∙ nothing) (owed_other h e c other dead ∙ unowed) (live_other h e c other ∙ dead)
   others c acts h e other (serves some all hail going alive) = serves some (subst (λ l. AllEnter c acts l) (sym (entries_other h e c other)) all) (welcomed_more h e c hail) going (live_other h e c other ∙ alive)
   others c acts h e other (ended all hail bye last dead) = ended (subst (λ l. AllEnter c (until_last acts) l) (sym (entries_other h e c other)) all) (welcomed_more h e c hail) (subst (λ l. IsAnswered (until_last acts) l) (sym (owed_other h e c other dead)) bye) last (live_other h e c other ∙ dead)
   others c acts h e other (cut w dead) = cut (record { said = w.said; missed = w.missed; posted_are = w.posted_are; some = w.some; going = w.going; entries = w.entries; entered = w.entered; word = w.word; cut_then = entries_other h e c other ∙ w.cut_then }) (live_other h e c other ∙ dead)
-  others c acts h e other (never some none dead) = never some (not_joined_other h e c other none) (live_other h e c other ∙ dead)
+  others c acts h e other (never some none dead) = never some (not_joined_other h e c other dead none) (live_other h e c other ∙ dead)
 
   -- whose session is live is cut
   now_cut : (c : ℕ) (acts : List (the.Act S)) (h : History) (word : Option ℕ) → live h c ≡ true → Went c acts h → WasCut c acts (h ▷ entry.Cut c word)
@@ -195,6 +244,26 @@ module _ {S : Type 0} where
     word = w.word;
     cut_then = w.cut_then;
   }
+
+  entry_uncut : (c : ℕ) (act : the.Act S) (word : ℕ) → is_cut (entry_of c act word) ≡ false
+  entry_uncut c (Join joining) word = refl
+  entry_uncut c (Said said) word = refl
+  entry_uncut c (Ping payload) word = refl
+  entry_uncut c Spoilt word = refl
+  entry_uncut c Gone word = refl
+
+  none_cut : (c : ℕ) (acts : List (the.Act S)) (entries : List Entry) → AllEnter c acts entries → list_any is_cut entries ≡ false
+  none_cut c [] [] all = refl
+  none_cut c [] (e ∷ entries) all = absurd all
+  none_cut c (act ∷ acts) [] all = absurd all
+  none_cut c (act ∷ acts) (e ∷ entries) all = ap (λ b. b || list_any is_cut entries) (ap is_cut all.0.1 ∙ entry_uncut c act all.0.0) ∙ none_cut c acts entries all.1
+
+  -- who went whole wasn't cut, and a Cut of who was stands in the history
+  pub entered_uncut : (c : ℕ) (acts : List (the.Act S)) (h : History) → AllEnter c acts (entries_of h c) → was_cut h c ≡ false
+  entered_uncut c acts h all = sym (cut_stands h c) ∙ none_cut c acts (entries_of h c) all
+
+  pub cut_in : (c : ℕ) (acts : List (the.Act S)) (h : History) → WasCut c acts h → was_cut h c ≡ true
+  cut_in c acts h w = sym (cut_stands h c) ∙ ap (list_any is_cut) w.cut_then ∙ list_any-append is_cut w.entries (entry.Cut c w.word ∷ []) ∙ or-true (list_any is_cut w.entries)
 
   cut_some : (c : ℕ) (acts : List (the.Act S)) (h : History) → WasCut c acts h → acts ≡ [] → ⊥
   cut_some c acts h w none = w.some (first w.said w.missed (sym w.posted_are ∙ none))
@@ -258,7 +327,7 @@ module _ {S : Type 0} where
 
       by_answer : (answer : Result Who Reason) → admission h c word joining.authid ≡ answer → Went c (Join joining ∷ []) (h ▷ e)
       by_answer (Ok w) is = serves (λ e. absurd (let apart = ap length e in omega (arith, apart))) (subst (λ l. AllEnter c (Join joining ∷ []) l) (sym alone) ((word, refl), tt)) (welcome_given h c word joining.authid w unowed is) refl (ap is_some (now ∙ ap result_ok is))
-      by_answer (Err reason) is = never (λ e. absurd (let apart = ap length e in omega (arith, apart))) (inr (record { before = h; word = word; authid = joining.authid; reason = reason; begins = begins.Begins.same; refused = is; alone = alone })) (ap is_some (now ∙ ap result_ok is))
+      by_answer (Err reason) is = never (λ e. absurd (let apart = ap length e in omega (arith, apart))) (inl (record { before = h; word = word; authid = joining.authid; reason = reason; begins = begins.Begins.same; refused = is; alone = alone; answered = abort_given h c word joining.authid reason unowed is })) (ap is_some (now ∙ ap result_ok is))
 
   -- whether the session goes on behind an act that enters
   goes_on : (c : ℕ) (h : History) (act : the.Act S) (word : ℕ) → is_join act ≡ false → is_last act ≡ false → live (h ▷ entry_of c act word) c ≡ live h c
@@ -327,7 +396,7 @@ module _ {S : Type 0} where
 
   -- or nothing enters
   passes : (c : ℕ) (acts : List (the.Act S)) (h : History) (act : the.Act S) → InTurn acts act → (live h c ≡ false) ⊎ (is_dropped h c act ≡ true) → Went c acts h → Went c (acts ++ act ∷ []) h
-  passes c acts h act turn why (before none nothing unowed dead) = never (more_acts acts act) (inl nothing) dead
+  passes c acts h act turn why (before none nothing unowed dead) = never (more_acts acts act) (inr (nothing, unowed)) dead
   passes c acts h act turn (inl dead) (serves some all hail going alive) = absurd (clash (live h c) alive dead)
   passes c acts h act turn (inr drop) (serves some all hail going alive) = absurd (clash (is_dropped h c act) drop (drops h c act (turn.1 some) ∙ ap not alive))
   passes c acts h act turn why (ended all hail bye last dead) = stays_ended c acts h act all hail bye last dead

@@ -1,10 +1,11 @@
 -- A client's whole session, from its octets to its octets.
-use Rattle.std.specs.Prelude.{◌≡◌, ◌≢◌, ◌⊎◌, ◌==◌, ℕ, Bool, true, false, cond, if◌then◌else◌, List, [], ◌∷◌, ◌++◌, Option, Some, Err, slice_get}
+use Rattle.std.specs.Prelude.{◌≡◌, ◌≢◌, ◌≤◌, ◌⊎◌, ◌==◌, ℕ, Bool, true, false, cond, if◌then◌else◌, List, [], ◌∷◌, ◌++◌, Option, Some, Err, length, slice_get}
 use Rattle.std.specs.List.{list_any}
+use mathlib.Core.List.{IsPrefix}
 use Rattle.broker_threads.specs.Streams.{Offer, Sight}
 use Rattle.broker_threads.specs.declared.stream_fate.SessionEnds.{SessionEnds}
 use Rattle.connection.specs.declared.reader.ReadEnd.TheVariants.{Left}
-use Rattle.connection.specs.declared.writer.WriteEnd.TheVariants.{Stopped}
+use Rattle.connection.specs.declared.writer.WriteEnd.TheVariants.{Full, Lost, Stopped}
 use Rattle.eligibility.specs.declared.who.Who.{Who}
 use Rattle.realm.specs.History.{Begins, History, begun, ◌▷◌}
 use Rattle.realm.specs.Sessions.{admission, conn_of, is_last_word}
@@ -29,8 +30,8 @@ abbrev pub entries_of : History → ℕ → List Entry
 entries_of (begun grants) c = []
 entries_of (h ▷ e) c = entries_of h c ++ cond (conn_of e == c) (e ∷ []) []
 
--- its one entry is a Join that was refused
-pub record WasRefused (h : History) (c : ℕ) : Type 0 where
+-- Its Join was refused: that is its one entry, and it was written ABORT alone
+pub record WasRefused (h : History) (c : ℕ) (items : List Item) : Type 0 where
   pub before : History
   pub word : ℕ
   pub authid : Option (List ℕ)
@@ -38,10 +39,15 @@ pub record WasRefused (h : History) (c : ℕ) : Type 0 where
   pub begins : Begins (before ▷ entry.Join c word authid) h
   pub refused : admission before c word authid ≡ Err reason
   pub alone : entries_of h c ≡ entry.Join c word authid ∷ []
+  pub answered : items ≡ item.Abort reason ∷ []
 
--- nothing of it entered, as its Join was lost or dropped; or its Join was refused
-abbrev pub HasNotJoined : History → ℕ → Type 0
-HasNotJoined h c = (entries_of h c ≡ []) ⊎ WasRefused h c
+-- its Join was lost or dropped: nothing of it entered, and nothing was written to it
+abbrev pub HasNotEntered : History → ℕ → List Item → Type 0
+HasNotEntered h c items = (entries_of h c ≡ []) × (items ≡ [])
+
+-- it didn't join: its Join was refused, or hasn't entered
+abbrev pub HasNotJoined : History → ℕ → List Item → Type 0
+HasNotJoined h c items = WasRefused h c items ⊎ HasNotEntered h c items
 
 -- this is its last element
 abbrev pub EndsIn : {A : Type 0} → List A → A → Type 0
@@ -83,7 +89,7 @@ module _ {S : Type 0} where
     pub welcomed : IsWelcomed items
     pub answered : IsAnswered (until_last posted) items
 
-  -- It was cut, for want of memory or as its outbox was full: what it had said before entered, its Join first, and then the Cut. Nothing of it entered behind that: what ended it was missed
+  -- It was cut: what it had said before entered, its Join first, and then the Cut. Nothing of it entered behind that: what ended it was missed
   pub record WasCut (c : ℕ) (posted : List (Act S)) (h : History) : Type 0 where
     pub said : List (Act S)
     pub missed : List (Act S)
@@ -96,9 +102,18 @@ module _ {S : Type 0} where
     pub cut_then : entries_of h c ≡ entries ++ entry.Cut c word ∷ []
 
 module _ (I O S : Type 0) where
-  -- To a session that ended by its own farewell before the actors were told to stop, and whose writer stopped, neither told Full nor a failure, all was written that its realm's history
-  -- owes it; and it went whole, unless it was cut, or hasn't joined
+  -- Nobody is cut for nothing. To a session whose client said its farewell before the actors were told to stop, whose stream didn't fail, and which wasn't told Full or Lost, exactly that
+  -- was written which the one history of its realm owes it; and that history has all that its client said, in order. Or its Join was refused, or hasn't entered
   abbrev pub SessionsGoWhole : Type 0
   SessionsGoWhole = (see : Sight I O) (offer : Offer) (start : Start) (before now : List Answer) (was lending : Lending I O) (asked : ℕ) (served : Served S see offer start before now was lending asked) (i : ℕ) (s : LentStream I O S) (conn : ℕ) (ends : SessionEnds)
       → slice_get served.early i ≡ Some s → s.conn ≡ Some conn → (h : IsSession see offer served.realms s conn ends) → ends.read ≡ Left → ends.write ≡ Stopped
-      → (h.items ≡ owed h.realm.history conn) × (WentWhole conn s.posted h.realm.history h.items ⊎ (WasCut conn s.posted h.realm.history ⊎ HasNotJoined h.realm.history conn))
+      → (h.items ≡ owed h.realm.history conn) × (WentWhole conn s.posted h.realm.history h.items ⊎ HasNotJoined h.realm.history conn h.items)
+
+  -- The same where it was told Lost: exactly that was written which it is owed, and it was cut. Where it was told Full, a beginning of that was written, as many items as its outbox holds,
+  -- or more; and it went whole, or was cut, or didn't join
+  abbrev pub CutSessionsAreTold : Type 0
+  CutSessionsAreTold = (see : Sight I O) (offer : Offer) (start : Start) (before now : List Answer) (was lending : Lending I O) (asked : ℕ) (served : Served S see offer start before now was lending asked) (i : ℕ) (s : LentStream I O S) (conn : ℕ) (ends : SessionEnds)
+      → slice_get served.early i ≡ Some s → s.conn ≡ Some conn → (h : IsSession see offer served.realms s conn ends) → ends.read ≡ Left
+      → (ends.write ≡ Lost → (h.items ≡ owed h.realm.history conn) × WasCut conn s.posted h.realm.history)
+      × (ends.write ≡ Full → (IsPrefix h.items (owed h.realm.history conn) × (offer.room ≤ length h.items))
+      × (WentWhole conn s.posted h.realm.history (owed h.realm.history conn) ⊎ (WasCut conn s.posted h.realm.history ⊎ HasNotJoined h.realm.history conn (owed h.realm.history conn))))

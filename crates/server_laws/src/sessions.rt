@@ -1,14 +1,24 @@
 //! A client's whole session (WAMP, "Session Establishment" and "Session Closing").
-ghost use Rattle.server_laws.specs.WholeSessions.{SessionsGoWhole};
+ghost use Rattle.server_laws.specs.WholeSessions.{CutSessionsAreTold, SessionsGoWhole};
 
 use realm_inbox::Shut;
 use std::marker::PhantomData;
 
-/// Of a session that ended by its own farewell before the actors were told to stop, and whose writer was told neither
-/// that its outbox was full nor a failure: what was written is all that its realm's one history owes it. And it went
-/// whole: all that its client said entered that history, in order, up to what ended it, and nothing else of it did;
-/// WELCOME was written first, and the answer to a GOODBYE last. Unless it was cut, which all that it had said before
-/// precedes; or its Join was lost or refused, and nothing else of it entered.
+/// Nobody is cut for nothing. Of a session that ended by its own farewell before the actors were told to stop, whose stream didn't
+/// fail, and that was told neither that its outbox was full nor that it was lost: what was written is exactly what its realm's
+/// one history owes it. And it went whole: all that its client said entered that history, in order, up to what ended it, and
+/// nothing else of it did; WELCOME was written first, and the answer to a GOODBYE last. Unless its Join was refused, which ABORT
+/// alone answered; or lost or dropped, so that nothing of it entered, and nothing was written.
 pub fn sessions_go_whole<I, O, S: Shut>(_halves: PhantomData<(I, O)>, _transport: PhantomData<S>)
     ensures { SessionsGoWhole I O S }
+{}
+
+/// Of such a session that was told that it was lost: what was written is exactly what it is owed, and it was cut, which all precedes
+/// that it had said before. Of one that was told that its outbox was full: what was written begins what it is owed, and
+/// is as many items as its outbox holds, or more; and it went whole, or was cut, or didn't join.
+pub fn cut_sessions_are_told<I, O, S: Shut>(
+    _halves: PhantomData<(I, O)>,
+    _transport: PhantomData<S>,
+)
+    ensures { CutSessionsAreTold I O S }
 {}

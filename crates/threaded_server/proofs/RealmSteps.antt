@@ -104,6 +104,7 @@ module _ {O S : Type 0} where
         newest_is = k.newest_is;
         whole = k.whole;
         full = k.full;
+        lost = k.lost;
         kept = kept_in k.realm.seen s.0.seen written.seen s.2.seen k.kept;
       }
 
@@ -225,6 +226,7 @@ module _ {I O S : Type 0} (see : Sight I O) (offer : Offer) where
         newest_is = writes.seen;
         whole = writes.whole;
         full = λ is. (writes.full is).1;
+        lost = λ is. (writes.lost is).1;
         kept = s.3;
       }
 

@@ -1,12 +1,12 @@
 -- How the realms ran, and what their histories owe.
-use Rattle.std.proofs.Common.{◌≡◌, ◌<◌, ◌≤◌, ◌+◌, ℕ, zero, suc, List, [], ◌∷◌, ◌++◌, Option, None, Some, All, IfSome, length, option_map, remove, slice_get, slice_index_or, refl, sym, ap, ◌∙◌, append_assoc, append-nil, arith, subst}
+use Rattle.std.proofs.Common.{◌≡◌, ◌<◌, ◌≤◌, ◌+◌, ℕ, zero, suc, Bool, true, false, List, [], ◌∷◌, ◌++◌, Option, None, Some, All, IfSome, length, option_map, remove, slice_get, slice_index_or, refl, sym, ap, ◌∙◌, append_assoc, append-nil, arith, subst}
 use mathlib.Core.List.{IsPrefix}
 use mathlib.Core.Logic.{◌⊎◌, inl, inr}
 use Rattle.std.proofs.lemmas.List.Elements.{All-contains, All-cons, All-head, All-nil, All-pop, All-tail, All-weaker}
 use Rattle.std.proofs.lemmas.Option.{get_or_from_slice_get, none-some, same_Some, slice_get_within}
 use Rattle.chronicle.specs.Recorded.{Reaches, Recorded}
 use Rattle.outbox_queue.proofs.OwedBeginnings.{prefix-on}
-use Rattle.outbox_queue.specs.Ends.{IsVouched, Last, Owes, Taking, TookFull, TookWhole, Vouches, came_with, newest, or_else}
+use Rattle.outbox_queue.specs.Ends.{IsVouched, Last, Owes, Taking, TookFull, TookOwed, Vouches, came_with, newest, or_else}
 use Rattle.outbox_queue.specs.Tied.{Kept}
 use Rattle.realm.specs.History.{History, Begins}
 use Rattle.realm.specs.Sessions.{IsHistory}
@@ -16,6 +16,7 @@ use Rattle.realm_inbox.specs.Behind.{told_by}
 use Rattle.realm_inbox.specs.EndViews.{inbox_of, posted, received, told}
 use Rattle.realm_inbox.specs.EndViews.{shown as shown_to}
 use Rattle.realm_inbox.specs.Ends.{Place}
+use Rattle.realm_inbox.specs.Over.{was_cut}
 use Rattle.realm_inbox.specs.Seats.{at_seat}
 use Rattle.realm_inbox.specs.declared.door.Door.{Door}
 use Rattle.realm_inbox.specs.declared.ends.Inbox.{Inbox}
@@ -32,7 +33,7 @@ use Rattle.threaded_server.specs.Posts.{AllSay, AreIn, ReceivedPosted, posts_at}
 use Rattle.threaded_server.specs.Realms.{AllReceived, EachRuns, GivesBack, RunsTo, Shown, inbox_in, places_of, shown}
 use Rattle.threaded_server.specs.Histories.{Start}
 use Rattle.threaded_server.specs.Ties.{CourseKept, CourseTied, IsBegun, IsKept, IsKeptIn, IsRun, IsTied, OverKept, OverTied, history_of}
-use Rattle.broker_threads.specs.Writes.{over_kept, owed_kept}
+use Rattle.broker_threads.specs.Writes.{cut_kept, over_kept, owed_kept}
 use Rattle.broker_threads.specs.declared.actor_thread.Acted.{Acted}
 use Rattle.broker_threads.specs.declared.actor_thread.ActorThread.{ActorThread}
 use Rattle.threaded_server.specs.declared.realm_handle.RealmHandle.{RealmHandle}
@@ -206,22 +207,26 @@ reached : (own : Option History) (all : List (Kept History)) (o : Option (Kept H
 reached own all None h k = tt
 reached own all (Some kept) h k = All-contains (λ x. Reaches Begins (Some x.history) own) all kept h k
 
--- what vouches for what was taken begins the history that was made, which owes nothing more
-vouched_by : (own : History) (kept : Kept History) (conn : ℕ) (items added : List Item) (finds : ℕ) → Reaches Begins (Some kept.history) (Some own) → IsHistory own → items ≡ added → Vouches owed_kept over_kept kept conn added finds → finds ≡ 0
-    → items ≡ owed own conn
-vouched_by own kept conn items added finds reaches legal all vouches never = all ∙ vouches.whole never ∙ sym (vouches.over own reaches legal)
+-- what vouches for what was taken begins the history that was made, which owes nothing more, and cuts nobody more
+vouched_by : (own : History) (kept : Kept History) (conn : ℕ) (items added : List Item) (finds : ℕ) (is_lost : Bool) → Reaches Begins (Some kept.history) (Some own) → IsHistory own → items ≡ added → Vouches owed_kept over_kept cut_kept kept conn added finds is_lost → finds ≡ 0
+    → (items ≡ owed own conn) × (was_cut own conn ≡ is_lost)
+vouched_by own kept conn items added finds is_lost reaches legal all vouches never = (all ∙ vouches.whole never ∙ sym (vouches.over.owes own reaches legal), vouches.over.cuts own reaches legal ∙ told is_lost vouches)
+  where
+    told : (b : Bool) → Vouches owed_kept over_kept cut_kept kept conn added finds b → was_cut kept.history conn ≡ b
+    told false v = v.uncut never refl
+    told true v = v.lost refl
 
-all_owed : (own : History) (all : List (Kept History)) (o : Option (Kept History)) (drain : Taking Item (Kept History)) → All (λ kept. Reaches Begins (Some kept.history) (Some own)) all → IsKeptIn all o → o ≡ newest drain → IsHistory own
-    → TookWhole owed_kept over_kept drain → drain.taken ≡ owed own drain.conn
-all_owed own all o drain begins kept is legal took =
+all_owed : (is_lost : Bool) (own : History) (all : List (Kept History)) (o : Option (Kept History)) (drain : Taking Item (Kept History)) → All (λ kept. Reaches Begins (Some kept.history) (Some own)) all → IsKeptIn all o → o ≡ newest drain → IsHistory own
+    → TookOwed owed_kept over_kept cut_kept is_lost drain → (drain.taken ≡ owed own drain.conn) × (was_cut own drain.conn ≡ is_lost)
+all_owed is_lost own all o drain begins kept is legal took =
     let last = took.all.last in
     let came : newest drain ≡ Some took.history = ap (λ (l : Option (Last Item (Kept History))). or_else (came_with l) drain.seen) took.all.came ∙ ap (λ (h : Option (Kept History)). or_else h drain.seen) took.brought in
     let reaches : Reaches Begins (Some took.history.history) (Some own) = subst (λ (x : Option (Kept History)). IfSome x (λ k. Reaches Begins (Some k.history) (Some own))) (is ∙ came) (reached (Some own) all o begins kept) in
-    let vouches : Vouches owed_kept over_kept took.history drain.conn last.added last.full_finds = subst (λ (h : Option (Kept History)). IsVouched owed_kept over_kept h drain.conn last.added last.full_finds) took.brought took.all.vouched in
-    vouched_by own took.history drain.conn drain.taken last.added last.full_finds reaches legal took.all.all vouches took.never
+    let vouches : Vouches owed_kept over_kept cut_kept took.history drain.conn last.added last.full_finds last.is_lost = subst (λ (h : Option (Kept History)). IsVouched owed_kept over_kept cut_kept h drain.conn last.added last.full_finds last.is_lost) took.brought took.all.vouched in
+    vouched_by own took.history drain.conn drain.taken last.added last.full_finds is_lost reaches legal took.all.all (subst (λ b. Vouches owed_kept over_kept cut_kept took.history drain.conn last.added last.full_finds b) took.lost vouches) took.never
 
 -- as many items as the outbox holds, or more
-room_taken : (drain : Taking Item (Kept History)) → TookFull owed_kept over_kept drain → drain.capacity ≤ length drain.taken
+room_taken : (drain : Taking Item (Kept History)) → TookFull owed_kept over_kept cut_kept drain → drain.capacity ≤ length drain.taken
 room_taken drain took = subst (λ l. drain.capacity ≤ length l) (sym took.all.all) (took.all.room took.full)
 
 module _ {O S : Type 0} where
@@ -239,8 +244,10 @@ module _ {O S : Type 0} where
         inbox = k.inbox ∙ ap (λ w. inbox_of w.inbox) (sym back.given);
         own = k.own;
         owes = owed_by written.seen own written.drain.value.conn written.drain.value.taken (reached (Some own) k.realm.seen written.seen begins k.kept) k.owes;
-        whole = λ stopped. all_owed own k.realm.seen written.seen written.drain.value begins k.kept k.newest_is back.acts.legal (k.whole stopped);
+        whole = λ stopped. (all_owed false own k.realm.seen written.seen written.drain.value begins k.kept k.newest_is back.acts.legal (k.whole stopped)).0;
+        uncut = λ stopped. (all_owed false own k.realm.seen written.seen written.drain.value begins k.kept k.newest_is back.acts.legal (k.whole stopped)).1;
         full = λ found. room_taken written.drain.value (k.full found);
+        lost = λ is. all_owed true own k.realm.seen written.seen written.drain.value begins k.kept k.newest_is back.acts.legal (k.lost is);
       }
 
   course_tied : (realms : List (Shown S)) (runs : List (RealmRun S)) (conn : ℕ) (posters : List (Option (Poster S))) (course : Course O) → EachRuns realms runs → CourseKept realms conn posters course → CourseTied runs conn posters course

@@ -30,6 +30,7 @@ use Rattle.rawsocket.specs.declared.handshake.Serializer.{Serializer}
 use Rattle.realm.specs.Yield.{owed}
 use Rattle.realm_inbox.specs.EndViews.{home_of_poster, inbox_of_poster, posted, poster_conn}
 use Rattle.realm_inbox.specs.Ends.{Place}
+use Rattle.realm_inbox.specs.Over.{was_cut}
 use Rattle.realm_inbox.specs.Seats.{at_seat}
 use Rattle.realm_inbox.specs.declared.act.Act.{Act}
 use Rattle.realm_inbox.specs.declared.act.Act.TheVariants.{Join}
@@ -225,6 +226,8 @@ module _ {I O S : Type 0} (see : Sight I O) (offer : Offer) (runs : List (RealmR
         due = subst (λ (c : ℕ). IsPrefix written.drain.value.taken (owed (history_of t.run) c)) t.own t.owes;
         whole = λ stopped. t.whole stopped ∙ ap (owed (history_of t.run)) t.own;
         full = λ found. subst (λ (n : ℕ). n ≤ length written.drain.value.taken) (writes.later.capacity ∙ begins.new.5) (t.full found);
+        uncut = λ stopped. ap (was_cut (history_of t.run)) (sym t.own) ∙ t.uncut stopped;
+        lost = λ is. ((t.lost is).0 ∙ ap (owed (history_of t.run)) t.own, ap (was_cut (history_of t.run)) (sym t.own) ∙ (t.lost is).1);
       }
     where
       took : written.drain.value.taken ≡ h.talks.writes.written.items

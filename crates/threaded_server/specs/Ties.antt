@@ -1,12 +1,13 @@
 -- What a session was written, and the history of its realm.
-use Rattle.std.specs.Prelude.{◌≡◌, ◌≤◌, ⊤, ℕ, List, [], Option, None, Some, Contains, length, slice_get}
+use Rattle.std.specs.Prelude.{◌≡◌, ◌≤◌, ⊤, ℕ, true, false, List, [], Option, None, Some, Contains, length, slice_get}
 use mathlib.Core.List.{IsPrefix}
-use Rattle.connection.specs.declared.writer.WriteEnd.TheVariants.{Stopped, Full}
-use Rattle.outbox_queue.specs.Ends.{Owes, TookFull, TookWhole, newest}
+use Rattle.connection.specs.declared.writer.WriteEnd.TheVariants.{Stopped, Full, Lost}
+use Rattle.outbox_queue.specs.Ends.{Owes, TookFull, TookLost, TookWhole, newest}
 use Rattle.outbox_queue.specs.Tied.{Kept}
 use Rattle.realm.specs.History.{History, begun}
 use Rattle.realm.specs.Yield.{owed}
 use Rattle.realm_inbox.specs.EndViews.{inbox_of, inbox_of_poster, received}
+use Rattle.realm_inbox.specs.Over.{was_cut}
 use Rattle.realm_inbox.specs.declared.ends.Poster.{Poster}
 use Rattle.broker_threads.specs.Acts.{Acts}
 use Rattle.broker_threads.specs.Words.{are_counted}
@@ -14,7 +15,7 @@ use Rattle.broker_threads.specs.declared.actor_thread.ActorThread.{ActorThread}
 use Rattle.threaded_server.specs.Histories.{Start, start_of}
 use Rattle.threaded_server.specs.Realms.{Shown, inbox_in}
 use Rattle.wamp_messages.specs.declared.item.Item.{Item}
-use Rattle.broker_threads.specs.Writes.{over_kept, owed_kept}
+use Rattle.broker_threads.specs.Writes.{cut_kept, over_kept, owed_kept}
 use Rattle.broker_threads.specs.declared.course.Course.{Course}
 use Rattle.broker_threads.specs.declared.course.Course.TheVariants as course
 use Rattle.threaded_server.specs.declared.over.Over.{Over}
@@ -43,12 +44,14 @@ module _ {O S : Type 0} where
     pub own : written.drain.value.conn ≡ conn
     pub owes : Owes owed_kept written.seen written.drain.value.conn written.drain.value.taken
     pub newest_is : written.seen ≡ newest written.drain.value
-    pub whole : written.end ≡ Stopped → TookWhole owed_kept over_kept written.drain.value
-    pub full : written.end ≡ Full → TookFull owed_kept over_kept written.drain.value
+    pub whole : written.end ≡ Stopped → TookWhole owed_kept over_kept cut_kept written.drain.value
+    pub full : written.end ≡ Full → TookFull owed_kept over_kept cut_kept written.drain.value
+    pub lost : written.end ≡ Lost → TookLost owed_kept over_kept cut_kept written.drain.value
     pub kept : IsKeptIn realm.seen written.seen
 
   -- a connection's session was served by the poster of its realm's inbox, on which its realm's actor ran; and what its writer took begins what the history that this actor
-  -- made owes the connection. Where the writer stopped it is all of that; where its outbox was found full, it is as many items as that holds, or more
+  -- made owes the connection. Where the writer stopped it is all of that, and no Cut of the connection stands in that history; where the session was lost it is all of that too, but one
+  -- does; where its outbox was found full, it is as many items as that holds, or more
   pub record IsTied (runs : List (RealmRun S)) (conn : ℕ) (posters : List (Option (Poster S))) (written : Written O) : Type 0 where
     pub run : RealmRun S
     pub at : slice_get runs written.realm ≡ Some run
@@ -58,7 +61,9 @@ module _ {O S : Type 0} where
     pub own : written.drain.value.conn ≡ conn
     pub owes : IsPrefix written.drain.value.taken (owed (history_of run) written.drain.value.conn)
     pub whole : written.end ≡ Stopped → written.drain.value.taken ≡ owed (history_of run) written.drain.value.conn
+    pub uncut : written.end ≡ Stopped → was_cut (history_of run) written.drain.value.conn ≡ false
     pub full : written.end ≡ Full → written.drain.value.capacity ≤ length written.drain.value.taken
+    pub lost : written.end ≡ Lost → (written.drain.value.taken ≡ owed (history_of run) written.drain.value.conn) × (was_cut (history_of run) written.drain.value.conn ≡ true)
 
   -- of what became of a stream that had a seat, where a session was served
   abbrev pub CourseKept : List (Shown S) → ℕ → List (Option (Poster S)) → Course O → Type 0

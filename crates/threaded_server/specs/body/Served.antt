@@ -53,6 +53,6 @@ pub record ServedInParts {I O : Type 0} (S : Type 0) (see : Sight I O) (offer : 
   pub early_are : IsPrefix early streams
   pub early_came : given ≢ [] → asked ≤ length was.returned + length early
   pub handled : ∥ HandledBefore runs early ∥₁
-  -- what a session's writer took begins what the one history of the realm that its HELLO names owes its connection, and is all of that where it stopped; where its outbox was found
-  -- full, it took as many items as that holds, or more
+  -- what a session's writer took begins what the one history of the realm that its HELLO names owes its connection, and is all of that where it stopped, and that realm hasn't cut it;
+  -- the same where it is told Lost, but the realm has; where its outbox was found full, it took as many items as that holds, or more
   pub tied : ∥ All (λ over. OverTied runs over) streams ∥₁
