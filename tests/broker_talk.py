@@ -220,12 +220,13 @@ def free_port():
 
 
 class Broker:
-    """A broker that runs, or has ended: `status` is its exit status then."""
+    """A broker that runs, or has ended: `status` is its exit status then. What it writes to standard error goes to `errors`, an open file, if
+    one is given."""
 
-    def __init__(self, program, options=(), env=None, under=()):
+    def __init__(self, program, options=(), env=None, under=(), errors=None):
         self.port = free_port()
         words = [*under, program, "serve", "--port", str(self.port), *options, "r.one"]
-        self.process = subprocess.Popen(words, env=env, stdout=subprocess.PIPE, stderr=subprocess.PIPE)
+        self.process = subprocess.Popen(words, env=env, stdout=subprocess.PIPE, stderr=errors or subprocess.PIPE)
         self.told = self.first_line()
 
     def first_line(self):
@@ -250,10 +251,16 @@ class Broker:
             return next(int(line.split()[1]) for line in it if line.startswith(which))
 
     def end(self):
-        """Ends it, and gives what it wrote to standard error."""
+        """Ends it, and gives what it wrote to standard error, unless that goes to a file."""
         self.process.kill()
-        errors = self.process.stderr.read()
+        errors = self.process.stderr.read() if self.process.stderr else b""
         self.process.wait()
         self.process.stdout.close()
-        self.process.stderr.close()
+        if self.process.stderr:
+            self.process.stderr.close()
         return errors
+
+
+def told_lost(log):
+    """The lines of a log by which a connection was closed for want of memory."""
+    return [it for it in log.splitlines() if it.startswith(b"closed ") and b" reason=no_memory " in it]
