@@ -1,5 +1,5 @@
 -- An act was applied, or lost.
-use Rattle.std.proofs.Common.{length, ◌≡◌, ℕ, Bool, true, false, cond, not, List, [], ◌∷◌, ◌++◌, refl, sym, ap, ◌∙◌, subst, append_assoc, append-nil}
+use Rattle.std.proofs.Common.{length, ◌≡◌, ℕ, Bool, true, false, cond, not, List, [], ◌∷◌, refl, sym, ap, ◌∙◌, subst}
 use Rattle.realm.specs.declared.entry.Entry.{Entry}
 use Rattle.realm.specs.declared.entry.Entry.TheVariants as entry
 use Rattle.std.specs.Prelude.{Some}
@@ -13,7 +13,7 @@ use Rattle.realm.proofs.Lemmas.{live-joined}
 use Rattle.realm_actor.proofs.EntryLemmas.{not_joined}
 use Rattle.realm_inbox.specs.declared.joining.Joining.{Joining}
 use Rattle.realm_actor.specs.Rows.{box_in}
-use Rattle.realm_actor.specs.Tables.{EachMarked, EachWent, Sound, Standing}
+use Rattle.realm_actor.specs.Tables.{CutsNobody, EachMarked, EachWent, Sound, Standing}
 use Rattle.realm_actor.specs.ActorView.{Working, standing_in}
 use Rattle.realm_actor.specs.Words.{Words, ◌⊕◌}
 use Rattle.realm_actor.proofs.WordSteps.{none_more, more_on}
@@ -73,6 +73,14 @@ module _ {S : Type 0} where
   conn_of-entry_of c (Ping payload) w = refl
   conn_of-entry_of c Spoilt w = refl
   conn_of-entry_of c Gone w = refl
+
+  -- an act cuts nobody
+  pub uncut-entry_of : (h : History) (c : ℕ) (act : Act S) (w : ℕ) → CutsNobody h (entry_of c act w)
+  uncut-entry_of h c (Join joining) w d = refl
+  uncut-entry_of h c (Said said) w d = refl
+  uncut-entry_of h c (Ping payload) w d = refl
+  uncut-entry_of h c Spoilt w d = refl
+  uncut-entry_of h c Gone w d = refl
 
   pub may_come-entry_of : (h : History) (c : ℕ) (act : Act S) (w : ℕ) → is_join act ≡ false → live h c ≡ true → may_come h (entry_of c act w) ≡ true
   may_come-entry_of h c (Join joining) w other lives = absurd (cc)
@@ -135,20 +143,21 @@ module _ {S : Type 0} (c : ℕ) (joining : Joining S) (old new : Working S) wher
 
   pub applies_join : (held : List (Row S)) (mid : Standing S) (row : Row S) (place word : ℕ) (start : Words) (drawn : List ℕ)
       → held ≡ old.rows → EachWent (insert held place row) mid.rows → mid.history ≡ old.history ▷ entry.Join c word joining.authid → Sound mid.history mid.rows
-      → Cuts mid drawn (standing_in new) → NoneFull new.rows → start ≡ old.words ⊕ (word ∷ []) → new.words ≡ start ⊕ drawn
-      → row.conn ≡ c → box_in row ≡ Some joining.outbox → row.is_cut ≡ false → row.is_lost ≡ false → joining.outbox.full_finds ≡ 0
+      → Cuts mid drawn (standing_in new) → NoneFull new.rows → Sound new.history new.rows → start ≡ old.words ⊕ (word ∷ []) → new.words ≡ start ⊕ drawn
+      → row.conn ≡ c → box_in row ≡ Some joining.outbox → row.is_cut ≡ false → row.is_lost ≡ false → row.was_lost ≡ false → joining.outbox.full_finds ≡ 0
       → Applies c (Join joining) old new
-  applies_join held mid row place word start drawn same went history sound cuts none_full is words conn outbox is_cut is_lost never = record {
+  applies_join held mid row place word start drawn same went history sound cuts none_full still is words conn outbox is_cut is_lost was_lost never = record {
     word = word;
     drawn = drawn;
     rows = insert old.rows place row;
-    brought = record { place = place; row = row; rows_are = refl; conn = conn; outbox = outbox; is_cut = is_cut; is_lost = is_lost; never = never };
+    brought = record { place = place; row = row; rows_are = refl; conn = conn; outbox = outbox; is_cut = is_cut; is_lost = is_lost; was_lost = was_lost; never = never };
     accepted = record {
       mid = mid.rows;
       went = subst (λ x. EachWent (insert x place row) mid.rows) same went;
       sound = subst (λ x. Sound x mid.rows) history sound;
       cuts = subst (λ x. Cuts (record { history = x; rows = mid.rows }) drawn (standing_in new)) history cuts;
       none_full = none_full;
+      still_sound = still;
     };
     words = words ∙ ap (λ s. s ⊕ drawn) is ∙ more_on old.words (word ∷ []) drawn;
   }

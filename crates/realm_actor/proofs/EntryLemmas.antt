@@ -19,6 +19,7 @@ use Rattle.realm_actor.specs.OutboxHistory.{Box, Follows}
 use Rattle.realm_actor.specs.Rows.{BoxGoes, Rose, box_in, RowDue, RowGoes, Each, Ascending, EachDue, EachGoes, NoneRose}
 use Rattle.realm_actor.specs.Tables.{has_joined, IsOpen, Went, BoxWent, BoxEnds, HasRow, RowWent, EachWent, RowEnds, EachEnds, Sound, Ready}
 use Rattle.realm_actor.proofs.RowPlaces.{same_place, one_place, beside, pairs_set}
+use Rattle.realm_actor.proofs.Causes.{accounts_went}
 
 -- Booleans
 
@@ -156,6 +157,7 @@ module _ {S : Type 0} where
     rose = λ x. e.is_cut ∙ g.rose (rose_ends (not b && eqb c m.conn) (box_in o) (box_in m) (box_in p) e.box x);
     only = λ x. ⊎_elim (λ (y : o.is_cut ≡ true). inl y) (λ (y : Rose (box_in o) (box_in m)). inr (rose_ended (not b && eqb c m.conn) (box_in o) (box_in m) (box_in p) e.box y)) (g.only (sym e.is_cut ∙ x));
     is_lost = e.is_lost ∙ g.is_lost;
+    was_lost = e.was_lost ∙ g.was_lost;
   }
 
   module _ (h : History) (e : Entry) (c : ℕ) (olds mid news : List (Row S)) (own : conn_of e ≡ c) (come : may_come h e ≡ true) (ready : Ready e h olds)
@@ -239,6 +241,9 @@ module _ {S : Type 0} where
           let eo = beside news olds k p (sym went_all.0) ep in
           let same_conn = (went_all.1 k (get_or olds k p) p eo ep).conn in
           subst (λ d. has_joined after d ≡ true) (sym same_conn) (joined_after h e (get_or olds k p).conn come (ready.joined k (get_or olds k p) eo));
+      accounted = λ k p ep.
+          let eo = beside news olds k p (sym went_all.0) ep in
+          accounts_went after (get_or olds k p) p (went_all.1 k (get_or olds k p) p eo ep) (ready.accounted k (get_or olds k p) eo);
       has_rows = live_has;
       legal = (ready.legal, come);
     }
@@ -254,7 +259,7 @@ BoxEnds-by shut o p is e = subst (λ b. BoxEnds b o p) (sym is) e
 
 module _ {S : Type 0} where
   RowEnds-other : (c : ℕ) (b : Bool) (r : Row S) → not b && eqb c r.conn ≡ false → RowEnds c b r r
-  RowEnds-other c b r is = record { conn = refl; is_cut = refl; is_lost = refl; box = BoxEnds-same (not b && eqb c r.conn) (box_in r) is }
+  RowEnds-other c b r is = record { conn = refl; is_cut = refl; is_lost = refl; was_lost = refl; box = BoxEnds-same (not b && eqb c r.conn) (box_in r) is }
 
   RowEnds-away : (c : ℕ) (b : Bool) (r : Row S) → r.conn ≢ c → RowEnds c b r r
   RowEnds-away c b r n = RowEnds-other c b r (ap (λ x. not b && x) (ne_eqb c r.conn (λ same. n (sym same))) ∙ and-false (not b))
@@ -266,11 +271,11 @@ module _ {S : Type 0} where
   ends_nowhere c b rows none = (refl, λ k o p eo ep. subst (λ q. RowEnds c b o q) (same_place rows k o p eo ep) (RowEnds-away c b o (none k o eo)))
 
   pub ends_here : (c : ℕ) (b : Bool) (rows : List (Row S)) (p : ℕ) (r s : Row S) → b ≡ false → Ascending rows → slice_get rows p ≡ Some r → r.conn ≡ c
-      → s.conn ≡ r.conn → s.is_cut ≡ r.is_cut → s.is_lost ≡ r.is_lost → BoxEnds true (box_in r) (box_in s) → EachEnds c b rows (set rows p s)
-  ends_here c b rows p r s dead up get own kept cut lost box =
+      → s.conn ≡ r.conn → s.is_cut ≡ r.is_cut → s.is_lost ≡ r.is_lost → s.was_lost ≡ r.was_lost → BoxEnds true (box_in r) (box_in s) → EachEnds c b rows (set rows p s)
+  ends_here c b rows p r s dead up get own kept cut lost was_lost box =
       let shut : not b && eqb c r.conn ≡ true = ap (λ x. not x && eqb c r.conn) dead ∙ eq-eqb c r.conn (sym own) in
       pairs_set rows p r s (RowEnds c b) get
-      (record { conn = kept; is_cut = cut; is_lost = lost; box = BoxEnds-by (not b && eqb c r.conn) (box_in r) (box_in s) shut box })
+      (record { conn = kept; is_cut = cut; is_lost = lost; was_lost = was_lost; box = BoxEnds-by (not b && eqb c r.conn) (box_in r) (box_in s) shut box })
       (λ k o away eo. RowEnds-away c b o (λ same. away (one_place rows c k p o r up eo get same own)))
 
 pub taken_whole : {A : Type 0} (n : ℕ) (xs ys : List A) → length xs ≡ n → take n (xs ++ ys) ≡ xs

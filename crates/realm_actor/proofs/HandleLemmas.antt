@@ -2,6 +2,7 @@
 use Rattle.std.proofs.Common.{◌≡◌, ◌≢◌, ℕ, ◌<◌, Bool, true, false, not, eqb, List, [], ◌∷◌, length, get_or, refl, sym, ap, ◌∙◌, subst, inl, inr, ⊎_elim, arith}
 use Rattle.std.specs.Prelude.{Option, Some, None, ⊤, slice_get, MatchOption, option_map}
 use Rattle.std.proofs.lemmas.Bool.{eqb-true, eq-eqb, or_cases, or_left, ne_eqb, true_from_ne_false, not_from_false}
+use Rattle.realm.specs.declared.entry.Entry.TheVariants as entry
 use Rattle.realm.specs.History.{History}
 use Rattle.realm.specs.Sessions.{live, may_join}
 use Rattle.realm_actor.specs.declared.row.Row.{Row}
@@ -13,7 +14,7 @@ use Rattle.realm_actor.specs.declared.outcome.Outcome.{Outcome}
 use Rattle.realm_actor.specs.declared.outcome.Outcome.TheVariants.{Applied, Dropped, NoMemory}
 use Rattle.realm_actor.specs.OutboxHistory.{Box, Follows}
 use Rattle.realm_actor.specs.Rows.{box_in, Each}
-use Rattle.realm_actor.specs.Tables.{has_joined, IsOpen, Went, BoxWent, EachWent, EachMarked, Sound}
+use Rattle.realm_actor.specs.Tables.{has_joined, IsOpen, Went, BoxWent, EachWent, EachMarked, Ready, Sound}
 use Rattle.realm_actor.specs.Cuts.{NoneFull, IsFull}
 use Rattle.realm_actor.specs.ActorView.{Working}
 use Rattle.realm_actor.specs.Handle.{Applies, Loses, cut, not_live, nothing_drawn, Brings, EachUnmarked, Acts, Does, is_dropped, WithRow}
@@ -23,6 +24,8 @@ use Rattle.realm_actor.proofs.RowPlaces.{read, beside, insert_all}
 use Rattle.realm_actor.proofs.MarkedRows.{unmarked_after}
 use Rattle.realm_actor.proofs.LastCutLemmas.{EachMoved, EachWent-same, accepted_went, moved_went, moved_marked, moved_on, moved_by, names_moved, found, same_after, insert_other, insert_here, holds_nowhere}
 use Rattle.realm_actor.proofs.EntryLemmas.{not_joined}
+use Rattle.realm_actor.proofs.FoundFull.{InStep, steps_of, ready_for}
+use Rattle.realm_actor.proofs.Causes.{accounts_marked, accounts_same}
 
 -- who isn't refused is taken
 taken : (b : Bool) → (not b ≡ true → ⊥) → b ≡ true
@@ -210,8 +213,8 @@ module _ {S : Type 0} where
     was : (k : ℕ) (r : Row S) → slice_get news k ≡ Some r → slice_get olds k ≡ Some (get_or olds k r)
     was k r e = beside news olds k r (sym u.0) e
 
-    pub sound_same : (h : History) → Sound h olds → Sound h news
-    sound_same h sound = record {
+    steps_same : (h : History) → InStep h olds → InStep h news
+    steps_same h sound = record {
       ascending = λ i j r s less er es.
           let x = was i r er in
           let y = was j s es in
@@ -235,12 +238,35 @@ module _ {S : Type 0} where
       legal = sound.legal;
     }
 
+    pub sound_same : (h : History) → ((k : ℕ) (o p : Row S) → slice_get olds k ≡ Some o → slice_get news k ≡ Some p → p.was_lost ≡ o.was_lost) → Sound h olds → Sound h news
+    sound_same h lost sound =
+        let steps = steps_same h (steps_of h olds sound) in
+        record {
+          ascending = steps.ascending;
+          in_step = steps.in_step;
+          is_open = steps.is_open;
+          joined = steps.joined;
+          accounted = λ k r e.
+              let x = was k r e in
+              let t = u.1 k (get_or olds k r) r x e in
+              accounts_same h (get_or olds k r) r t.0 t.1 (lost k (get_or olds k r) r x e) (sound.accounted k (get_or olds k r) x);
+          has_rows = steps.has_rows;
+          legal = steps.legal;
+        }
+
     pub none_same_full : NoneFull olds → NoneFull news
     none_same_full none k r e = let x = was k r e in subst (λ held. IsFull (option_map (λ z. z.outbox) held) → ⊥) (sym (u.1 k (get_or olds k r) r x e).1) (none k (get_or olds k r) x)
 
+  -- whose row was marked as lost may be cut
+  pub ready_marked : (h : History) (c : ℕ) (word : Option ℕ) (olds news : List (Row S)) → live h c ≡ true → EachMarked c olds news → Sound h olds → Ready (entry.Cut c word) h news
+  ready_marked h c word olds news is_live m sound =
+      let u = same_marked c olds news m in
+      ready_for h (entry.Cut c word) c news refl is_live (steps_same olds news u h (steps_of h olds sound))
+      (λ k p e. let x = was olds news u k p e in accounts_marked h c word (get_or olds k p) p (m.1 k (get_or olds k p) p x e) (sound.accounted k (get_or olds k p) x))
+
   pub stands_after : (h : History) (ends news : List (Row S)) → Sound h ends → NoneFull ends → EachUnmarked ends news → Stands h news
   stands_after h ends news sound none u = record {
-    sound = sound_same ends news (same_unmarked ends news u) h sound;
+    sound = sound_same ends news (same_unmarked ends news u) h (λ k o p e f. (u.1 k o p e f).was_lost) sound;
     none_full = none_same_full ends news (same_unmarked ends news u) none;
     unmarked = unmarked_after ends news u;
   }

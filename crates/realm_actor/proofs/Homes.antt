@@ -1,5 +1,5 @@
 -- The chronicle of each row's outbox, where one is picked, stays the actor's.
-use Rattle.std.proofs.Common.{◌≡◌, ◌<◌, ℕ, Bool, List, length, set, [], ◌∷◌, ◌++◌, get_or, Ok, Err, refl, sym, ap, ◌∙◌, subst, arith}
+use Rattle.std.proofs.Common.{◌≡◌, ◌<◌, ℕ, Bool, List, length, get_or, Ok, Err, refl, sym, ap, ◌∙◌, subst, arith}
 use Rattle.std.specs.Prelude.{Option, Some, None, slice_get, option_map, filter, IfOk, IfErr}
 use Rattle.std.specs.List.{insert}
 use Rattle.std.specs.declared.result.Result.{Result}
@@ -13,7 +13,7 @@ use Rattle.realm_inbox.specs.declared.letter.Post.TheVariants.{Act, Stop}
 use Rattle.realm_inbox.specs.Seats.{IsHomed}
 use Rattle.realm_actor.specs.Run.{IsAt}
 use Rattle.realm_actor.specs.declared.row.Row.{Row}
-use Rattle.realm_actor.specs.OutboxHistory.{Box, Goes, IsHome}
+use Rattle.realm_actor.specs.OutboxHistory.{Box, IsHome}
 use Rattle.realm_actor.specs.Rows.{box_in, BoxGoes, RowGoes, EachGoes, RowHome, EachHome}
 use Rattle.realm_actor.specs.Tables.{BoxEnds, RowEnds, EachEnds, RowMarked, EachMarked}
 use Rattle.realm_actor.specs.Handle.{Unmarked, EachUnmarked}

@@ -90,7 +90,7 @@ insert_length (y ∷ xs) (suc i) x = let h = insert_length xs i x in omega (arit
 
 module _ {S : Type 0} where
   RowWent-same : (r : Row S) → RowWent r r
-  RowWent-same r = record { conn = refl; box = BoxWent-same (box_in r); still = λ h. h; rose = λ h. absurd (not_above (box_in r) h); only = λ h. inl h; is_lost = refl }
+  RowWent-same r = record { conn = refl; box = BoxWent-same (box_in r); still = λ h. h; rose = λ h. absurd (not_above (box_in r) h); only = λ h. inl h; is_lost = refl; was_lost = refl }
 
   RowWent-on : (o p q : Row S) → RowWent o p → RowWent p q → RowWent o q
   RowWent-on o p q a b = record {
@@ -103,6 +103,7 @@ module _ {S : Type 0} where
         (λ (x : Rose (box_in p) (box_in q)). inr (rose_later (box_in o) (box_in p) (box_in q) a.box b.box x))
         (b.only h);
     is_lost = b.is_lost ∙ a.is_lost;
+    was_lost = b.was_lost ∙ a.was_lost;
   }
 
   pub EachWent-same : (rows : List (Row S)) → EachWent rows rows

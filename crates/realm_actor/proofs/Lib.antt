@@ -3,7 +3,9 @@ pub mod OfferLemmas
 pub mod RowPlaces
 pub mod RowDelivery
 pub mod Homes
+pub mod Causes
 pub mod EntryLemmas
+pub mod WhoWasCut
 pub mod FoundFull
 pub mod RowInsertion
 pub mod AppliedActs

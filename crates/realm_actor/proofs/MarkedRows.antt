@@ -87,7 +87,7 @@ module _ {S : Type 0} where
   pub unmarked_same : (rows : List (Row S)) → NoMarks rows → EachUnmarked rows rows
   unmarked_same rows n = (
     refl,
-    λ k o p e f. let t = n k o e in subst (λ q. Unmarked o q) (same_place rows k o p e f) (record { conn = refl; held = refl; is_cut = t.0; is_lost = t.1 }),
+    λ k o p e f. let t = n k o e in subst (λ q. Unmarked o q) (same_place rows k o p e f) (record { conn = refl; held = refl; is_cut = t.0; is_lost = t.1; was_lost = refl }),
   )
 
   pub unmarked_after : (olds news : List (Row S)) → EachUnmarked olds news → NoMarks news

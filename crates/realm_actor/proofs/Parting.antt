@@ -2,6 +2,7 @@
 use Rattle.std.proofs.Common.{◌≡◌, ◌≢◌, ℕ, suc, ◌+◌, ◌<◌, ◌≤◌, Bool, true, false, cond, List, [], ◌∷◌, append-nil, filter, length, set, get_or, refl, sym, ap, ◌∙◌, subst, ⊎_elim, arith}
 use Rattle.std.specs.Prelude.{⊤, MatchOption, Option, Some, None, is_some, option_map, slice_get}
 use Rattle.std.proofs.Math.ListN.{length-set}
+use Rattle.std.proofs.lemmas.Bool.{false_from_ne_true}
 use Rattle.atomic_table.specs.Seated.{TableId}
 use Rattle.outbox_queue.specs.Ends.{Vouches}
 use Rattle.outbox_queue.specs.Rule.{Belongs}
@@ -10,31 +11,42 @@ use Rattle.realm.specs.History.{History}
 use Rattle.realm.specs.Sessions.{live, who}
 use Rattle.realm.specs.Yield.{owed}
 use Rattle.realm.proofs.NothingAfterAnEnding.{owed-over}
-use Rattle.realm_inbox.specs.Over.{OwesNoMore}
+use Rattle.realm.proofs.Lemmas.{clash}
+use Rattle.realm_inbox.specs.Over.{OwesNoMore, was_cut}
 use Rattle.eligibility.specs.declared.who.Who.{Who}
 use Rattle.realm_actor.specs.declared.row.HeldOutbox.{HeldOutbox}
 use Rattle.realm_actor.specs.declared.row.Row.{Row}
 use Rattle.realm_actor.specs.Rows.{RowDue, RowHome}
 use Rattle.realm_actor.specs.OutboxHistory.{Box, Follows, IsHome}
 use Rattle.realm_actor.specs.Settle.{EachParted, Parted}
-use Rattle.realm_actor.specs.Tables.{has_joined}
+use Rattle.realm_actor.specs.Tables.{has_joined, Accounts, HasCause}
 use Rattle.realm_actor.proofs.RowPlaces.{read, within, same_place, written}
+use Rattle.realm_actor.proofs.WhoWasCut.{cut_over}
 
 none_of : (o : Option Who) → is_some o ≡ false → o ≡ None
 none_of None is = refl
 none_of (Some w) is = absurd (cc is)
 
--- who has joined and isn't live is owed nothing more
+-- who has joined and isn't live is owed nothing more, and cut no more
 pub owes_no_more : (h : History) (c : ℕ) → has_joined h c ≡ true → live h c ≡ false → OwesNoMore h c
-owes_no_more h c joined dead k begins is_history = owed-over h k c (record { joined = joined; ended = none_of (who h c) dead }) begins is_history
+owes_no_more h c joined dead = record {
+  owes = λ k begins is_history. owed-over h k c (record { joined = joined; ended = none_of (who h c) dead }) begins is_history;
+  cuts = λ k begins is_history. cut_over h k c joined dead begins is_history;
+}
 
--- a history vouches for an outbox that follows it, of a session that isn't live
-pub vouches : (h : History) (chronicle : TableId) (o : Box) (c : ℕ) → Follows h [] o → o.conn ≡ c → has_joined h c ≡ true → live h c ≡ false
-    → Vouches (λ (k : Kept History) conn. owed k.history conn) (λ (k : Kept History) conn. OwesNoMore k.history conn) (record { chronicle = chronicle; history = h }) o.conn o.added o.full_finds
-vouches h chronicle o c follows own joined dead = record {
+-- a history vouches for an outbox that follows it, of a session that isn't live and was cut only where it had a cause
+pub vouches : (h : History) (chronicle : TableId) (o : Box) (c : ℕ) (is_lost : Bool) → Follows h [] o → o.conn ≡ c → has_joined h c ≡ true → live h c ≡ false
+    → (was_cut h c ≡ true → HasCause is_lost (Some o)) → (is_lost ≡ true → was_cut h c ≡ true)
+    → Vouches (λ (k : Kept History) conn. owed k.history conn) (λ (k : Kept History) conn. OwesNoMore k.history conn) (λ (k : Kept History) conn. was_cut k.history conn) (record { chronicle = chronicle; history = h }) o.conn o.added o.full_finds is_lost
+vouches h chronicle o c is_lost follows own joined dead cause lost = record {
   over = subst (λ n. OwesNoMore h n) (sym own) (owes_no_more h c joined dead);
   begins = follows.begins;
   whole = λ never. sym (append-nil o.added) ∙ follows.whole never;
+  uncut = λ never kept. ap (was_cut h) own ∙ false_from_ne_true (was_cut h c) (λ is. ⊎_elim
+      (λ (full : 0 < o.full_finds). absurd (omega (arith, full, never)))
+      (λ (gone : is_lost ≡ true). clash is_lost gone kept)
+      (cause is));
+  lost = λ gone. ap (was_cut h) own ∙ lost gone;
 }
 
 pub of_home : (chronicle : TableId) (h : History) (o : Box) → IsHome chronicle o → Belongs (λ (k : Kept History) name. k.chronicle ≡ name) (record { chronicle = chronicle; history = h }) o.chronicle
@@ -43,6 +55,10 @@ of_home chronicle h o home picked is = home picked is
 module _ {S : Type 0} where
   pub follows_held : (h : History) (r : Row S) (x : HeldOutbox S) → r.held ≡ Some x → RowDue h [] r → Follows h [] x.outbox
   follows_held h r x is due = subst (λ (held : Option (HeldOutbox S)). MatchOption held ⊤ (λ e. Follows h [] e.outbox)) is due
+
+  -- a held outbox has its cause
+  pub cause_held : (h : History) (r : Row S) (x : HeldOutbox S) → r.held ≡ Some x → Accounts h r → was_cut h r.conn ≡ true → HasCause r.was_lost (Some x.outbox)
+  cause_held h r x is a cut = subst (λ (held : Option (HeldOutbox S)). HasCause r.was_lost (option_map (λ e. e.outbox) held)) is (a.cut cut)
 
   pub home_held : (own : TableId) (r : Row S) (x : HeldOutbox S) → r.held ≡ Some x → RowHome own r → IsHome own x.outbox
   home_held own r x is home = home x.outbox (ap (option_map (λ (e : HeldOutbox S). e.outbox)) is)

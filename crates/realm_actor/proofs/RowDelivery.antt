@@ -54,7 +54,7 @@ module _ {S : Type 0} where
   row_at rows p d r h e = let here = read rows p d h in (here, same_place rows p (get_or rows p d) r here e)
 
   pub RowGoes-same : (r : Row S) → RowGoes r r
-  RowGoes-same r = record { conn = refl; box = BoxGoes-same (box_in r); still = λ e. e; rose = λ h. absurd (not_above (box_in r) h); only = λ e. inl e; is_lost = refl }
+  RowGoes-same r = record { conn = refl; box = BoxGoes-same (box_in r); still = λ e. e; rose = λ h. absurd (not_above (box_in r) h); only = λ e. inl e; is_lost = refl; was_lost = refl }
 
   pub RowGoes-on : (o p q : Row S) → RowGoes o p → RowGoes p q → RowGoes o q
   RowGoes-on o p q a b =
@@ -70,6 +70,7 @@ module _ {S : Type 0} where
             (λ (z : Rose (box_in p) (box_in q)). inr (rose_later (box_in o) (box_in p) (box_in q) x y z))
             (b.only e);
         is_lost = b.is_lost ∙ a.is_lost;
+        was_lost = b.was_lost ∙ a.was_lost;
       }
 
   pub EachGoes-same : (rows : List (Row S)) → EachGoes rows rows

@@ -7,16 +7,19 @@ use Rattle.std.proofs.Math.Bool.{or-false}
 use Rattle.realm.specs.declared.entry.Entry.{Entry}
 use Rattle.outbox_queue.specs.Rule.{Grows}
 use Rattle.realm.specs.History.{History, begun, ◌▷◌, Begins}
-use Rattle.realm.specs.Sessions.{live, conn_of, may_join, IsHistory}
+use Rattle.realm.specs.Sessions.{live, conn_of, may_join, may_come, IsHistory}
 use Rattle.realm.specs.Yield.{owed, yield}
 use Rattle.realm.proofs.Lemmas.{live-joined}
 use Rattle.realm_actor.specs.declared.row.Row.{Row}
 use Rattle.outbox_queue.specs.Tied.{history_of}
 use Rattle.realm_actor.specs.OutboxHistory.{Box, Follows}
 use Rattle.realm_actor.specs.Rows.{box_in, RowDue, Each, Ascending, PartsAt}
-use Rattle.realm_actor.specs.Tables.{has_joined, IsOpen, HasRow, Sound, Ready}
+use Rattle.realm_actor.specs.Tables.{has_joined, Accounts, CutsNobody, IsOpen, HasRow, Sound, Ready}
 use Rattle.realm_actor.proofs.RowPlaces.{within, insert_all}
 use Rattle.realm_actor.proofs.EntryLemmas.{joined_after, quiet, of_box, not_joined}
+use Rattle.realm_actor.proofs.WhoWasCut.{never_cut, join_cuts_nobody}
+use Rattle.realm_actor.proofs.Causes.{accounts_new, accounts_uncut}
+use Rattle.realm_inbox.specs.Over.{was_cut}
 
 -- where the row at a place of the longer list comes from
 data From {A : Type 0} (xs : List A) (i : ℕ) (a : A) (k : ℕ) (r : A) : Type 0 where
@@ -82,7 +85,8 @@ module _ {S : Type 0} where
 
   -- the rows are ready for the Join of a connection that may join, with its new row
   module _ (h : History) (e : Entry) (c : ℕ) (rows : List (Row S)) (i : ℕ) (a : Row S) (o : Box) (own : conn_of e ≡ c) (may : may_join h c ≡ true) (sound : Sound h rows)
-      (parts : PartsAt rows c i) (conn : a.conn ≡ c) (box : box_in a ≡ Some o) (of : o.conn ≡ c) (empty : o.added ≡ []) (unseen : o.history ≡ None) (fresh : o.is_closed ≡ false) (never : o.full_finds ≡ 0) where
+      (parts : PartsAt rows c i) (conn : a.conn ≡ c) (box : box_in a ≡ Some o) (of : o.conn ≡ c) (empty : o.added ≡ []) (unseen : o.history ≡ None) (fresh : o.is_closed ≡ false) (never : o.full_finds ≡ 0) (whole : a.was_lost ≡ false)
+      (come : may_come h e ≡ true) where
     longer_rows : List (Row S)
     longer_rows = insert rows i a
 
@@ -121,6 +125,9 @@ module _ {S : Type 0} where
     open_new : IsOpen (live h a.conn || eqb (conn_of e) a.conn) (box_in a)
     open_new = subst (λ x. IsOpen (live h a.conn || eqb (conn_of e) a.conn) x) (sym box) (fresh ∙ sym (ap not (or_right (live h a.conn) (eqb (conn_of e) a.conn) here_test)))
 
+    uncut : CutsNobody h e
+    uncut = join_cuts_nobody h e c own may come
+
     pub ready_join : Ready e h (insert rows i a)
     ready_join = record {
       ascending = ascending_new;
@@ -131,6 +138,9 @@ module _ {S : Type 0} where
           (λ k r get. subst (λ b. IsOpen b (box_in r)) (sym (ap (λ b. live h r.conn || b) (away_test r (other k r get)) ∙ or-false (live h r.conn))) (sound.is_open k r get));
       joined = each_new (λ r. has_joined h r.conn || eqb (conn_of e) r.conn ≡ true) (or_right (has_joined h a.conn) (eqb (conn_of e) a.conn) here_test)
           (λ k r get. or_left (has_joined h r.conn) (eqb (conn_of e) r.conn) (sound.joined k r get));
+      accounted = each_new (λ r. Accounts (h ▷ e) r)
+          (accounts_new (h ▷ e) a (uncut a.conn ∙ ap (was_cut h) conn ∙ never_cut h c sound.legal (not_joined h c may)) whole)
+          (λ k r get. accounts_uncut h e r uncut (sound.accounted k r get));
       has_rows = λ d is_live. has_somewhere rows i a d parts.0 (sound.has_rows d is_live);
       own = (i, (within (insert rows i a) i a (at_place rows i a parts.0), a, at_place rows i a parts.0, conn ∙ sym own));
       legal = sound.legal;

@@ -21,12 +21,13 @@ use Rattle.realm_inbox.specs.HistoryBeginnings.{begins_longer}
 use Rattle.realm_actor.specs.Settle.{Settles, Sweeps, EmptiesOne}
 use Rattle.realm_actor.specs.OutboxHistory.{Box, Follows}
 use Rattle.realm_actor.specs.Rows.{box_in, RowDue, Each, Ascending, StandsAt}
-use Rattle.realm_actor.specs.Tables.{has_joined, IsOpen}
+use Rattle.realm_actor.specs.Tables.{has_joined, Accounts, IsOpen}
 use Rattle.realm_actor.specs.Cuts.{IsFull}
 use Rattle.realm_actor.specs.LastCut.{outbox_of}
 use Rattle.realm_actor.specs.Invariant.{Stands}
 use Rattle.realm_actor.proofs.RowPlaces.{read, within, same_place, written, each_set}
 use Rattle.realm_actor.proofs.LastCutLemmas.{looked_up, holds_nowhere}
+use Rattle.realm_actor.proofs.Causes.{accounts_emptied}
 
 nobody : (grants : Grants) (c : ℕ) → live (begun grants) c ≡ true → ⊥
 unfolding who
@@ -40,6 +41,7 @@ module _ {S : Type 0} where
       in_step = λ k r e. absurd (cc e);
       is_open = λ k r e. absurd (cc e);
       joined = λ k r e. absurd (cc e);
+      accounted = λ k r e. absurd (cc e);
       has_rows = λ c e. absurd (nobody grants c e);
       legal = tt;
     };
@@ -100,6 +102,7 @@ module _ {S : Type 0} where
           in_step = λ k r e. let t = source test rows k r e in s.sound.in_step t.0 r t.1;
           is_open = λ k r e. let t = source test rows k r e in s.sound.is_open t.0 r t.1;
           joined = λ k r e. let t = source test rows k r e in s.sound.joined t.0 r t.1;
+          accounted = λ k r e. let t = source test rows k r e in s.sound.accounted t.0 r t.1;
           has_rows = λ c is.
               let row = s.sound.has_rows c is in
               let t = remains test rows row.0 row.1.1 row.1.2 (ap (live h) row.1.3 ∙ is) in
@@ -150,7 +153,7 @@ module _ {S : Type 0} where
   written_at (x ∷ rows) zero r s e = refl
   written_at (x ∷ rows) (suc p) r s e = written_at rows p r s e
 
-  module _ (rows : List (Row S)) (p : ℕ) (r s : Row S) (get : slice_get rows p ≡ Some r) (own : s.conn ≡ r.conn) (none : s.held ≡ None) (cut : s.is_cut ≡ r.is_cut) (lost : s.is_lost ≡ r.is_lost) where
+  module _ (rows : List (Row S)) (p : ℕ) (r s : Row S) (get : slice_get rows p ≡ Some r) (own : s.conn ≡ r.conn) (none : s.held ≡ None) (cut : s.is_cut ≡ r.is_cut) (lost : s.is_lost ≡ r.is_lost) (was_lost : s.was_lost ≡ r.was_lost) where
     conn_at : (k : ℕ) (t : Row S) → slice_get (set rows p s) k ≡ Some t → (o : Row S) × (slice_get rows k ≡ Some o) × (t.conn ≡ o.conn)
     conn_at k t e = ⊎_elim
         (λ (at : (k ≡ p) × (s ≡ t)). (r, ap (slice_get rows) at.0 ∙ get, ap (λ (x : Row S). x.conn) (sym at.1) ∙ own))
@@ -173,6 +176,7 @@ module _ {S : Type 0} where
         in_step = each_set rows p s (λ x. RowDue h [] x) (subst (λ held. MatchOption held ⊤ (λ z. Follows h [] z.outbox)) (sym none) tt) was.sound.in_step;
         is_open = each_set rows p s (λ x. IsOpen (live h x.conn) (box_in x)) (subst (λ held. IsOpen (live h s.conn) (option_map (λ z. z.outbox) held)) (sym none) tt) was.sound.is_open;
         joined = each_set rows p s (λ x. has_joined h x.conn ≡ true) (ap (has_joined h) own ∙ was.sound.joined p r get) was.sound.joined;
+        accounted = each_set rows p s (λ x. Accounts h x) (accounts_emptied h r s own none was_lost (was.sound.accounted p r get)) was.sound.accounted;
         has_rows = λ c is.
             let row = was.sound.has_rows c is in
             let l = length-set rows p s in
@@ -202,6 +206,7 @@ module _ {S : Type 0} where
       let f = due.0 in
       let conn : m.outbox.conn ≡ c = due.1 ∙ e.own in
       record {
+        rows = e;
         outbox = m.outbox;
         was = holds_at old.rows c e.place e.old s.sound.ascending e.stands e.own ∙ m.was;
         added = m.joins.whole;
@@ -209,8 +214,8 @@ module _ {S : Type 0} where
         whole = λ never. m.joins.whole ∙ sym (append-nil m.outbox.added) ∙ f.whole never ∙ ap (owed old.history) conn;
         stood = λ full. ap length m.joins.whole ∙ f.stood full;
         seen = grows_on (history_of drain.seen) (history_of m.outbox.history) (Some old.history) m.joins.seen f.seen;
-        gone = ap (λ l. outbox_of l c) e.after ∙ ap (outbox_of (set old.rows e.place e.new)) (sym e.own) ∙ gone_there old.rows e.place e.old e.new e.stands m.conn m.held m.is_cut m.is_lost s.sound.ascending;
-        others = λ d n. ap (λ l. outbox_of l d) e.after ∙ others_there old.rows e.place e.old e.new e.stands m.conn m.held m.is_cut m.is_lost d (λ h. n (h ∙ e.own));
+        gone = ap (λ l. outbox_of l c) e.after ∙ ap (outbox_of (set old.rows e.place e.new)) (sym e.own) ∙ gone_there old.rows e.place e.old e.new e.stands m.conn m.held m.is_cut m.is_lost m.was_lost s.sound.ascending;
+        others = λ d n. ap (λ l. outbox_of l d) e.after ∙ others_there old.rows e.place e.old e.new e.stands m.conn m.held m.is_cut m.is_lost m.was_lost d (λ h. n (h ∙ e.own));
         history = history;
         words = words;
         last_cut = last_cut;
@@ -235,6 +240,7 @@ module _ {S : Type 0} where
   pub sweeps : (old new : Acting S) → Stands old.history old.rows → new.rows ≡ filter (λ r. live old.history r.conn) old.rows → new.history ≡ old.history → new.words ≡ old.words
       → new.last_cut ≡ old.last_cut → new.handled ≡ old.handled → Sweeps old new
   sweeps old new s rows history words last_cut handled = record {
+    rows = rows;
     lives = λ c is. ap (λ l. outbox_of l c) rows ∙ swept_live old.history old.rows c s.sound.ascending is;
     others = λ c is. ap (λ l. outbox_of l c) rows ∙ swept_dead old.history old.rows c is;
     history = history;
@@ -244,7 +250,7 @@ module _ {S : Type 0} where
   }
 
   pub stands_one : (h : History) (c : ℕ) (drain : Taking Item (Kept History)) (rest : List Item) (olds news : List (Row S)) → Stands h olds → EmptiesOne c drain rest olds news → Stands h news
-  stands_one h c drain rest olds news s e = subst (λ l. Stands h l) (sym e.after) (stands_emptied olds e.place e.old e.new e.stands e.emptied.conn e.emptied.held e.emptied.is_cut e.emptied.is_lost h s)
+  stands_one h c drain rest olds news s e = subst (λ l. Stands h l) (sym e.after) (stands_emptied olds e.place e.old e.new e.stands e.emptied.conn e.emptied.held e.emptied.is_cut e.emptied.is_lost e.emptied.was_lost h s)
 
   pub length_one : (c : ℕ) (drain : Taking Item (Kept History)) (rest : List Item) (olds news : List (Row S)) → EmptiesOne c drain rest olds news → length news ≡ length olds
   length_one c drain rest olds news e = ap length e.after ∙ length-set olds e.place e.new

@@ -3,7 +3,6 @@ use Rattle.std.proofs.Common.{◌≡◌, ℕ, Bool, true, false, List, [], ◌�
 use Rattle.std.specs.Prelude.{Some, None}
 use Rattle.realm.specs.declared.entry.Entry.TheVariants as entry
 use Rattle.realm.specs.History.{History, ◌▷◌, Begins, same, longer}
-use Rattle.realm.specs.Sessions.{live}
 use Rattle.realm_inbox.specs.declared.act.Act as the
 use Rattle.realm_inbox.specs.declared.act.Act.TheVariants.{Join, Said, Ping, Spoilt, Gone}
 use Rattle.realm_inbox.specs.declared.letter.Halt.{Halt}

@@ -116,15 +116,24 @@ module _ {S : Type 0} where
   -- the row of c is marked as lost
 
   marked_other : (c : ℕ) (r : Row S) → r.conn ≢ c → RowMarked c r r
-  marked_other c r n = record { conn = refl; held = refl; is_cut = refl; is_lost = sym (ap (λ b. r.is_lost || b) (ne_eqb c r.conn (λ same. n (sym same))) ∙ or-false r.is_lost) }
+  marked_other c r n = record { conn = refl; held = refl; is_cut = refl; is_lost = unchanged r.is_lost; was_lost = unchanged r.was_lost }
+    where
+      unchanged : (b : Bool) → b ≡ b || eqb c r.conn
+      unchanged b = sym (ap (λ t. b || t) (ne_eqb c r.conn (λ same. n (sym same))) ∙ or-false b)
 
   pub marked_nowhere : (c : ℕ) (rows : List (Row S)) → Each (λ r. r.conn ≢ c) rows → EachMarked c rows rows
   marked_nowhere c rows none = (refl, λ k o p eo ep. subst (λ q. RowMarked c o q) (same_place rows k o p eo ep) (marked_other c o (none k o eo)))
 
-  pub marked_here : (c : ℕ) (rows : List (Row S)) (p : ℕ) (r s : Row S) → Ascending rows → slice_get rows p ≡ Some r → r.conn ≡ c → s.conn ≡ r.conn → s.held ≡ r.held → s.is_cut ≡ r.is_cut → s.is_lost ≡ true
+  pub marked_here : (c : ℕ) (rows : List (Row S)) (p : ℕ) (r s : Row S) → Ascending rows → slice_get rows p ≡ Some r → r.conn ≡ c → s.conn ≡ r.conn → s.held ≡ r.held → s.is_cut ≡ r.is_cut → s.is_lost ≡ true → s.was_lost ≡ true
       → EachMarked c rows (set rows p s)
-  marked_here c rows p r s up get own conn held is_cut is_lost = pairs_set rows p r s (RowMarked c) get
-      (record { conn = conn; held = held; is_cut = is_cut; is_lost = is_lost ∙ sym (or_right r.is_lost (eqb c r.conn) (eq-eqb c r.conn (sym own))) })
+  marked_here c rows p r s up get own conn held is_cut is_lost was_lost = pairs_set rows p r s (RowMarked c) get
+      (record {
+        conn = conn;
+        held = held;
+        is_cut = is_cut;
+        is_lost = is_lost ∙ sym (or_right r.is_lost (eqb c r.conn) (eq-eqb c r.conn (sym own)));
+        was_lost = was_lost ∙ sym (or_right r.was_lost (eqb c r.conn) (eq-eqb c r.conn (sym own)));
+      })
       (λ k o away eo. marked_other c o (λ same. away (one_place rows c k p o r up eo get same own)))
 
   pub knows_marked : (old new : Table S) (c : ℕ) → new.realm ≡ old.realm → EachMarked c old.rows.items new.rows.items → new.has_marks ≡ true → new.has_ended ≡ old.has_ended → Knows old → Knows new

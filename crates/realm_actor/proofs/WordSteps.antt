@@ -1,5 +1,5 @@
 -- Words that are given one after another.
-use Rattle.std.proofs.Common.{◌≡◌, ℕ, List, [], ◌++◌, ap, append_assoc, append-nil}
+use Rattle.std.proofs.Common.{◌≡◌, ℕ, List, [], ◌++◌, append_assoc, append-nil}
 use Rattle.realm_actor.specs.Words.{Words, ◌⊕◌}
 
 pub none_more : (words : Words) → (words ⊕ []) ≡ words

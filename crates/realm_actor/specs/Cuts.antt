@@ -38,10 +38,12 @@ module _ {S : Type 0} where
         → Cuts old words mid → Sound mid.history mid.rows → IsLeastFull mid.rows c → IsCutOf c word e
         → new.history ≡ mid.history ▷ e → EachWent mid.rows new.rows → Cuts old (words ++ word ∷ []) new
 
-  -- the entry e enters, its items are added, and then each session that was found full is cut, until none is left
+  -- the entry e enters, its items are added, and then each session that was found full is cut, until none is left; in between and
+  -- afterwards the rows are in step with the history
   pub record Accepted (old : Standing S) (e : Entry) (drawn : List ℕ) (new : Standing S) : Type 0 where
     pub mid : List (Row S)
     pub went : EachWent old.rows mid
     pub sound : Sound (old.history ▷ e) mid
     pub cuts : Cuts (record { history = old.history ▷ e; rows = mid }) drawn new
     pub none_full : NoneFull new.rows
+    pub still_sound : Sound new.history new.rows

@@ -1,5 +1,5 @@
 -- What a post does: which entry it is, whether it is dropped, and whose row comes.
-use Rattle.std.specs.Prelude.{◌≡◌, ℕ, Bool, true, false, not, cond, List, [], ◌∷◌, ◌++◌, Some, slice_get, length}
+use Rattle.std.specs.Prelude.{◌≡◌, ℕ, Bool, true, false, not, cond, List, [], ◌∷◌, Some, slice_get, length}
 use Rattle.std.specs.List.{insert}
 use Rattle.realm.specs.declared.entry.Entry.{Entry}
 use Rattle.realm.specs.declared.entry.Entry.TheVariants as entry
@@ -65,6 +65,7 @@ module _ {S : Type 0} where
     pub outbox : box_in row ≡ Some joining.outbox
     pub is_cut : row.is_cut ≡ false
     pub is_lost : row.is_lost ≡ false
+    pub was_lost : row.was_lost ≡ false
     pub never : joining.outbox.full_finds ≡ 0
 
   -- the rows with that of a Join; they stay for another act
@@ -122,6 +123,7 @@ module _ {S : Type 0} where
     pub held : p.held ≡ o.held
     pub is_cut : p.is_cut ≡ false
     pub is_lost : p.is_lost ≡ false
+    pub was_lost : p.was_lost ≡ o.was_lost
 
   abbrev pub EachUnmarked : List (Row S) → List (Row S) → Type 0
   EachUnmarked olds news =

@@ -35,6 +35,7 @@ module _ {S : Type 0} where
     pub rose : Rose (box_in o) (box_in p) → p.is_cut ≡ true
     pub only : p.is_cut ≡ true → (o.is_cut ≡ true) ⊎ Rose (box_in o) (box_in p)
     pub is_lost : p.is_lost ≡ o.is_lost
+    pub was_lost : p.was_lost ≡ o.was_lost
 
   -- P of each row
   abbrev pub Each : (Row S → Type 0) → List (Row S) → Type 0

@@ -19,6 +19,7 @@ use Rattle.realm_actor.specs.Stop.{Stops}
 use Rattle.realm_actor.specs.Settle.{Sweeps}
 use Rattle.realm_actor.specs.LastCut.{outbox_of}
 use Rattle.realm_actor.specs.HistoryGrowth.{was_closed, said_of}
+use Rattle.realm_actor.specs.Invariant.{Stands}
 
 -- where a chronicle is picked for an inbox, it is this one
 abbrev pub IsAt : TableId → Option TableId → Type 0
@@ -43,13 +44,16 @@ module _ {S : Type 0} where
   IsNextOf acts (post.Act l) = before l ≡ stands_at (seat_of_letter l) acts
   IsNextOf acts (post.Stop halt) = Unit {0}
 
-  -- what the handling of a post does, by its outcome; it is dropped exactly where it is to be
+  -- what the handling of a post does, by its outcome; it is dropped exactly where it is to be; and the rows stand with the history
+  -- afterwards
   pub record Handles (result : Outcome) (p : Post S) (old new : Acting S) : Type 0 where
     pub does : DoesPost result p old new
     pub dropped : is_dropped_post old.history p ≡ true → result ≡ Dropped
+    pub stands : Stands new.history new.rows
     pub handled : new.handled ≡ old.handled ++ said_of p
 
-  -- from `a` these posts of connections were handled, each after a sweep
+  -- from `a` these posts of connections were handled, each after a sweep. No step begins with rows that nobody could have: a sweep leaves
+  -- exactly the rows of live sessions, and after a post they stand with the history
   pub data Runs (a : Acting S) : List (Post S) → Acting S → Type 0 where
     none : Runs a [] a
     one_more : {came : List (Post S)} {b c d : Acting S} {result : Outcome} (l : Letter S) → Runs a came b → Sweeps b c → Handles result (post.Act l) c d → Runs a (came ++ post.Act l ∷ []) d

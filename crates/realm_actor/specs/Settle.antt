@@ -1,5 +1,5 @@
 -- The end of a session's outbox.
-use Rattle.std.specs.Prelude.{◌≡◌, ◌≢◌, ◌<◌, ℕ, true, false, List, ◌++◌, length, Option, Some, None, slice_get, set}
+use Rattle.std.specs.Prelude.{◌≡◌, ◌≢◌, ◌<◌, ℕ, true, false, List, ◌++◌, length, filter, Option, Some, None, slice_get, set}
 use mathlib.Core.List.{IsPrefix}
 use Rattle.outbox_queue.specs.Ends.{Taking}
 use Rattle.outbox_queue.specs.Tied.{Kept, history_of}
@@ -33,6 +33,7 @@ module _ {S : Type 0} where
     pub conn : new.conn ≡ old.conn
     pub is_cut : new.is_cut ≡ old.is_cut
     pub is_lost : new.is_lost ≡ old.is_lost
+    pub was_lost : new.was_lost ≡ old.was_lost
     pub held : new.held ≡ None
 
   -- the row of c was emptied, and the others stay
@@ -49,6 +50,7 @@ module _ {S : Type 0} where
   -- realm's history owes c, and is all of that unless a step found the outbox full, since when nothing was added; what the drain
   -- saw begins the realm's history. The outbox is held no longer, and nothing else changed
   pub record Settles (c : ℕ) (drain : Taking Item (Kept History)) (rest : List Item) (old new : Acting S) : Type 0 where
+    pub rows : EmptiesOne c drain rest old.rows new.rows
     pub outbox : Box
     pub was : outbox_of old.rows c ≡ Some outbox
     pub added : drain.taken ++ rest ≡ outbox.added
@@ -63,18 +65,21 @@ module _ {S : Type 0} where
     pub last_cut : new.last_cut ≡ old.last_cut
     pub handled : new.handled ≡ old.handled
 
-  -- p is the row o, and as it was where its session is live; else its outbox was handed over
+  -- p is the row o, and as it was where its session is live; else it holds no outbox any more
   pub record Parted (h : History) (o p : Row S) : Type 0 where
     pub conn : p.conn ≡ o.conn
+    pub was_lost : p.was_lost ≡ o.was_lost
     pub lives : live h o.conn ≡ true → p ≡ o
+    pub gone : live h o.conn ≡ false → p.held ≡ None
 
   abbrev pub EachParted : History → List (Row S) → List (Row S) → Type 0
   EachParted h olds news =
       (length news ≡ length olds)
       × ((k : ℕ) (o p : Row S) → slice_get olds k ≡ Some o → slice_get news k ≡ Some p → Parted h o p)
 
-  -- only the sessions that are live are held, and these as before
+  -- only the sessions that are live are held, and these as before: their rows stay, and no others
   pub record Sweeps (old new : Acting S) : Type 0 where
+    pub rows : new.rows ≡ filter (λ r. live old.history r.conn) old.rows
     pub lives : (c : ℕ) → live old.history c ≡ true → outbox_of new.rows c ≡ outbox_of old.rows c
     pub others : (c : ℕ) → live old.history c ≡ false → outbox_of new.rows c ≡ None
     pub history : new.history ≡ old.history

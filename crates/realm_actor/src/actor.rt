@@ -116,8 +116,9 @@ impl<S: Shut, W: IdSource> Actor<S, W> {
 
     /// Shows what holds of an actor between two posts: what was added to each held outbox begins what the history owes its
     /// connection, and is all of that where no step found it full; where one did, nothing was added since; the outbox is open
-    /// exactly where its session is live; and nobody who was found full is live. The history is what the acts that were handled
-    /// made of it from the beginning on, and stops between them.
+    /// exactly where its session is live; and nobody who was found full is live. Nobody was cut for nothing: the history cut a
+    /// session only where its outbox, if it is held, was found full, or where memory was refused for something of it. The history
+    /// is what the acts that were handled made of it from the beginning on, and stops between them.
     pub fn shows(&self)
         ensures stands { Stands self.now.history self.now.rows }
         ensures made { IsMade self.now.history self.now.handled }

@@ -1,5 +1,5 @@
 //! Sessions that were found full are cut.
-ghost use Rattle.std.specs.Prelude.{◌≡◌, true, false, List, ℕ, MatchOption, OnOk, OnErr};
+ghost use Rattle.std.specs.Prelude.{◌≡◌, true, false, List, ℕ, None, MatchOption, OnOk, OnErr};
 ghost use Rattle.realm.specs.History.{◌▷◌};
 ghost use Rattle.realm.specs.Sessions.{conn_of, live, may_come};
 ghost use Rattle.realm_actor.specs.Rows.{Ascending, box_in};
@@ -65,6 +65,7 @@ fn mark_row<S: Shut>(rows: &mut [Row<S>], conn: Conn)
     let row = &mut rows[place];
     row.tell_lost();
     row.is_lost = true;
+    row.was_lost = true;
 }
 
 // The same of a Vec.
@@ -88,9 +89,9 @@ impl<S: Shut> Table<S> {
         mark_in(&mut self.rows, conn);
     }
 
-    // A Cut of the session enters, and its items are added. It is silent only where memory is refused.
+    // A Cut of the session, which has a cause, enters, and its items are added. It is silent only where memory is refused.
     fn cut<R: Wait>(&mut self, rt: &R, alloc: Global, conn: Conn, word: u64)
-        requires sound { IsSound self.old }
+        requires ready { Ready (Cut conn None) self.old.realm self.old.rows.items }
         requires live { live self.old.realm conn ≡ true }
         ensures history { (e : AnEntry) × IsCutOf conn word e
             × (self.new.realm ≡ self.old.realm ▷ e) }
@@ -109,7 +110,7 @@ impl<S: Shut> Table<S> {
 
     // A Cut without a word, which takes no memory.
     fn cut_silently<R: Wait>(&mut self, rt: &R, alloc: Global, conn: Conn)
-        requires sound { IsSound self.old }
+        requires ready { Ready (Cut conn None) self.old.realm self.old.rows.items }
         requires live { live self.old.realm conn ≡ true }
         ensures history { self.new.realm ≡ self.old.realm ▷ Cut conn None }
         ensures rows { EachWent self.old.rows.items self.new.rows.items }

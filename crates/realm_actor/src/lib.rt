@@ -8,7 +8,7 @@
 //! followed by the rest, is what was added.
 //!
 //! Between two posts, what was added to each held outbox begins what the realm's history owes its connection, and is
-//! all of it unless a step found the outbox full ([`Actor::shows`]).
+//! all of it unless a step found the outbox full; and nobody was cut for nothing ([`Actor::shows`]).
 //!
 //! Nothing is promised of time, nor that a writer is woken or a transport is shut.
 #![tactic(auto)]

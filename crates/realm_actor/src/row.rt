@@ -116,6 +116,8 @@ pub struct Row<S: Shut> {
     pub is_cut: bool,
     /// Whether it was cut for want of memory in the handling of the post.
     pub is_lost: bool,
+    /// Whether memory was refused for something of its session, so that it was cut. It stays, and goes out with the outbox.
+    pub was_lost: bool,
 
     ghost of_conn: { ForSome held (λ e. e.outbox.conn ≡ conn) },
 }
@@ -160,6 +162,7 @@ impl<S: Shut> Row<S> {
         ensures outbox { box_in result ≡ Some outbox }
         ensures is_cut { result.is_cut ≡ false }
         ensures is_lost { result.is_lost ≡ false }
+        ensures was_lost { result.was_lost ≡ false }
     {
         let held = HeldOutbox {
             outbox,
@@ -173,6 +176,7 @@ impl<S: Shut> Row<S> {
             held: Some(held),
             is_cut: false,
             is_lost: false,
+            was_lost: false,
         }
     }
 
@@ -214,6 +218,7 @@ impl<S: Shut> Row<S> {
         ensures conn { self.new.conn ≡ self.old.conn }
         ensures is_cut { self.new.is_cut ≡ self.old.is_cut }
         ensures is_lost { self.new.is_lost ≡ self.old.is_lost }
+        ensures was_lost { self.new.was_lost ≡ self.old.was_lost }
         ensures outbox { BoxEnds true (box_in self.old) (box_in self.new) }
     {
         let Some(held) = &mut self.held else {

@@ -4,7 +4,7 @@ ghost use Rattle.outbox_queue.specs.Rule.{Grows};
 ghost use Rattle.realm.specs.History.{Begins};
 ghost use Rattle.realm.specs.Sessions.{live};
 ghost use Rattle.realm_actor.specs.Rows.{Ascending, EachHome, RowDue, RowHome, box_in};
-ghost use Rattle.realm_actor.specs.Tables.{Sound, has_joined};
+ghost use Rattle.realm_actor.specs.Tables.{Accounts, Sound, has_joined};
 ghost use Rattle.realm_actor.specs.LastCut.{outbox_of};
 ghost use Rattle.realm_actor.specs.Settle.{EachParted, Emptied, EmptiesOne, IsOther, Parted};
 ghost use Rattle.realm_actor.specs.Invariant.{IsSound, KeepsRest, Knows};
@@ -156,10 +156,12 @@ impl<S: Shut, W: IdSource> ActorState<S, W> {
     }
 }
 
-// Hands the row's outbox over to its writer, if it is held, and the session isn't live: the realm's history owes it nothing more then.
+// Hands the row's outbox over to its writer, if it is held, and the session isn't live: the realm's history owes it nothing more
+// then. With it goes whether the session was lost.
 fn hand_over<S: Shut>(realm: &Realm, chronicle: &mut RealmChronicle, row: &mut Row<S>)
     requires due { RowDue realm.now [] row.old }
     requires joined { has_joined realm.now row.old.conn ≡ true }
+    requires accounts { Accounts realm.now row.old }
     requires told { chronicle.old.history ≡ Some realm.now }
     requires home { RowHome chronicle.old.chronicle row.old }
     ensures row { Parted realm.now row.old row.new }
@@ -178,7 +180,8 @@ fn hand_over<S: Shut>(realm: &Realm, chronicle: &mut RealmChronicle, row: &mut R
         since_wake: _,
         added: _,
     } = held;
-    outbox.hand_over(RealmHistory::by(chronicle, &RealmMoment::of(realm)));
+    let history = RealmHistory::by(chronicle, &RealmMoment::of(realm));
+    outbox.hand_over(history, row.was_lost);
 }
 
 // The same of each row.

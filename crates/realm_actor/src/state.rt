@@ -7,6 +7,7 @@ ghost use Rattle.realm_actor.specs.ActorView.{working};
 ghost use Rattle.realm_actor.specs.Cuts.{NoneFull};
 ghost use Rattle.realm_actor.specs.Handle.{TakesIn};
 ghost use Rattle.realm_actor.specs.Invariant.{IsSound, KeepsRest, Knows};
+ghost use Rattle.realm_actor.specs.Tables.{CutsNobody};
 
 use crate::delivery::wake_all;
 use crate::entering::tell;
@@ -106,7 +107,8 @@ impl<S: Shut, W: IdSource> ActorState<S, W> {
         wake_all(self.table.rows.as_slice());
     }
 
-    // An entry of a live session enters, or for want of memory the session is cut; then who was found full is cut.
+    // An entry of a live session, which cuts nobody, enters, or for want of memory the session is cut; then who was found full is
+    // cut.
     pub(crate) fn take_in<R: Wait>(
         &mut self,
         rt: &R,
@@ -119,6 +121,7 @@ impl<S: Shut, W: IdSource> ActorState<S, W> {
         requires own { conn_of entry ≡ conn }
         requires comes { may_come self.old.table.realm entry ≡ true }
         requires live { live self.old.table.realm conn ≡ true }
+        requires uncut { CutsNobody self.old.table.realm entry }
         ensures outcome { TakesIn result conn entry (working (W.given self.old.words) self.old)
             (working (W.given self.new.words) self.new) }
         ensures last_cut { self.new.last_cut ≡ self.old.last_cut }

@@ -25,7 +25,7 @@ worth_below (x ∷ xs) small =
     let power : 256 ^ suc (length xs) ≡ 256 * 256 ^ length xs = omega arith in
     omega (arith, power, small 0, worth_below xs (λ i. small (suc i)))
 
-small_take : (n : ℕ) (xs : List ℕ) → ((i : ℕ) → get_or xs i 0 < 256) → (i : ℕ) → get_or (take n xs) i 0 < 256
+pub small_take : (n : ℕ) (xs : List ℕ) → ((i : ℕ) → get_or xs i 0 < 256) → (i : ℕ) → get_or (take n xs) i 0 < 256
 small_take zero xs small zero = omega arith
 small_take zero xs small (suc i) = omega arith
 small_take (suc n) [] small i = small i

@@ -1,17 +1,17 @@
 //! Wildcards of many components: a table for all of them, and a search that goes over their pieces.
-ghost use Rattle.std.specs.Prelude.{◌≡◌, ◌≤◌, ◌<◌, ◌+◌, ◌^◌, get_or, ◌++◌, ◌∷◌, [], ℕ, List, true, cond, length, Some, None, IfOk, OnOk, OnErr};
+ghost use Rattle.std.specs.Prelude.{◌≡◌, ◌≤◌, ◌<◌, ◌+◌, ◌-◌, ◌^◌, get_or, ◌++◌, ◌∷◌, [], ℕ, List, true, cond, length, Some, None, IfOk, OnOk, OnErr};
 ghost use Rattle.std.specs.Str.{bytes_eq};
 ghost use Rattle.wamp_ids.specs.Uri.{components};
 ghost use Rattle.wamp_ids.specs.Pattern.{fits};
 ghost use Rattle.subscription_index.specs.body.Found.{Adds};
-ghost use Rattle.subscription_index.specs.body.Pieces.{IsMade, deep_number, ended, starts_of};
+ghost use Rattle.subscription_index.specs.body.Pieces.{IsMade, deep_number, ended, padding, starts_of};
 
-use crate::pieces::{Deep, deep_of};
+use crate::pieces::{Deep, PADDING, Piece, SHORT, deep_of};
 use crate::words::begin_alike;
 use std::alloc::{AllocError, Global};
 use std::collections::BTreeMap;
 use std::marker::Model;
-use wamp_ids::{Id, dot_in};
+use wamp_ids::{Id, dot_in, fits};
 
 /// Wildcards of more than 8 components, by text. They stand in one table, since they may be of any number of shapes: only topics of
 /// as many components look at it.
@@ -97,47 +97,67 @@ impl Deeps {
     }
 }
 
-/// Where each component of a topic begins, and where the last one's dot would end.
-fn starts_of(alloc: Global, topic: &[u8]) -> Result<Vec<usize>, AllocError>
-    ensures { IfOk result (λ starts. starts.items ≡ starts_of 0 (components topic.now)) }
+/// Places of octets are held as `u32`, since a search goes over those of the whole topic for each wildcard.
+const MOST_PLACES: usize = u32::MAX as usize;
+
+/// Where each component of a topic begins, and where the last one's dot would end; nothing where these are no places.
+fn starts_of(alloc: Global, topic: &[u8]) -> Result<Vec<u32>, AllocError>
+    ensures { IfOk result (λ starts. 1 ≤ length starts.items → starts.items ≡ starts_of 0 (components topic.now)) }
 {
     let mut starts = Vec::new(alloc);
+    if topic.len() >= MOST_PLACES {
+        return Ok(starts);
+    }
     let mut at = 0;
     let mut rest = topic;
     while let Some(i) = dot_in(rest) {
-        starts.push(at)?;
+        starts.push(at as u32)?;
         at += i + 1;
         rest = &rest[i + 1..];
     }
-    starts.push(at)?;
-    starts.push(at.saturating_add(rest.len() + 1))?;
+    starts.push(at as u32)?;
+    starts.push((at + rest.len() + 1) as u32)?;
     Ok(starts)
 }
 
-/// A topic with a dot behind it.
+/// A topic with a dot behind it, and room to read a word at each octet.
 fn ended(alloc: Global, topic: &[u8]) -> Result<Vec<u8>, AllocError>
-    ensures { IfOk result (λ octets. octets.items ≡ ended (components topic.now)) }
+    ensures { IfOk result (λ octets. octets.items ≡ ended (components topic.now) ++ padding) }
 {
     wamp_ids::laws::components_joined();
-    let mut octets = Vec::with_capacity(alloc, topic.len().saturating_add(1))?;
+    let mut octets = Vec::with_capacity(alloc, topic.len().saturating_add(1 + PADDING.len()))?;
     octets.extend_from_slice(topic)?;
     octets.push(b'.')?;
+    octets.extend_from_slice(&PADDING)?;
     Ok(octets)
 }
 
 /// One of the places at which components begin.
-fn start_at(starts: &[usize], place: usize) -> usize
+fn start_at(starts: &[u32], place: usize) -> usize
     requires { place < length starts.now }
     ensures start { result ≡ get_or starts.now place 0 }
     ensures countable { length starts.now < 2 ^ 64 }
 {
-    starts[place]
+    starts[place] as usize
+}
+
+/// How many octets of the topic are compared with a piece that begins at this component.
+fn count_at(starts: &[u32], piece: Piece, place: usize) -> usize
+    requires { 8 < piece.octets → place + 1 < length starts.now }
+    ensures short { piece.octets ≤ 8 → result ≡ piece.octets }
+    ensures alone { 8 < piece.octets → result ≡ get_or starts.now (place + 1) 0 - get_or starts.now place 0 }
+{
+    let octets = piece.octets as usize;
+    if octets <= SHORT {
+        return octets;
+    }
+    start_at(starts, place + 1).saturating_sub(start_at(starts, place))
 }
 
 /// Whether the wildcard of this text fits the topic.
-fn fits_pieces(text: &[u8], deep: &Deep, topic: &[u8], dotted: &[u8], starts: &[usize]) -> bool
+fn fits_pieces(text: &[u8], deep: &Deep, topic: &[u8], dotted: &[u8], starts: &[u32]) -> bool
     requires made { IsMade deep.now text.now }
-    requires dotted { dotted.now ≡ ended (components topic.now) }
+    requires dotted { dotted.now ≡ ended (components topic.now) ++ padding }
     requires starts { starts.now ≡ starts_of 0 (components topic.now) }
     ensures { result ≡ fits (components text.now) (components topic.now) }
 {
@@ -145,20 +165,33 @@ fn fits_pieces(text: &[u8], deep: &Deep, topic: &[u8], dotted: &[u8], starts: &[
     if starts.len().saturating_sub(2) != deep.dots {
         return false;
     }
-    let mut rest = deep.named.as_slice();
+    let named = deep.named.as_slice();
+    let mut at = 0;
     let mut place = 0;
     for index in 0..deep.pieces.len() {
         let piece = deep.pieces[index];
+        let count = count_at(starts, piece, place);
         let from = start_at(starts, place);
-        let next = place + piece.named as usize;
-        let count = start_at(starts, next) - from;
-        if !begin_alike(rest, &dotted[from..], count) {
+        if !begin_alike(&named[at..], &dotted[from..], count) {
             return false;
         }
-        rest = &rest[count..];
-        place = next + piece.empty as usize;
+        at += count;
+        place += piece.step as usize;
     }
     true
+}
+
+/// The same, component by component where the topic is so long that there are no places.
+fn fits_deep(text: &[u8], deep: &Deep, topic: &[u8], dotted: &[u8], starts: &[u32]) -> bool
+    requires made { IsMade deep.now text.now }
+    requires dotted { dotted.now ≡ ended (components topic.now) ++ padding }
+    requires starts { 1 ≤ length starts.now → starts.now ≡ starts_of 0 (components topic.now) }
+    ensures { result ≡ fits (components text.now) (components topic.now) }
+{
+    if starts.is_empty() {
+        return fits(text, topic);
+    }
+    fits_pieces(text, deep, topic, dotted, starts)
 }
 
 /// Adds the number where the wildcard fits.
@@ -167,17 +200,17 @@ fn add_if_fits(
     deep: &Deep,
     topic: &[u8],
     dotted: &[u8],
-    starts: &[usize],
+    starts: &[u32],
     numbers: &mut Vec<Id>,
 ) -> Result<(), AllocError>
     requires made { IsMade deep.now text.now }
-    requires dotted { dotted.now ≡ ended (components topic.now) }
-    requires starts { starts.now ≡ starts_of 0 (components topic.now) }
+    requires dotted { dotted.now ≡ ended (components topic.now) ++ padding }
+    requires starts { 1 ≤ length starts.now → starts.now ≡ starts_of 0 (components topic.now) }
     ensures { OnOk result (numbers.new.items ≡
         cond (fits (components text.now) (components topic.now))
         (numbers.old.items ++ deep.now.number ∷ []) numbers.old.items) }
 {
-    if fits_pieces(text, deep, topic, dotted, starts) {
+    if fits_deep(text, deep, topic, dotted, starts) {
         numbers.push(deep.number)?;
     }
     Ok(())

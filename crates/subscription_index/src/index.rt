@@ -69,13 +69,14 @@ impl Index {
         ensures unchanged { OnErr result (self.new ≡ self.old) }
         ensures index { IsIndex self.new }
     {
-        if let Some(number) = rows::number_held(&self.rows, &self.names, conn, &pattern) {
+        let found = rows::number_of(&self.rows, &self.names, &pattern);
+        if let Some(number) = rows::number_held(&self.rows, &found, conn, &pattern) {
             return Ok(number);
         }
         if rows::is_full(&self.rows, &self.holders, &self.counts, conn) {
             return Err(Fault::TooManySubscriptions);
         }
-        match rows::number_of(&self.rows, &self.names, &pattern) {
+        match found {
             Some(number) => {
                 rows::join(
                     &mut self.rows,

@@ -1,27 +1,34 @@
 //! A wildcard of many components, as a search reads it: in pieces, so that no octet has to be looked at to find where a component
 //! ends, and a branch that nobody can guess is taken once for several components.
-ghost use Rattle.std.specs.Prelude.{◌≡◌, ◌+◌, ◌++◌, ◌∷◌, [], ℕ, List, true, false, not, ◌==◌, ◌≤◌, ◌<◌, length, IfOk, OnOk};
-ghost use Rattle.std.specs.List.{list_all};
+ghost use Rattle.std.specs.Prelude.{◌≡◌, ◌+◌, ◌++◌, ◌∷◌, [], ℕ, List, true, false, not, ◌==◌, ◌&&◌, ◌≤◌, ◌<◌, length, IfOk, OnOk};
 ghost use Rattle.wamp_ids.specs.Uri.{components};
-ghost use Rattle.subscription_index.specs.body.Pieces.{IsDraft, IsMade, IsSpelled, named_by, spelled};
+ghost use Rattle.std.specs.List.{list_all};
+ghost use Rattle.subscription_index.specs.body.Pieces.{IsDraft, IsMade, IsSpelled, is_word};
 
 use std::alloc::{AllocError, Global};
 use wamp_ids::{Id, dot_in};
 
-/// So many components that aren't empty, and behind them so many that are.
+/// So many octets of components that aren't empty, each with a dot behind it, and behind them components that are empty. The next
+/// piece begins so many components further on. More than 8 octets say that there is one component, of any length.
 #[derive(Clone, Copy)]
 pub(crate) struct Piece {
-    pub(crate) named: u8,
-    pub(crate) empty: u8,
+    pub(crate) octets: u8,
+    pub(crate) step: u8,
 }
 
-const NOTHING: Piece = Piece { named: 0, empty: 0 };
+const NOTHING: Piece = Piece { octets: 0, step: 0 };
 
-/// So many octets the components of one piece have, with their dots, unless it has one component: they are compared at once.
-const SHORT: usize = 8;
+/// So many octets are compared at once.
+pub(crate) const SHORT: usize = 8;
 
-/// A wildcard's number, how many dots it has, and its pieces, beside the octets of those that aren't empty, each with a dot
-/// behind it.
+/// One component, of any length.
+const ALONE: u8 = u8::MAX;
+
+/// What stands behind octets, so that a word can be read at each of them.
+pub(crate) const PADDING: [u8; 8] = [0; 8];
+
+/// A wildcard's number, how many dots it has, and its pieces, beside the octets of the components that aren't empty, each with a
+/// dot behind it.
 #[derive(Drop)]
 pub(crate) struct Deep {
     pub(crate) number: Id,
@@ -30,79 +37,76 @@ pub(crate) struct Deep {
     pub(crate) named: Vec<u8>,
 }
 
-/// The piece to go on with: where the last one is full, it is put behind the others, and there is a new one.
-fn open_piece(pieces: &mut Vec<Piece>, last: Piece, is_full: bool) -> Result<Piece, AllocError>
-    ensures same { IfOk result (λ next. (names : List (List ℕ))
-        → spelled (pieces.new.items ++ next ∷ []) names
-        ≡ spelled (pieces.old.items ++ last ∷ []) names) }
-    ensures named { IfOk result (λ next. named_by (pieces.new.items ++ next ∷ [])
-        ≡ named_by (pieces.old.items ++ last ∷ [])) }
-    ensures full { IfOk result (λ next. is_full ≡ true → (next.named ≡ 0) × (next.empty ≡ 0)) }
-    ensures kept { IfOk result (λ next. is_full ≡ false → next ≡ last) }
-{
-    if is_full {
-        pieces.push(last)?;
-        return Ok(NOTHING);
-    }
-    Ok(last)
-}
-
-/// One empty component more.
-fn add_empty(pieces: &mut Vec<Piece>, last: Piece) -> Result<Piece, AllocError>
-    ensures spelled { IfOk result (λ next. (names : List (List ℕ))
-        → named_by (pieces.old.items ++ last ∷ []) ≡ length names
-        → spelled (pieces.new.items ++ next ∷ []) names
-        ≡ spelled (pieces.old.items ++ last ∷ []) names ++ [] ∷ []) }
-    ensures named { IfOk result (λ next. named_by (pieces.new.items ++ next ∷ [])
-        ≡ named_by (pieces.old.items ++ last ∷ [])) }
-{
-    let open = open_piece(pieces, last, last.empty == u8::MAX)?;
-    Ok(Piece {
-        named: open.named,
-        empty: open.empty + 1,
-    })
-}
-
-/// Whether a component that isn't empty begins a new piece.
-fn is_full(last: Piece, is_long: bool) -> bool
-    ensures { result ≡ false → (last.empty ≡ 0) × (last.named + 1 < 256) }
-{
-    last.empty > 0 || last.named == u8::MAX || (is_long && last.named > 0)
-}
-
-/// One component more that isn't empty.
-fn add_named(
-    pieces: &mut Vec<Piece>,
-    last: Piece,
-    is_full: bool,
-    named: &mut Vec<u8>,
-    part: &[u8],
-) -> Result<Piece, AllocError>
-    requires { is_full ≡ false → (last.empty ≡ 0) × (last.named + 1 < 256) }
-    ensures spelled { IfOk result (λ next. (names : List (List ℕ))
-        → named_by (pieces.old.items ++ last ∷ []) ≡ length names
-        → spelled (pieces.new.items ++ next ∷ []) (names ++ part.now ∷ [])
-        ≡ spelled (pieces.old.items ++ last ∷ []) names ++ part.now ∷ []) }
-    ensures named { IfOk result (λ next. named_by (pieces.new.items ++ next ∷ [])
-        ≡ named_by (pieces.old.items ++ last ∷ []) + 1) }
-    ensures octets { IfOk result (λ next. named.new.items ≡ named.old.items ++ (part.now ++ 46 ∷ [])) }
-{
-    let open = open_piece(pieces, last, is_full)?;
-    named.extend_from_slice(part)?;
-    named.push(b'.')?;
-    Ok(Piece {
-        named: open.named + 1,
-        empty: 0,
-    })
-}
-
-/// A wildcard so far: its pieces, the last one apart, and how many octets that one may still have.
+/// A wildcard so far: its pieces, the last one apart, and whether that one has no empty component.
 #[derive(Drop)]
 struct Draft {
     pieces: Vec<Piece>,
     named: Vec<u8>,
     last: Piece,
-    room: usize,
+    is_open: bool,
+}
+
+/// Puts the last piece behind the others where there is no room in it, and begins a new one.
+fn make_room(draft: &mut Draft, has_room: bool) -> Result<(), AllocError>
+    ensures draft { OnOk result ((parts : List (List ℕ)) → IsDraft draft.old parts → IsDraft draft.new parts) }
+    ensures kept { OnOk result (has_room ≡ true → draft.new ≡ draft.old) }
+    ensures begun { OnOk result (has_room ≡ false → (draft.new.last.octets ≡ 0) × (draft.new.last.step ≡ 0) × (draft.new.is_open ≡ true)) }
+{
+    if has_room {
+        return Ok(());
+    }
+    draft.pieces.push(draft.last)?;
+    draft.last = NOTHING;
+    draft.is_open = true;
+    Ok(())
+}
+
+/// One empty component more, where the last piece has room.
+fn add_empty(draft: &mut Draft)
+    requires { draft.now.last.step < 255 }
+    ensures { (parts : List (List ℕ)) → IsDraft draft.old parts → IsDraft draft.new (parts ++ [] ∷ []) }
+{
+    draft.last.step += 1;
+    draft.is_open = false;
+}
+
+/// How many octets a piece tells of with a component of this length more.
+fn octets_with(octets: u8, length: usize) -> u8
+    ensures short { octets + length < 8 → result ≡ octets + length + 1 }
+    ensures alone { 8 ≤ octets + length → result ≡ 255 }
+{
+    if length < SHORT.saturating_sub(octets as usize) {
+        octets + length as u8 + 1
+    } else {
+        ALONE
+    }
+}
+
+/// Whether a component of this length may stand in the last piece.
+fn has_room(draft: &Draft, length: usize) -> bool
+    ensures { result ≡ true → (draft.now.is_open ≡ true) × (draft.now.last.octets + length < 8) × (draft.now.last.step < 255) }
+{
+    draft.is_open
+        && draft.last.step < u8::MAX
+        && length < SHORT.saturating_sub(draft.last.octets as usize)
+}
+
+/// One component more that isn't empty, where the last piece has room, or is none yet.
+fn add_word(draft: &mut Draft, part: &[u8]) -> Result<(), AllocError>
+    requires word { is_word part.now ≡ true }
+    requires open { draft.now.is_open ≡ true }
+    requires step { draft.now.last.step < 255 }
+    requires room { 8 ≤ draft.now.last.octets + length part.now → draft.now.last.step ≡ 0 }
+    ensures { OnOk result ((parts : List (List ℕ)) → IsDraft draft.old parts
+        → IsDraft draft.new (parts ++ part.now ∷ [])) }
+{
+    draft.named.extend_from_slice(part)?;
+    draft.named.push(b'.')?;
+    draft.last = Piece {
+        octets: octets_with(draft.last.octets, part.len()),
+        step: draft.last.step + 1,
+    };
+    Ok(())
 }
 
 /// One component more.
@@ -112,33 +116,30 @@ fn add_part(draft: &mut Draft, part: &[u8]) -> Result<(), AllocError>
         → IsDraft draft.new (parts ++ part.now ∷ [])) }
 {
     match part {
-        [] => draft.last = add_empty(&mut draft.pieces, draft.last)?,
+        [] => {
+            let has_room = draft.last.step < u8::MAX;
+            make_room(draft, has_room)?;
+            add_empty(draft);
+            Ok(())
+        }
         _ => {
-            let is_full = is_full(draft.last, part.len() >= draft.room);
-            let room = if is_full { SHORT } else { draft.room };
-            draft.last = add_named(
-                &mut draft.pieces,
-                draft.last,
-                is_full,
-                &mut draft.named,
-                part,
-            )?;
-            draft.room = room.saturating_sub(part.len()).saturating_sub(1);
+            let has_room = has_room(draft, part.len());
+            make_room(draft, has_room)?;
+            add_word(draft, part)
         }
     }
-    Ok(())
 }
 
-/// No component yet.
-fn no_part(alloc: Global) -> Draft
-    ensures { IsDraft result [] }
+/// No component yet, and room for the octets of a text of this length.
+fn no_part(alloc: Global, length: usize) -> Result<Draft, AllocError>
+    ensures { IfOk result (λ draft. IsDraft draft []) }
 {
-    Draft {
+    Ok(Draft {
         pieces: Vec::new(alloc),
-        named: Vec::new(alloc),
+        named: Vec::with_capacity(alloc, length.saturating_add(1 + PADDING.len()))?,
         last: NOTHING,
-        room: SHORT,
-    }
+        is_open: true,
+    })
 }
 
 /// The wildcard of this text.
@@ -147,7 +148,7 @@ pub(crate) fn deep_of(alloc: Global, text: &[u8], number: Id) -> Result<Deep, Al
     ensures made { IfOk result (λ deep. IsMade deep text.now) }
 {
     wamp_ids::laws::components_joined();
-    let mut draft = no_part(alloc);
+    let mut draft = no_part(alloc, text.len())?;
     let mut dots = 0;
     let mut rest = text;
     while let Some(i) = dot_in(rest) {
@@ -168,6 +169,7 @@ fn made(draft: Draft, number: Id, dots: usize) -> Result<Deep, AllocError>
     let mut pieces = draft.pieces;
     let mut named = draft.named;
     pieces.push(draft.last)?;
+    named.extend_from_slice(&PADDING)?;
     pieces.shrink_to(0);
     named.shrink_to(0);
     Ok(Deep {

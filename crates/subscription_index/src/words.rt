@@ -35,19 +35,22 @@ fn word_of(octets: &[u8], count: usize) -> u64
     ensures word { result ≡ worth (take count octets.now) }
     ensures octets { (i : ℕ) → get_or octets.now i 0 < 256 }
 {
+    let first = &octets[..WORD];
     let word = u64::from_le_bytes([
-        octets[0], octets[1], octets[2], octets[3], octets[4], octets[5], octets[6], octets[7],
+        first[0], first[1], first[2], first[3], first[4], first[5], first[6], first[7],
     ]);
     word & most_of(count)
 }
 
 /// Whether two texts begin with the same octets, so many.
 pub(crate) fn begin_alike(one: &[u8], other: &[u8], count: usize) -> bool
-    requires { count ≤ length other.now }
+    requires one { 8 ≤ length one.now }
+    requires other { 8 ≤ length other.now }
+    requires within { count ≤ length other.now }
     ensures alike { result ≡ bytes_eq (take count one.now) (take count other.now) }
     ensures within { result ≡ true → count ≤ length one.now }
 {
-    if count <= WORD && one.len() >= WORD && other.len() >= WORD {
+    if count <= WORD {
         return word_of(one, count) == word_of(other, count);
     }
     count <= one.len() && one[..count] == other[..count]

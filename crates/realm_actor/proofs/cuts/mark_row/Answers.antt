@@ -10,4 +10,4 @@ pub returns : goal.returns
 returns g c =
     let s = c.in-Some.ensures in
     let row = row_at c.args.rows.now c.in-Some.place c.index-rows-place.result s.1 s.0 s.2 in
-    marked_here c.args.conn c.args.rows.now c.in-Some.place _ _ c.requires row.0 (ap (λ x. x.conn) row.1 ∙ s.3) refl refl refl refl
+    marked_here c.args.conn c.args.rows.now c.in-Some.place _ _ c.requires row.0 (ap (λ x. x.conn) row.1 ∙ s.3) refl refl refl refl refl

@@ -13,4 +13,4 @@ pub returns : goal.returns
 returns g c =
     let s = c.in-Some.ensures in
     let row = row_at c.args.rows.now c.in-Some.place c.index-rows-place.result s.1 s.0 s.2 in
-    ends_here c.args.conn c.args.is_live c.args.rows.now c.in-Some.place _ c.close.new.self c.if-is_live.false c.requires row.0 (ap (λ x. x.conn) row.1 ∙ s.3) c.close.ensures.conn c.close.ensures.is_cut c.close.ensures.is_lost c.close.ensures.outbox
+    ends_here c.args.conn c.args.is_live c.args.rows.now c.in-Some.place _ c.close.new.self c.if-is_live.false c.requires row.0 (ap (λ x. x.conn) row.1 ∙ s.3) c.close.ensures.conn c.close.ensures.is_cut c.close.ensures.is_lost c.close.ensures.was_lost c.close.ensures.outbox

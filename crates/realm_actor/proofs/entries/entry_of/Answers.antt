@@ -1,4 +1,4 @@
-use Rattle.std.proofs.Common.{refl, sym, append-nil}
+use Rattle.std.proofs.Common.{refl, sym}
 use Rattle.realm_actor.proofs.AppliedActs.{enters_said, enters_silently}
 use Rattle.realm_actor.proofs.WordSteps.{none_more}
 use Rattle.realm_actor.proofs.entries.entry_of.Goals as goal

@@ -1,5 +1,4 @@
 use Rattle.std.proofs.Common.{◌<◌, ◌≤◌, ◌∙◌, ap, refl, sym, subst, length, get_or, arith}
-use Rattle.realm_actor.specs.declared.row.Row.{Row}
 use Rattle.realm_actor.specs.Rows.{RowHome}
 use Rattle.realm_actor.proofs.Parting.{parted_first, parted_next, parted_last}
 use Rattle.realm_actor.proofs.RowPlaces.{read}
@@ -19,6 +18,12 @@ hand_over-requires-clause-joined g c =
     let i = c.loop-row.row-index in let inside : i < length c.loop-row.rows = omega (arith, c.loop-row-test.true) in
     let here = c.loop-row.invariant.parted.todo i _ (omega arith) (read c.loop-row.rows i c.row-item.result inside) in
     c.requires.sound.joined i _ here
+
+pub hand_over-requires-clause-accounts : goal.hand_over-requires-clause-accounts
+hand_over-requires-clause-accounts g c =
+    let i = c.loop-row.row-index in let inside : i < length c.loop-row.rows = omega (arith, c.loop-row-test.true) in
+    let here = c.loop-row.invariant.parted.todo i _ (omega arith) (read c.loop-row.rows i c.row-item.result inside) in
+    c.requires.sound.accounted i _ here
 
 pub hand_over-requires-clause-told : goal.hand_over-requires-clause-told
 hand_over-requires-clause-told g c = ap (λ k. k.history) c.loop-row.invariant.kept ∙ c.requires.told

@@ -6,6 +6,6 @@ use Rattle.subscription_index.proofs.deep.fits_pieces.Given as goal
 
 abbrev pub invariant-loop-index : goal.invariant-loop-index
 invariant-loop-index l = record {
-  within : l.place ≤ length (components l.fn.topic);
-  going : Going (drop l.index l.deep.pieces.items) l.rest (drop l.place (components l.fn.topic)) (fits (components l.fn.text) (components l.fn.topic));
+  place : l.place ≤ length (components l.fn.topic);
+  going : Going (drop l.index l.deep.pieces.items) (drop l.at l.deep.named.items) (drop l.place (components l.fn.topic)) (fits (components l.fn.text) (components l.fn.topic));
 }

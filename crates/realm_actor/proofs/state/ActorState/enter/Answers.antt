@@ -1,9 +1,10 @@
-use Rattle.std.proofs.Common.{[], ◌∷◌, cond, ap, arith}
+use Rattle.std.proofs.Common.{[], ◌∷◌, cond, sym, ap, subst, arith}
 use Rattle.std.specs.Prelude.{vec_capacity}
 use Rattle.realm_actor.specs.ActorView.{working}
+use Rattle.realm_actor.specs.Tables.{CutsNobody}
 use Rattle.realm_actor.specs.Handle.{draws}
 use Rattle.realm_actor.proofs.HandleLemmas.{as_many}
-use Rattle.realm_actor.proofs.AppliedActs.{by_outcome, not_dropped, applies_drawn, loses_by, few_drawn, no_joining}
+use Rattle.realm_actor.proofs.AppliedActs.{by_outcome, not_dropped, applies_drawn, loses_by, few_drawn, no_joining, uncut-entry_of}
 use Rattle.realm_actor.proofs.TableInvariant.{keeps_rest}
 use Rattle.realm_actor.proofs.state.ActorState.enter.Goals as goal
 
@@ -18,6 +19,12 @@ returns-clause-outcome g c =
     (applies_drawn c.args.conn c.args.act old new c.entry_of-entry.result c.requires.other drawn.0 start drawn.2 drawn.1)
     (loses_by c.args.conn c.args.act old new lost start drawn.2 (few_drawn (draws c.args.act) drawn.0))
     _ c.take_in.ensures.outcome
+
+pub take_in-requires-clause-uncut : goal.take_in-requires-clause-uncut
+take_in-requires-clause-uncut g c =
+    let drawn = c.entry_of-entry.ensures in
+    let h = c.args.self.now.table.realm in
+    subst (λ e. CutsNobody h e) (sym drawn.1) (uncut-entry_of h c.args.conn c.args.act drawn.0)
 
 pub returns-clause-same : goal.returns-clause-same
 returns-clause-same g c = λ is. absurd (not_dropped c.take_in.result _ _ is c.take_in.ensures.outcome)

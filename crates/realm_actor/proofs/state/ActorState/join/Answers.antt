@@ -1,4 +1,4 @@
-use Rattle.std.proofs.Common.{◌≡◌, ap, sym, ◌∙◌, true, subst, ◌++◌, ◌∷◌, [], length, ◌+◌, ◌≤◌, arith}
+use Rattle.std.proofs.Common.{◌≡◌, ap, sym, ◌∙◌, true, subst, ◌∷◌, [], length, ◌+◌, ◌≤◌, arith}
 use Rattle.realm.specs.History.{◌▷◌}
 use Rattle.realm.specs.declared.entry.Entry.TheVariants.{Join}
 use Rattle.std.specs.Prelude.{vec_capacity}
@@ -45,7 +45,7 @@ returns-in-Ok-clause-outcome g c =
     let cuts = c.cut_found.ensures.cuts in
     applies_join c.args.conn c.args.joining old (record { history = cut.realm; rows = cut.rows.items; words = g.W.IdSource.given c.cut_found.new.words }) c.make_room.new.self.table.rows.items (standing c.admit.new.self)
     c.new-row.result admitted.rows.0 c.next_word-word.result (g.W.IdSource.given c.next_word-word.new.self) cuts.0
-    m.rows admitted.rows.1 (admitted.history ∙ ap (λ h. h ▷ Join c.args.conn c.next_word-word.result c.args.joining.authid) m.realm) admitted.sound cuts.1 c.cut_found.ensures.none (c.next_word-word.ensures ∙ ap (λ w. g.W.IdSource.given w ⊕ (c.next_word-word.result ∷ [])) m.words) cuts.2 c.new-row.ensures.conn c.new-row.ensures.outbox c.new-row.ensures.is_cut c.new-row.ensures.is_lost (c.shows.ensures.finds c.args.joining.empty)
+    m.rows admitted.rows.1 (admitted.history ∙ ap (λ h. h ▷ Join c.args.conn c.next_word-word.result c.args.joining.authid) m.realm) admitted.sound cuts.1 c.cut_found.ensures.none c.cut_found.ensures.sound (c.next_word-word.ensures ∙ ap (λ w. g.W.IdSource.given w ⊕ (c.next_word-word.result ∷ [])) m.words) cuts.2 c.new-row.ensures.conn c.new-row.ensures.outbox c.new-row.ensures.is_cut c.new-row.ensures.is_lost c.new-row.ensures.was_lost (c.shows.ensures.finds c.args.joining.empty)
 
 pub returns-in-Err-clause-room : goal.returns-in-Err-clause-room
 returns-in-Err-clause-room g c = λ before.

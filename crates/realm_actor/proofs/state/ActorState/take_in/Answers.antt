@@ -1,4 +1,4 @@
-use Rattle.std.proofs.Common.{refl, ap, ◌∙◌, subst, ◌++◌, ◌∷◌}
+use Rattle.std.proofs.Common.{refl, ap, ◌∙◌, subst, ◌∷◌}
 use Rattle.realm_actor.specs.Tables.{standing, EachMarked}
 use Rattle.realm_actor.specs.Cuts.{Accepted}
 use Rattle.realm_actor.proofs.FoundFull.{ready_live}
@@ -7,7 +7,7 @@ use Rattle.realm_actor.specs.Words.{◌⊕◌}
 use Rattle.realm_actor.proofs.state.ActorState.take_in.Goals as goal
 
 pub accept-requires-clause-ready : goal.accept-requires-clause-ready
-accept-requires-clause-ready g c = ready_live c.args.self.now.table.realm c.args.entry c.args.conn c.args.self.now.table.rows.items c.requires.own c.requires.live c.requires.sound
+accept-requires-clause-ready g c = ready_live c.args.self.now.table.realm c.args.entry c.args.conn c.args.self.now.table.rows.items c.requires.own c.requires.live c.requires.sound c.requires.uncut
 
 pub returns-in-Err-clause-outcome : goal.returns-in-Err-clause-outcome
 returns-in-Err-clause-outcome g c =

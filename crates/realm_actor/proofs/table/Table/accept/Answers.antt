@@ -19,6 +19,7 @@ returns-clause-ok g c =
         sound = subst (λ h. Sound h before.rows.items) is c.in_ok-is_full.ensures.sound;
         cuts = subst (λ h. Cuts (record { history = h; rows = before.rows.items }) cuts.0 (standing c.cut_found.new.self)) is cuts.1;
         none_full = c.cut_found.ensures.none;
+        still_sound = c.cut_found.ensures.sound;
       },
       cuts.2,
     )

@@ -26,7 +26,7 @@ hand_out-requires-clause-ascending g c =
     let seen : c.as_slice.result.now ≡ table.rows.items = c.as_slice.ensures.value in
     let parts = subst (λ l. PartsAt l c.args.conn i) seen c.place_in-place.ensures in
     let put : c.put.new.rows.items ≡ insert table.rows.items i c.args.row = c.put.ensures in
-    let ready = ready_join table.realm c.args.entry c.args.conn table.rows.items i c.args.row new.outbox c.requires.own c.requires.may c.requires.sound parts new.conn new.box new.of_conn new.empty new.unseen new.fresh new.never in
+    let ready = ready_join table.realm c.args.entry c.args.conn table.rows.items i c.args.row new.outbox c.requires.own c.requires.may c.requires.sound parts new.conn new.box new.of_conn new.empty new.unseen new.fresh new.never new.was_lost c.requires.comes in
     subst (λ l. Ascending l) (sym put) ready.ascending
 
 pub tell-requires : goal.tell-requires
@@ -42,7 +42,7 @@ hand_out-requires-clause-due g c =
     let seen : c.as_slice.result.now ≡ table.rows.items = c.as_slice.ensures.value in
     let parts = subst (λ l. PartsAt l c.args.conn i) seen c.place_in-place.ensures in
     let put : c.put.new.rows.items ≡ insert table.rows.items i c.args.row = c.put.ensures in
-    let ready = ready_join table.realm c.args.entry c.args.conn table.rows.items i c.args.row new.outbox c.requires.own c.requires.may c.requires.sound parts new.conn new.box new.of_conn new.empty new.unseen new.fresh new.never in
+    let ready = ready_join table.realm c.args.entry c.args.conn table.rows.items i c.args.row new.outbox c.requires.own c.requires.may c.requires.sound parts new.conn new.box new.of_conn new.empty new.unseen new.fresh new.never new.was_lost c.requires.comes in
     subst (λ h. EachDue h c.in-Ok.given.items c.put.new.rows.items) (sym (c.in-Ok.ensures.history))
     (due_all table.realm c.args.entry c.put.new.rows.items c.in-Ok.given.items (subst (λ l. Ready c.args.entry table.realm l) (sym put) ready) c.in-Ok.ensures.given)
 
@@ -54,7 +54,7 @@ returns-clause-rows g c =
     let seen : c.as_slice.result.now ≡ table.rows.items = c.as_slice.ensures.value in
     let parts = subst (λ l. PartsAt l c.args.conn i) seen c.place_in-place.ensures in
     let put : c.put.new.rows.items ≡ insert table.rows.items i c.args.row = c.put.ensures in
-    let ready = ready_join table.realm c.args.entry c.args.conn table.rows.items i c.args.row new.outbox c.requires.own c.requires.may c.requires.sound parts new.conn new.box new.of_conn new.empty new.unseen new.fresh new.never in
+    let ready = ready_join table.realm c.args.entry c.args.conn table.rows.items i c.args.row new.outbox c.requires.own c.requires.may c.requires.sound parts new.conn new.box new.of_conn new.empty new.unseen new.fresh new.never new.was_lost c.requires.comes in
     let d = c.hand_out.ensures.rows in
     let is = c.in-Ok.ensures.history in (
       i,
@@ -72,7 +72,7 @@ returns-clause-sound g c =
     let seen : c.as_slice.result.now ≡ table.rows.items = c.as_slice.ensures.value in
     let parts = subst (λ l. PartsAt l c.args.conn i) seen c.place_in-place.ensures in
     let put : c.put.new.rows.items ≡ insert table.rows.items i c.args.row = c.put.ensures in
-    let ready = ready_join table.realm c.args.entry c.args.conn table.rows.items i c.args.row new.outbox c.requires.own c.requires.may c.requires.sound parts new.conn new.box new.of_conn new.empty new.unseen new.fresh new.never in
+    let ready = ready_join table.realm c.args.entry c.args.conn table.rows.items i c.args.row new.outbox c.requires.own c.requires.may c.requires.sound parts new.conn new.box new.of_conn new.empty new.unseen new.fresh new.never new.was_lost c.requires.comes in
     let d = c.hand_out.ensures.rows in
     let is = c.in-Ok.ensures.history in
     subst (λ h. Sound h c.hand_out.new.self.rows.items) (sym (c.hand_out.ensures.realm ∙ is))
@@ -88,7 +88,7 @@ returns-clause-none g c = λ quiet none.
     let seen : c.as_slice.result.now ≡ table.rows.items = c.as_slice.ensures.value in
     let parts = subst (λ l. PartsAt l c.args.conn i) seen c.place_in-place.ensures in
     let put : c.put.new.rows.items ≡ insert table.rows.items i c.args.row = c.put.ensures in
-    let ready = ready_join table.realm c.args.entry c.args.conn table.rows.items i c.args.row new.outbox c.requires.own c.requires.may c.requires.sound parts new.conn new.box new.of_conn new.empty new.unseen new.fresh new.never in
+    let ready = ready_join table.realm c.args.entry c.args.conn table.rows.items i c.args.row new.outbox c.requires.own c.requires.may c.requires.sound parts new.conn new.box new.of_conn new.empty new.unseen new.fresh new.never new.was_lost c.requires.comes in
     let d = c.hand_out.ensures.rows in
     let is = c.in-Ok.ensures.history in
     let went = went_all table.realm c.args.entry c.args.conn c.put.new.rows.items d.0 c.hand_out.new.self.rows.items c.requires.own c.requires.comes (subst (λ l. Ready c.args.entry table.realm l) (sym put) ready) d.1
@@ -104,7 +104,7 @@ returns-clause-keeps g c =
     let seen : c.as_slice.result.now ≡ table.rows.items = c.as_slice.ensures.value in
     let parts = subst (λ l. PartsAt l c.args.conn i) seen c.place_in-place.ensures in
     let put : c.put.new.rows.items ≡ insert table.rows.items i c.args.row = c.put.ensures in
-    let ready = ready_join table.realm c.args.entry c.args.conn table.rows.items i c.args.row new.outbox c.requires.own c.requires.may c.requires.sound parts new.conn new.box new.of_conn new.empty new.unseen new.fresh new.never in
+    let ready = ready_join table.realm c.args.entry c.args.conn table.rows.items i c.args.row new.outbox c.requires.own c.requires.may c.requires.sound parts new.conn new.box new.of_conn new.empty new.unseen new.fresh new.never new.was_lost c.requires.comes in
     let d = c.hand_out.ensures.rows in
     let is = c.in-Ok.ensures.history in
     let lives = ap (λ h. live h c.args.conn) is in

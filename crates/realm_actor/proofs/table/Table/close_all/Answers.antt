@@ -1,4 +1,4 @@
-use Rattle.std.proofs.Common.{refl, sym, ap, ◌∙◌, subst, [], ◌++◌, append-nil, append_assoc, add-one, arith}
+use Rattle.std.proofs.Common.{refl, sym, ap, ◌∙◌, subst, [], ◌++◌, add-one, arith}
 use Rattle.realm_actor.specs.Tables.{standing}
 use Rattle.realm_actor.specs.Stop.{Closes, first, one_more}
 use Rattle.realm_actor.proofs.StopLemmas.{nil_append, closes_moved}

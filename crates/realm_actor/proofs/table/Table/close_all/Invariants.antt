@@ -1,4 +1,4 @@
-use Rattle.std.proofs.Common.{◌≡◌, ◌++◌}
+use Rattle.std.proofs.Common.{◌≡◌}
 use Rattle.std.specs.Prelude.{List, ℕ}
 use Rattle.realm_actor.specs.Tables.{standing}
 use Rattle.realm_actor.specs.Cuts.{NoneFull}

@@ -1,4 +1,4 @@
-use Rattle.std.proofs.Common.{refl, sym, ap, ◌∙◌, subst, [], ◌∷◌, ◌++◌, append-nil, append_assoc, length}
+use Rattle.std.proofs.Common.{refl, sym, ap, ◌∙◌, subst, [], ◌∷◌, length}
 use Rattle.std.proofs.lemmas.Option.{slice_get_read}
 use Rattle.realm_actor.specs.Tables.{standing, EachMarked}
 use Rattle.realm_actor.specs.Cuts.{Accepted}
@@ -17,7 +17,7 @@ returns-then-not-is_live-clause-closes g c =
     ([], [], passed r at (sym c.is_live.ensures ∙ c.if-not-is_live.true), sym (none_more (g.W.IdSource.given c.args.words.now)), refl)
 
 pub accept-requires-clause-ready : goal.accept-requires-clause-ready
-accept-requires-clause-ready g c = ready_live c.args.self.now.realm _ c.index.result.now.conn c.args.self.now.rows.items refl (sym c.is_live.ensures ∙ c.if-not-is_live.false) c.requires.sound
+accept-requires-clause-ready g c = ready_live c.args.self.now.realm _ c.index.result.now.conn c.args.self.now.rows.items refl (sym c.is_live.ensures ∙ c.if-not-is_live.false) c.requires.sound (λ d. refl)
 
 pub returns-in-Ok-clause-closes : goal.returns-in-Ok-clause-closes
 returns-in-Ok-clause-closes g c =

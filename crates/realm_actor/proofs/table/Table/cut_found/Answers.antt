@@ -1,4 +1,4 @@
-use Rattle.std.proofs.Common.{sym, [], append-nil}
+use Rattle.std.proofs.Common.{sym, []}
 use Rattle.realm_actor.specs.Cuts.{none}
 use Rattle.realm_actor.proofs.TableInvariant.{keeps_none}
 use Rattle.realm_actor.proofs.WordSteps.{none_more}

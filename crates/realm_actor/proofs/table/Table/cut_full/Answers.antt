@@ -1,7 +1,8 @@
-use Rattle.std.proofs.Common.{sym, ap, ◌∙◌, subst, [], ◌∷◌, ◌++◌, append-nil, append_assoc}
+use Rattle.std.proofs.Common.{sym, ap, ◌∙◌, subst, [], ◌∷◌, ◌++◌}
+use Rattle.std.specs.Prelude.{None}
 use Rattle.realm_actor.specs.Rows.{Ascending}
 use Rattle.realm_actor.specs.Cuts.{none, one_more, IsLeastFull}
-use Rattle.realm_actor.proofs.FoundFull.{full_live}
+use Rattle.realm_actor.proofs.FoundFull.{full_live, ready_full}
 use Rattle.realm_actor.proofs.TableInvariant.{keeps_none, keeps_on}
 use Rattle.realm_actor.specs.Words.{◌⊕◌}
 use Rattle.realm_actor.proofs.WordSteps.{more_on, none_more}
@@ -27,6 +28,11 @@ loop-preserved g c =
       c.cut.ensures.sound,
       keeps_on i.3 c.cut.ensures.keeps,
     )
+
+pub cut-requires-clause-ready : goal.cut-requires-clause-ready
+cut-requires-clause-ready g c =
+    let conn = c.in-Some-least_full.conn in
+    ready_full c.loop.self.realm c.loop.self.rows.items conn None c.loop.invariant.2 (subst (λ l. IsLeastFull l conn) c.as_slice.ensures.value c.in-Some-least_full.ensures)
 
 pub cut-requires-clause-live : goal.cut-requires-clause-live
 cut-requires-clause-live g c =

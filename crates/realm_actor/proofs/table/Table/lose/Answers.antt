@@ -1,20 +1,22 @@
-use Rattle.std.proofs.Common.{sym, ap, ◌∙◌, subst, ◌++◌, ◌∷◌, [], append_assoc}
+use Rattle.std.proofs.Common.{sym, ap, ◌∙◌, subst, ◌∷◌, []}
+use Rattle.std.specs.Prelude.{None}
+use Rattle.realm.specs.declared.entry.Entry.TheVariants.{Cut}
 use Rattle.realm.specs.History.{◌▷◌}
 use Rattle.realm_actor.specs.Rows.{Ascending}
-use Rattle.realm_actor.specs.Tables.{standing, Sound}
+use Rattle.realm_actor.specs.Tables.{standing, Ready, Sound}
 use Rattle.realm_actor.specs.Cuts.{Cuts}
-use Rattle.realm_actor.proofs.HandleLemmas.{sound_same, same_marked}
+use Rattle.realm_actor.proofs.HandleLemmas.{ready_marked}
 use Rattle.realm_actor.proofs.TableInvariant.{keeps_on}
 use Rattle.realm_actor.specs.Words.{◌⊕◌}
 use Rattle.realm_actor.proofs.WordSteps.{more_on}
 use Rattle.realm_actor.proofs.table.Table.lose.Goals as goal
 
-pub cut-requires-clause-sound : goal.cut-requires-clause-sound
-cut-requires-clause-sound g c =
+pub cut-requires-clause-ready : goal.cut-requires-clause-ready
+cut-requires-clause-ready g c =
     let a = c.args.self.now in
     let b = c.mark_lost.new.self in
     let m = c.mark_lost.ensures in
-    subst (λ h. Sound h b.rows.items) (sym m.realm) (sound_same a.rows.items b.rows.items (same_marked c.args.conn a.rows.items b.rows.items m.rows) a.realm c.requires.sound)
+    subst (λ h. Ready (Cut c.args.conn None) h b.rows.items) (sym m.realm) (ready_marked a.realm c.args.conn None a.rows.items b.rows.items c.requires.live m.rows c.requires.sound)
 
 pub returns-clause-lost : goal.returns-clause-lost
 returns-clause-lost g c =
@@ -38,6 +40,7 @@ returns-clause-lost g c =
         sound = subst (λ h. Sound h c.cut.new.self.rows.items) is c.cut.ensures.sound;
         cuts = subst (λ h. Cuts (record { history = h; rows = c.cut.new.self.rows.items }) cuts.0 (standing news)) is cuts.1;
         none_full = c.cut_full.ensures.none;
+        still_sound = c.cut_full.ensures.sound;
       },
       cuts.2 ∙ ap (λ l. l ⊕ cuts.0) c.next_word-word.ensures ∙ more_on (g.W.IdSource.given c.args.words.now) (word ∷ []) cuts.0,
     )
