@@ -32,7 +32,7 @@ impl ListHistory {
 }
 
 impl Owed<Item> for ListHistory {
-    ghost use Rattle.std.specs.Prelude.{⊤};
+    ghost use Rattle.std.specs.Prelude.{⊤, false};
     ghost use Rattle.std.proofs.Common.{refl, ◌∙◌};
     ghost use Rattle.cases_connection.specs.Listing.{Same, owed, owes_on};
 
@@ -49,6 +49,8 @@ impl Owed<Item> for ListHistory {
     ghost is_of = { λ h chronicle. ⊤ };
 
     ghost is_over = { λ h conn. ⊤ };
+
+    ghost was_cut = { λ h conn. false };
 }
 
 /// Adds what is owed, item by item, and then closes the outbox.

@@ -134,6 +134,7 @@ fn in_words(end: WriteEnd) -> &'static str {
     match end {
         WriteEnd::Stopped => "stopped",
         WriteEnd::Full => "outbox full",
+        WriteEnd::Lost => "lost",
         WriteEnd::Dropped => "dropped",
         WriteEnd::Device => "device failed",
         WriteEnd::TooLong => "E18 TooLongForClient",
