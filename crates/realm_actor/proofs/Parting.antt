@@ -30,6 +30,7 @@ none_of (Some w) is = absurd (cc is)
 -- who has joined and isn't live is owed nothing more, and cut no more
 pub owes_no_more : (h : History) (c : ℕ) → has_joined h c ≡ true → live h c ≡ false → OwesNoMore h c
 owes_no_more h c joined dead = record {
+  asked = joined;
   owes = λ k begins is_history. owed-over h k c (record { joined = joined; ended = none_of (who h c) dead }) begins is_history;
   cuts = λ k begins is_history. cut_over h k c joined dead begins is_history;
 }

@@ -3,6 +3,7 @@ use Rattle.std.proofs.Common.{◌≡◌, ℕ, true, false, true≢false, eqb, Li
 use Rattle.std.proofs.lemmas.List.{append-nil}
 use Rattle.std.proofs.lemmas.List.Elements.{filter-append}
 use Rattle.wamp_ids.specs.Numbers.{seat_of}
+use Rattle.realm.specs.Sessions.{live}
 use Rattle.realm_inbox.specs.declared.act.Act as the
 use Rattle.realm_inbox.specs.declared.letter.Post.{Post}
 use Rattle.realm_inbox.specs.declared.letter.Post.TheVariants.{Act, Stop}
@@ -87,3 +88,8 @@ module _ {S : Type 0} where
     ),
     (g.came, halt, refl, subst (λ x. HasAll x (behind halt)) g.more after),
   )
+
+  -- nobody is live behind a stop
+  pub none_behind_stop : (c d : Acting S) (result : Outcome) (p : Post S) → is_stop p ≡ true → Handles result p c d → (k : ℕ) → live d.history k ≡ false
+  none_behind_stop c d result (Act l) is handles = absurd (true≢false (sym is))
+  none_behind_stop c d result (Stop halt) is handles = handles.does.none_live

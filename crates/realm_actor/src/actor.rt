@@ -1,5 +1,5 @@
 //! The actor of a realm.
-ghost use Rattle.std.specs.Prelude.{◌≡◌, Some, None, [], IfOk, IfErr, is_some};
+ghost use Rattle.std.specs.Prelude.{◌≡◌, ℕ, Some, None, [], IfOk, IfErr, is_some};
 ghost use Rattle.realm_inbox.specs.Seats.{IsHomed};
 ghost use Rattle.realm.specs.Grants.{Grants, pairs_of};
 ghost use Rattle.realm.specs.History.{begun};
@@ -236,8 +236,9 @@ impl<S: Shut, W: IdSource> Actor<S, W> {
     }
 
     /// The chronicle of the realm's history, which has the history of the actor, and the source of its words. What a drain saw of
-    /// that history can be tied to it ([`outbox_queue::tie`]).
+    /// that history can be tied to it ([`outbox_queue::tie`]). No outbox is held, which would be dropped here, and not handed over.
     pub fn into_parts(self) -> (RealmChronicle, W)
+        requires released { (c : ℕ) → outbox_of self.rows c ≡ None }
         ensures chronicle { result.0 ≡ record {
           chronicle = self.chronicle;
           history = Some self.history;

@@ -1,6 +1,8 @@
 //! How an actor runs.
 ghost use Rattle.std.specs.Prelude.{◌≡◌, ℕ, ◌++◌, [], ◌∷◌, true, false, None, Some, List, IfSome, MatchOption};
 ghost use Rattle.realm.specs.History.{Begins};
+ghost use Rattle.realm.specs.Sessions.{live};
+ghost use Rattle.realm_actor.specs.LastCut.{outbox_of};
 ghost use Rattle.realm_inbox.specs.declared.letter.Post.{Post as APost};
 ghost use Rattle.realm_inbox.specs.Seats.{InOrder, IsNext, IsHomed};
 ghost use Rattle.realm_inbox.specs.Behind.{IsBehind};
@@ -97,7 +99,8 @@ impl<S: Shut, W: IdSource> Actor<S, W> {
     }
 
     /// The same as [`Actor::run`], while somebody looks on, and a stop alone ends it: whoever calls it keeps a door of the inbox until
-    /// one is posted. Where each sender is gone before, it looks again and again. What that stop comes behind was handled before it.
+    /// one is posted. Where each sender is gone before, it looks again and again. What that stop comes behind was handled before it, and
+    /// nobody is live behind it.
     pub fn run_to_stop<R: Wait, O: Onlooker>(
         self,
         rt: &R,
@@ -110,6 +113,7 @@ impl<S: Shut, W: IdSource> Actor<S, W> {
         ensures ran { (came : List (APost S)) × (received inbox.new ≡ received inbox.old ++ came)
             × InOrder (received inbox.old) came × Ran self came result
             × EndsInStop (received inbox.old) came }
+        ensures ended { (c : ℕ) → live result.history c ≡ false }
         ensures begins { Begins self.history result.history }
         ensures in_turn { SameAtSeats result.handled (received inbox.new) }
         ensures order { (c : ℕ) → KeepsOrderSince self.history c (acts_for c result.handled)
@@ -135,6 +139,7 @@ impl<S: Shut, W: IdSource> Actor<S, W> {
         ensures ran { (came : List (APost S)) × (received inbox.new ≡ received inbox.old ++ came)
             × InOrder (received inbox.old) came × Ran self came result
             × (may_leave ≡ false → EndsInStop (received inbox.old) came) }
+        ensures ended { may_leave ≡ false → (c : ℕ) → live result.history c ≡ false }
         ensures begins { Begins self.history result.history }
         ensures in_turn { SameAtSeats result.handled (received inbox.new) }
         ensures order { (c : ℕ) → KeepsOrderSince self.history c (acts_for c result.handled)
@@ -192,8 +197,9 @@ impl<S: Shut, W: IdSource> Actor<S, W> {
         }
     }
 
-    // The next post. Where none is there, or many were handled since, or it will probably take long, the writers are woken first. `None`
-    // only where the run may leave.
+    // The next post, once the sessions that aren't live are forgotten: who waits for a post holds no outbox of theirs, so that their
+    // writers end. Where no post is there, or many were handled since, or it will probably take long, the writers are woken first.
+    // `None` only where the run may leave.
     fn next_post<R: Wait, O: Onlooker>(
         &self,
         rt: &R,
@@ -202,6 +208,8 @@ impl<S: Shut, W: IdSource> Actor<S, W> {
         pace: &mut Pace,
         may_leave: bool,
     ) -> Option<Post<S>>
+        requires swept { (c : ℕ) → live self.now.history c ≡ false
+            → outbox_of self.now.rows c ≡ None }
         ensures stays { result ≡ None → may_leave ≡ true }
         ensures given { MatchOption result (received inbox.new ≡ received inbox.old)
             (λ p. received inbox.new ≡ received inbox.old ++ p ∷ []) }
