@@ -8,6 +8,9 @@ use Rattle.broker_threads.proofs.actor_thread.ActorThreadWork.run.Goals as goal
 pub of_realm-actor-requires-clause-empty : goal.of_realm-actor-requires-clause-empty
 of_realm-actor-requires-clause-empty g c = (grants_of c.args.self.kept, c.args.self.empty)
 
+pub into_parts-chronicle-requires : goal.into_parts-chronicle-requires
+into_parts-chronicle-requires g c = record { released = λ d. c.sweep.ensures.sweeps.others d (c.run_to_stop-actor.ensures.ended d) }
+
 pub returns : goal.returns
 returns g c =
     let w = c.args.self in
