@@ -4,7 +4,7 @@ use crate::loopback::Loopback;
 use crate::script::Script;
 use crate::seating::{give_back, seat};
 use crate::steps::{Cue, Deed, Flood, Stand, Step};
-use crate::told::{tell, tell_last, tell_tally};
+use crate::told::{tell, tell_back, tell_last, tell_tally};
 use case_items::grant_of;
 use case_text::{line_of, number_of, octets_of};
 use rawsocket::MessageBound;
@@ -34,8 +34,9 @@ pub struct Case {
     outbox: usize,
     // How long the messages of clients may be, where a case says.
     bound: Option<MessageBound>,
-    // Whether it is told how sessions ended.
+    // Whether it is told how sessions ended, and when streams came back.
     tallies: bool,
+    tells_back: bool,
     // How many of the last octets of each client are told, where not all are.
     last: Option<u64>,
     grants: Vec<(String, String)>,
@@ -52,6 +53,7 @@ impl Case {
             outbox: OUTBOX,
             bound: None,
             tallies: false,
+            tells_back: false,
             last: None,
             grants: Vec::new(alloc),
             allowed: Vec::new(alloc),
@@ -89,6 +91,7 @@ impl Case {
             "grant" => self.grants.push(grant_of(alloc, rest)?)?,
             "last" => self.last = Some(number),
             "tally" => self.tallies = true,
+            "early" => self.tells_back = true,
             "may" => self.allowed.push((number, octets_of(alloc, after)?))?,
             "client" => self.come(alloc, rest, Stand::Nowhere)?,
             "standing" => self.come(alloc, rest, Stand::Sink)?,
@@ -156,6 +159,9 @@ impl Case {
         let mut told = self.run(rt, alloc, &mut script, &config, None)?;
         if self.tallies {
             tell_tally(&mut told, script.tally)?;
+        }
+        if self.tells_back {
+            tell_back(&mut told, script.tally)?;
         }
         self.tell(alloc, &mut told, &mut script.pairs.play.clients)?;
         Ok(told)

@@ -20,7 +20,8 @@
 //!   tells how serving ended and what each client got, if it got anything; after `last N` only how many got the same
 //!   last N octets as the first one, and what each other one got. Where a `may K TEXT` has what the client K got, only
 //!   that is told of it. After `tally` it tells also how many sessions have ended, and how many of their writers
-//!   stopped: all that these were owed was written; and how many other streams weren't served, for which reason.
+//!   stopped: all that these were owed was written; and how many other streams weren't served, for which reason. After
+//!   `early` it tells whether most streams had come back when accepting was asked last.
 //!   `serve N` does so many times what `serve` does, and tells once what was told each time. `serve log` serves with a
 //!   log, and tells its lines, sorted and without counts and moments, in place of what clients got.
 //! - Of the seats of connections, apart from serving: `take` takes one, `back CONN` gives one back, and `fill` takes

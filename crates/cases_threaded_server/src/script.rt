@@ -134,6 +134,7 @@ impl<R: Net + Drop> Acceptor for Script<R> {
     ghost asked = { λ s. asked_of s.account };
 
     fn accept(&mut self) -> Accepted<End> {
+        self.tally.asks();
         self.account.asks();
         let accepted = self.pairs.accept();
         self.answers.add(Snapshot::of(&accepted.answer()));

@@ -4,6 +4,9 @@ use threaded_server::{SessionEnds, StreamFate, WriteEnd};
 /// How many streams had which fate.
 #[derive(Clone, Copy, Drop)]
 pub struct Tally {
+    /// How many came back, and how many had when accepting was asked last.
+    pub back: u64,
+    pub back_when_asked: u64,
     pub served: u64,
     /// Of those that were served, whose writer stopped.
     pub stopped: u64,
@@ -17,6 +20,8 @@ impl Tally {
     /// Of no stream yet.
     pub fn new() -> Tally {
         Tally {
+            back: 0,
+            back_when_asked: 0,
             served: 0,
             stopped: 0,
             not_opened: 0,
@@ -26,8 +31,19 @@ impl Tally {
         }
     }
 
+    /// Accepting is asked.
+    pub fn asks(&mut self) {
+        self.back_when_asked = self.back;
+    }
+
+    /// Whether most of them had come back when accepting was asked last.
+    pub fn were_most_back(&self) -> bool {
+        self.back_when_asked > self.back / 2
+    }
+
     /// Counts one more.
     pub fn count(&mut self, fate: StreamFate) {
+        one_more(&mut self.back);
         match fate {
             StreamFate::Served(ends) => self.count_session(ends),
             StreamFate::NotOpened(_) => one_more(&mut self.not_opened),

@@ -80,9 +80,21 @@ fn last_of(octets: &[u8], count: usize) -> &[u8] {
     last
 }
 
+/// Whether most of the streams had come back when accepting was asked last.
+pub fn tell_back(told: &mut String, tally: Tally) -> io::Result<()> {
+    let most = if tally.were_most_back() {
+        "most"
+    } else {
+        "few"
+    };
+    Ok(write!(told, "{most} were back when accepting was asked last\n")?)
+}
+
 /// How many sessions have ended, and how many of their writers stopped; and why how many other streams weren't served.
 pub fn tell_tally(told: &mut String, tally: Tally) -> io::Result<()> {
     let Tally {
+        back: _,
+        back_when_asked: _,
         served,
         stopped,
         not_opened,
