@@ -1,20 +1,22 @@
--- What a reader has posted that ends by a farewell.
-use Rattle.std.proofs.Common.{◌≡◌, ◌⊎◌, Bool, true, false, List, [], ◌∷◌, ◌++◌, Option, None, Some, refl, sym, ap, ◌∙◌, subst, inl, inr}
+-- What a reader has posted when it ends.
+use Rattle.std.proofs.Common.{◌≡◌, ◌≢◌, ◌⊎◌, ℕ, Bool, true, false, List, [], ◌∷◌, ◌++◌, Option, None, Some, refl, sym, ap, ◌∙◌, subst, inl, inr}
 use Rattle.std.specs.Prelude.{◌||◌}
 use Rattle.std.specs.List.{list_any}
 use Rattle.std.proofs.Math.Bool.{or-true}
 use Rattle.std.proofs.lemmas.List.Folds.{list_any-append}
-use Rattle.connection.specs.Posts.{Breaks, First, GoesOn, Leaves, Posts, SaysFarewell, SaysMore, Spoils, is_farewell}
-use Rattle.rawsocket.specs.Frames.{Content}
+use Rattle.connection.specs.Posts.{Breaks, Course, First, GoesOn, Leaves, Posts, SaysFarewell, SaysMore, Spoils, is_farewell}
+use Rattle.connection.specs.Reader.{IsReadAll, IsReadBy, IsReadPartly, Start}
+use Rattle.connection.specs.declared.reader.ReadEnd.{ReadEnd}
+use Rattle.connection.specs.declared.reader.ReadEnd.TheVariants as read_end
+use Rattle.rawsocket.specs.Frames.{Content, fault_of}
 use Rattle.rawsocket.specs.declared.fault.Fault as stream
 use Rattle.rawsocket.specs.declared.frame.Kind.{Kind}
 use Rattle.rawsocket.specs.declared.frame.Kind.TheVariants as kind
 use Rattle.rawsocket.specs.declared.handshake.Serializer.{Serializer}
 use Rattle.realm.specs.Sessions.{is_last_word}
 use Rattle.realm_inbox.specs.declared.act.Act as the
-use Rattle.realm_inbox.specs.declared.act.Act.TheVariants.{Join, Ping, Said}
+use Rattle.realm_inbox.specs.declared.act.Act.TheVariants.{Gone, Join, Ping, Said}
 use Rattle.realm_inbox.specs.declared.joining.Joining.{Joining}
-use Rattle.session.specs.Faults.{stream_fault}
 use Rattle.session.specs.Opened.{ByKind}
 use Rattle.session.specs.declared.fault.Fault.{Fault}
 use Rattle.server_laws.proofs.WholeSteps.{AreInTurn, InTurn, is_join}
@@ -33,7 +35,7 @@ farewell_is_last (word.Unsubscribe request subscription) e = e
 not_on : Leaves ≡ GoesOn → ⊥
 not_on e = cc
 
-not_broken : (fault : Fault) → Leaves ≡ Breaks fault → ⊥
+not_broken : (fault : Fault) → Breaks fault ≡ GoesOn → ⊥
 not_broken fault e = cc
 
 module _ {S : Type 0} where
@@ -42,31 +44,60 @@ module _ {S : Type 0} where
     pub no_join : list_any is_join acts ≡ false
     pub last : list_any is_last acts ≡ true
 
+  -- what frames are posted as has no Join, and such a thing unless they go on
+  record IsTold (course : Course) (acts : List (the.Act S)) : Type 0 where
+    pub no_join : list_any is_join acts ≡ false
+    pub last : (course ≡ GoesOn → ⊥) → list_any is_last acts ≡ true
+
   -- one act more, before them
-  one_before : (act : the.Act S) (acts more : List (the.Act S)) → is_join act ≡ false → acts ≡ act ∷ more → Left more → Left acts
-  one_before act acts more other are h = subst Left (sym are) (record {
+  one_before : (course : Course) (act : the.Act S) (acts more : List (the.Act S)) → is_join act ≡ false → acts ≡ act ∷ more → IsTold course more → IsTold course acts
+  one_before course act acts more other are h = subst (IsTold course) (sym are) (record {
     no_join = ap (λ b. b || list_any is_join more) other ∙ h.no_join;
-    last = ap (λ b. is_last act || b) h.last ∙ or-true (is_last act);
+    last = λ ends. ap (λ b. is_last act || b) (h.last ends) ∙ or-true (is_last act);
   })
 
-  pub left_by : (s : Serializer) (fault : Option stream.Fault) (frames : List Content) (acts : List (the.Act S)) → Posts s fault frames acts Leaves → Left acts
-  left_by s None [] acts h = absurd (not_on h.1)
-  left_by s (Some fault) [] acts h = absurd (not_broken (stream_fault fault) h.1)
-  left_by s fault (c ∷ frames) acts h = by_kind (left_by s fault frames) c.kind h
+  told_by : (s : Serializer) (fault : Option stream.Fault) (course : Course) (frames : List Content) (acts : List (the.Act S)) → Posts s fault frames acts course → IsTold course acts
+  told_by s None course [] acts h = subst (IsTold course) (sym h.0) (record { no_join = refl; last = λ ends. absurd (ends h.1) })
+  told_by s (Some fault) course [] acts h = subst (IsTold course) (sym h.0) (record { no_join = refl; last = λ ends. refl })
+  told_by s fault course (c ∷ frames) acts h = by_kind (told_by s fault course frames) c.kind h
     where
       Message : Type 0
-      Message = SaysMore s c.payload (Posts s fault frames) acts Leaves ⊎ (SaysFarewell s c.payload acts Leaves ⊎ Spoils s c.payload acts Leaves)
+      Message = SaysMore s c.payload (Posts s fault frames) acts course ⊎ (SaysFarewell s c.payload acts course ⊎ Spoils s c.payload acts course)
 
-      by_message : ((more : List (the.Act S)) → Posts s fault frames more Leaves → Left more) → Message → Left acts
-      by_message below (inl m) = one_before (Said m.said) acts m.first.more refl m.first.acts_are (below m.first.more m.first.next)
-      by_message below (inr (inl m)) = subst Left (sym m.acts_are) (record { no_join = refl; last = ap (λ b. b || false) (farewell_is_last m.said m.leaves) })
-      by_message below (inr (inr m)) = absurd (not_broken m.fault m.course_is)
+      by_message : ((more : List (the.Act S)) → Posts s fault frames more course → IsTold course more) → Message → IsTold course acts
+      by_message below (inl m) = one_before course (Said m.said) acts m.first.more refl m.first.acts_are (below m.first.more m.first.next)
+      by_message below (inr (inl m)) = subst (IsTold course) (sym m.acts_are) (record { no_join = refl; last = λ ends. ap (λ b. b || false) (farewell_is_last m.said m.leaves) })
+      by_message below (inr (inr m)) = subst (IsTold course) (sym m.acts_are) (record { no_join = refl; last = λ ends. refl })
 
-      by_kind : ((more : List (the.Act S)) → Posts s fault frames more Leaves → Left more) → (k : Kind)
-          → ByKind k Message (First (Ping c.payload) (Posts s fault frames) acts Leaves) (Posts s fault frames acts Leaves) → Left acts
+      by_kind : ((more : List (the.Act S)) → Posts s fault frames more course → IsTold course more) → (k : Kind)
+          → ByKind k Message (First (Ping c.payload) (Posts s fault frames) acts course) (Posts s fault frames acts course) → IsTold course acts
       by_kind below kind.Message m = by_message below m
-      by_kind below kind.Ping m = one_before (Ping c.payload) acts m.more refl m.acts_are (below m.more m.next)
+      by_kind below kind.Ping m = one_before course (Ping c.payload) acts m.more refl m.acts_are (below m.more m.next)
       by_kind below kind.Pong m = below acts m
+
+  all_told : (begun : Start) (course : Course) (octets : List ℕ) (acts : List (the.Act S)) → IsReadAll begun course octets acts → IsTold course acts
+  all_told begun course octets acts read = told_by begun.serializer (fault_of begun.most read.new) course (begun.early ++ read.frames) acts read.posts
+
+  partly_told : (begun : Start) (octets : List ℕ) (acts : List (the.Act S)) → IsReadPartly begun octets acts → list_any is_join acts ≡ false
+  partly_told begun octets acts (inl none) = ap (list_any is_join) none
+  partly_told begun octets acts (inr part) = (told_by begun.serializer None GoesOn part.done acts part.posts).no_join
+
+  -- and then that the client is gone
+  gone_behind : (acts front : List (the.Act S)) → acts ≡ front ++ Gone ∷ [] → list_any is_join front ≡ false → Left acts
+  gone_behind acts front are none = subst Left (sym are) (record {
+    no_join = list_any-append is_join front (Gone ∷ []) ∙ ap (λ b. b || false) none;
+    last = list_any-append is_last front (Gone ∷ []) ∙ or-true (list_any is_last front);
+  })
+
+  -- by whatever it ended, but that nobody receives any more
+  pub left_by : (begun : Start) (end : ReadEnd) (octets : List ℕ) (acts : List (the.Act S)) → end ≢ read_end.ActorGone → IsReadBy begun end octets acts → Left acts
+  left_by begun read_end.Left octets acts other h = let told = all_told begun Leaves octets acts h.all in record { no_join = told.no_join; last = told.last not_on }
+  left_by begun (read_end.Violation fault) octets acts other h = let told = all_told begun (Breaks fault) octets acts h.all in record { no_join = told.no_join; last = told.last (not_broken fault) }
+  left_by begun read_end.Ended octets acts other h = gone_behind acts h.front h.acts_are (all_told begun GoesOn octets h.front h.before).no_join
+  left_by begun read_end.Device octets acts other h = gone_behind acts h.front h.acts_are (all_told begun GoesOn octets h.front h.before).no_join
+  left_by begun read_end.TooManyTurns octets acts other h = gone_behind acts h.front h.acts_are (all_told begun GoesOn octets h.front h.before).no_join
+  left_by begun read_end.NoMemory octets acts other h = gone_behind acts h.front h.acts_are (partly_told begun octets h.front h.before)
+  left_by begun read_end.ActorGone octets acts other h = absurd (other refl)
 
   -- behind a Join without another each is in turn
   pub join_first : (join : Joining S) (posted acts : List (the.Act S)) → posted ≡ Join join ∷ acts → list_any is_join acts ≡ false → AreInTurn posted

@@ -14,7 +14,7 @@ use Rattle.realm.proofs.NothingAfterAnEnding.{no_events}
 use Rattle.realm.specs.MetaEvents.{arrival, departure}
 use Rattle.realm.specs.Subscriptions.{held}
 use Rattle.realm.specs.Yield.{events, owed, reply, sent_events, welcome, yield}
-use Rattle.realm.specs.Sessions.{admission, conn_of, is_last_word, live, who, IsHistory}
+use Rattle.realm.specs.Sessions.{admission, conn_of, is_last_word, joined, live, who, IsHistory}
 use Rattle.realm.specs.declared.entry.Entry.{Entry}
 use Rattle.realm.specs.declared.entry.Entry.TheVariants as entry
 use Rattle.realm_actor.specs.Handle.{entry_of, is_dropped}
@@ -30,7 +30,7 @@ use Rattle.realm_inbox.specs.declared.letter.Post.TheVariants.{Act, Stop}
 use Rattle.threaded_server.proofs.Places.{same_or_other}
 use Rattle.threaded_server.specs.Histories.{ClosesOn, CutsOn, HandlesAll, HandlesOne}
 use Rattle.threaded_server.specs.Histories as of
-use Rattle.server_laws.specs.WholeSessions.{EndsIn, IsAnswered, IsWelcomed, AllEnter, HasNotJoined, WasCut, entries_of, is_last, until_last}
+use Rattle.server_laws.specs.WholeSessions.{EndsIn, IsAnswered, IsWelcomed, AllEnter, WasCut, WasRefused, entries_of, is_last, until_last}
 use Rattle.wamp_ids.specs.Pattern.{PatternText}
 use Rattle.wamp_messages.specs.declared.item.Item.TheVariants as item
 use Rattle.wamp_messages.specs.declared.item.Reason.{Reason}
@@ -121,9 +121,41 @@ abort_given h c word authid reason none is =
     let e = entry.Join c word authid in
     ap (λ l. l ++ yield h e c) none ∙ ap (λ b. cond b (reply h e) [] ++ events h e c) (same_conn c) ∙ ap (λ (answer : Result Who Reason). welcome answer ++ sent_events (option_map (arrival word) (result_ok answer)) (who h c) (held h c)) is
 
--- what a connection is that didn't join, by what it is owed
-abbrev NotJoined : History → ℕ → Type 0
-NotJoined h c = HasNotJoined h c (owed h c)
+-- its Join was lost or dropped: nothing of it entered, and nothing is owed to it
+abbrev pub HasNotEntered : History → ℕ → Type 0
+HasNotEntered h c = (entries_of h c ≡ []) × (owed h c ≡ [])
+
+-- what a connection is that didn't join, by what it is owed: its Join was refused, or hasn't entered
+abbrev pub NotJoined : History → ℕ → Type 0
+NotJoined h c = WasRefused h c (owed h c) ⊎ HasNotEntered h c
+
+-- no Join stands in a history of whom nothing has entered
+pub none_asked : (h : History) (c : ℕ) → entries_of h c ≡ [] → list_any (λ d. d == c) (joined h) ≡ false
+none_asked (begun grants) c none = refl
+none_asked (h ▷ e) c none = by_entry (none_asked h c) e none
+  where
+    front : (xs ys : List Entry) → xs ++ ys ≡ [] → xs ≡ []
+    front [] ys e = refl
+    front (x ∷ xs) ys e = absurd (let empty : x ∷ (xs ++ ys) ≡ [] = e in cc)
+
+    Below : Type 0
+    Below = entries_of h c ≡ [] → list_any (λ d. d == c) (joined h) ≡ false
+
+    before : Below → (e : Entry) → entries_of (h ▷ e) c ≡ [] → list_any (λ d. d == c) (joined h) ≡ false
+    before below e none = below (front (entries_of h c) (cond (conn_of e == c) (e ∷ []) []) none)
+
+    other : (e : Entry) (b : Bool) → entries_of h c ++ cond b (e ∷ []) [] ≡ [] → b ≡ false
+    other e true none = absurd (let long : length (entries_of h c ++ e ∷ []) ≡ length (entries_of h c) + 1 = length-append (entries_of h c) (e ∷ []) in omega (arith, long, ap length none))
+    other e false none = refl
+
+    by_entry : Below → (e : Entry) → entries_of (h ▷ e) c ≡ [] → list_any (λ d. d == c) (joined (h ▷ e)) ≡ false
+    by_entry below (entry.Join d word authid) none = ap (λ b. b || list_any (λ x. x == c) (joined h)) (other (entry.Join d word authid) (d == c) none) ∙ before below (entry.Join d word authid) none
+    by_entry below (entry.Said d word said) none = before below (entry.Said d word said) none
+    by_entry below (entry.Ping d payload) none = before below (entry.Ping d payload) none
+    by_entry below (entry.Spoilt d word) none = before below (entry.Spoilt d word) none
+    by_entry below (entry.Gone d word) none = before below (entry.Gone d word) none
+    by_entry below (entry.Cut d word) none = before below (entry.Cut d word) none
+    by_entry below (entry.Closed d word) none = before below (entry.Closed d word) none
 
 not_joined_other : (h : History) (e : Entry) (c : ℕ) → conn_of e ≢ c → live h c ≡ false → NotJoined h c → NotJoined (h ▷ e) c
 not_joined_other h e c other dead (inr none) = inr (entries_other h e c other ∙ none.0, owed_other h e c other dead ∙ none.1)
@@ -434,14 +466,18 @@ module _ {S : Type 0} where
       by_conn (inl same) = subst (λ b. Went c (acts ++ cond b (act ∷ []) []) k) (sym (eq-eqb (conn_of_letter l) c same)) (own same handled legal)
       by_conn (inr other) = subst (λ b. Went c (acts ++ cond b (act ∷ []) []) k) (sym (ne_eqb (conn_of_letter l) c other)) (subst (λ l. Went c l k) (sym (append-nil acts)) (else_one other handled legal))
 
+  -- what it posted has something after which nothing more counts, or it posted nothing
+  abbrev pub IsDone : List (the.Act S) → Type 0
+  IsDone acts = list_any is_last acts ≡ false → acts ≡ []
+
   -- a stop closes nothing of a session that ended
-  closes_on : (c : ℕ) (acts : List (the.Act S)) {posts : List (Post S)} {h : History} {next : ℕ} {k : History} → list_any is_last acts ≡ true → ClosesOn posts h next k → IsHistory k → Went c acts h → Went c acts k
-  closes_on c acts last of.ClosesOn.none legal w = w
-  closes_on c acts last (of.ClosesOn.closed {next} {k} {l} d word more least alive cuts) legal w = cuts_on c acts cuts legal (by_conn (same_or_other d c) (closes_on c acts last more (cuts_legal cuts legal).0 w))
+  closes_on : (c : ℕ) (acts : List (the.Act S)) {posts : List (Post S)} {h : History} {next : ℕ} {k : History} → IsDone acts → ClosesOn posts h next k → IsHistory k → Went c acts h → Went c acts k
+  closes_on c acts over of.ClosesOn.none legal w = w
+  closes_on c acts over (of.ClosesOn.closed {next} {k} {l} d word more least alive cuts) legal w = cuts_on c acts cuts legal (by_conn (same_or_other d c) (closes_on c acts over more (cuts_legal cuts legal).0 w))
     where
       gone : Went c acts k → live k c ≡ true → Went c acts (k ▷ entry.Closed d word)
       gone (before none nothing unowed dead) alive = absurd (clash (live k c) alive dead)
-      gone (serves some all hail going on) alive = absurd (clash (list_any is_last acts) last going)
+      gone (serves some all hail going on) alive = absurd (some (over going))
       gone (ended all hail bye done dead) alive = absurd (clash (live k c) alive dead)
       gone (cut x dead) alive = absurd (clash (live k c) alive dead)
       gone (never some none dead) alive = absurd (clash (live k c) alive dead)
@@ -449,7 +485,7 @@ module _ {S : Type 0} where
       by_conn : (d ≡ c) ⊎ (d ≢ c) → Went c acts k → Went c acts (k ▷ entry.Closed d word)
       by_conn (inl same) now = gone now (subst (λ (n : ℕ). live k n ≡ true) same alive)
       by_conn (inr other) now = others c acts k (entry.Closed d word) other now
-  closes_on c acts last (of.ClosesOn.cut {next} {k} {l} d word more least alive cuts) legal w = cuts_on c acts cuts legal (one_cut c acts k d word alive (closes_on c acts last more (cuts_legal cuts legal).0 w))
+  closes_on c acts over (of.ClosesOn.cut {next} {k} {l} d word more least alive cuts) legal w = cuts_on c acts cuts legal (one_cut c acts k d word alive (closes_on c acts over more (cuts_legal cuts legal).0 w))
 
   acts_more : (c : ℕ) (ps qs : List (Post S)) → acts_of c (ps ++ qs) ≡ acts_of c ps ++ acts_of c qs
   acts_more c [] qs = refl
@@ -481,9 +517,9 @@ module _ {S : Type 0} where
       absurd (let more : stops_of (posts ++ Stop halt ∷ []) ≡ stops_of posts + 1 = stops_snoc posts (Stop halt) in omega (arith, more, no_stop))
 
   -- and then a stop: whose last act was among them ended by it, unless it was cut, or didn't join
-  pub went_whole : (c : ℕ) (grants : Grants) (until all : List (Post S)) (halt : Halt) (h : History) → AreInTurn (acts_of c until) → list_any is_last (acts_of c until) ≡ true → stops_of until ≡ 0 → all ≡ until ++ Stop halt ∷ [] → HandlesAll (begun grants) all h → IsHistory h → Went c (acts_of c until) h
-  went_whole c grants until all halt h turns last no_stop is of.HandlesAll.none legal = absurd (let long : 0 ≡ length until + 1 = ap length is ∙ length-append until (Stop halt ∷ []) in omega (arith, long))
-  went_whole c grants until all halt h turns last no_stop is (of.HandlesAll.one_more {posts} {k} {l} p handled step) legal =
+  pub went_whole : (c : ℕ) (grants : Grants) (until all : List (Post S)) (halt : Halt) (h : History) → AreInTurn (acts_of c until) → IsDone (acts_of c until) → stops_of until ≡ 0 → all ≡ until ++ Stop halt ∷ [] → HandlesAll (begun grants) all h → IsHistory h → Went c (acts_of c until) h
+  went_whole c grants until all halt h turns over no_stop is of.HandlesAll.none legal = absurd (let long : 0 ≡ length until + 1 = ap length is ∙ length-append until (Stop halt ∷ []) in omega (arith, long))
+  went_whole c grants until all halt h turns over no_stop is (of.HandlesAll.one_more {posts} {k} {l} p handled step) legal =
       by_stop (subst (λ (q : Post S). HandlesOne (posts ++ p ∷ []) k q l) same.1 step)
     where
       same : (posts ≡ until) × (p ≡ Stop halt)
@@ -493,4 +529,4 @@ module _ {S : Type 0} where
       up_to = went c (acts_of c until) turns refl refl (nobody_yet grants c) (subst (λ ps. HandlesAll (begun grants) ps k) same.0 handled) (one_legal step legal) no_stop [] (sym (append-nil (acts_of c until)))
 
       by_stop : HandlesOne (posts ++ p ∷ []) k (Stop halt) l → Went c (acts_of c until) l
-      by_stop (of.HandlesOne.stopped halt closes) = closes_on c (acts_of c until) last closes legal up_to
+      by_stop (of.HandlesOne.stopped halt closes) = closes_on c (acts_of c until) over closes legal up_to

@@ -4,7 +4,7 @@ use Rattle.std.specs.List.{list_any}
 use mathlib.Core.List.{IsPrefix}
 use Rattle.broker_threads.specs.Streams.{Offer, Sight}
 use Rattle.broker_threads.specs.declared.stream_fate.SessionEnds.{SessionEnds}
-use Rattle.connection.specs.declared.reader.ReadEnd.TheVariants.{Left}
+use Rattle.connection.specs.declared.reader.ReadEnd.TheVariants.{ActorGone}
 use Rattle.connection.specs.declared.writer.WriteEnd.TheVariants.{Full, Lost, Stopped}
 use Rattle.eligibility.specs.declared.who.Who.{Who}
 use Rattle.realm.specs.History.{Begins, History, begun, ◌▷◌}
@@ -40,14 +40,6 @@ pub record WasRefused (h : History) (c : ℕ) (items : List Item) : Type 0 where
   pub refused : admission before c word authid ≡ Err reason
   pub alone : entries_of h c ≡ entry.Join c word authid ∷ []
   pub answered : items ≡ item.Abort reason ∷ []
-
--- its Join was lost or dropped: nothing of it entered, and nothing was written to it
-abbrev pub HasNotEntered : History → ℕ → List Item → Type 0
-HasNotEntered h c items = (entries_of h c ≡ []) × (items ≡ [])
-
--- it didn't join: its Join was refused, or hasn't entered
-abbrev pub HasNotJoined : History → ℕ → List Item → Type 0
-HasNotJoined h c items = WasRefused h c items ⊎ HasNotEntered h c items
 
 -- this is its last element
 abbrev pub EndsIn : {A : Type 0} → List A → A → Type 0
@@ -102,18 +94,19 @@ module _ {S : Type 0} where
     pub cut_then : entries_of h c ≡ entries ++ entry.Cut c word ∷ []
 
 module _ (I O S : Type 0) where
-  -- Nobody is cut for nothing. To a session whose client said its farewell before the actors were told to stop, whose stream didn't fail, and which wasn't told Full or Lost, exactly that
-  -- was written which the one history of its realm owes it; and that history has all that its client said, in order. Or its Join was refused, or hasn't entered
+  -- Nobody is cut for nothing, and no Join is lost untold. To a session that was over before the actors were told to stop, by its client's farewell, what broke the protocol, the end or
+  -- failure of its stream or want of memory, and of which the writer stopped, which wasn't told Full or Lost, exactly that was written which the one history of its realm owes it; and that
+  -- history has all that it posted, in order, up to what ended it. Or its Join was refused. Only ActorGone is left out: then nobody receives any more
   abbrev pub SessionsGoWhole : Type 0
   SessionsGoWhole = (see : Sight I O) (offer : Offer) (start : Start) (before now : List Answer) (was lending : Lending I O) (asked : ℕ) (served : Served S see offer start before now was lending asked) (i : ℕ) (s : LentStream I O S) (conn : ℕ) (ends : SessionEnds)
-      → slice_get served.early i ≡ Some s → s.conn ≡ Some conn → (h : IsSession see offer served.realms s conn ends) → ends.read ≡ Left → ends.write ≡ Stopped
-      → (h.items ≡ owed h.realm.history conn) × (WentWhole conn s.posted h.realm.history h.items ⊎ HasNotJoined h.realm.history conn h.items)
+      → slice_get served.early i ≡ Some s → s.conn ≡ Some conn → (h : IsSession see offer served.realms s conn ends) → ends.read ≢ ActorGone → ends.write ≡ Stopped
+      → (h.items ≡ owed h.realm.history conn) × (WentWhole conn s.posted h.realm.history h.items ⊎ WasRefused h.realm.history conn h.items)
 
   -- The same where it was told Lost: exactly that was written which it is owed, and it was cut. Where it was told Full, a beginning of that was written, as many items as its outbox holds,
-  -- or more; and it went whole, or was cut, or didn't join
+  -- or more; and it went whole, or was cut, or its Join was refused
   abbrev pub CutSessionsAreTold : Type 0
   CutSessionsAreTold = (see : Sight I O) (offer : Offer) (start : Start) (before now : List Answer) (was lending : Lending I O) (asked : ℕ) (served : Served S see offer start before now was lending asked) (i : ℕ) (s : LentStream I O S) (conn : ℕ) (ends : SessionEnds)
-      → slice_get served.early i ≡ Some s → s.conn ≡ Some conn → (h : IsSession see offer served.realms s conn ends) → ends.read ≡ Left
+      → slice_get served.early i ≡ Some s → s.conn ≡ Some conn → (h : IsSession see offer served.realms s conn ends) → ends.read ≢ ActorGone
       → (ends.write ≡ Lost → (h.items ≡ owed h.realm.history conn) × WasCut conn s.posted h.realm.history)
       × (ends.write ≡ Full → (IsPrefix h.items (owed h.realm.history conn) × (offer.room ≤ length h.items))
-      × (WentWhole conn s.posted h.realm.history (owed h.realm.history conn) ⊎ (WasCut conn s.posted h.realm.history ⊎ HasNotJoined h.realm.history conn (owed h.realm.history conn))))
+      × (WentWhole conn s.posted h.realm.history (owed h.realm.history conn) ⊎ (WasCut conn s.posted h.realm.history ⊎ WasRefused h.realm.history conn (owed h.realm.history conn))))

@@ -1,16 +1,22 @@
 -- How the realms ran, and what their histories owe.
-use Rattle.std.proofs.Common.{◌≡◌, ◌<◌, ◌≤◌, ◌+◌, ℕ, zero, suc, Bool, true, false, List, [], ◌∷◌, ◌++◌, Option, None, Some, All, IfSome, length, option_map, remove, slice_get, slice_index_or, refl, sym, ap, ◌∙◌, append_assoc, append-nil, arith, subst}
+use Rattle.std.proofs.Common.{◌≡◌, ◌<◌, ◌≤◌, ◌+◌, ◌==◌, ℕ, zero, suc, Bool, true, false, List, [], ◌∷◌, ◌++◌, Option, None, Some, All, IfSome, length, option_map, remove, slice_get, slice_index_or, refl, sym, ap, ◌∙◌, append_assoc, append-nil, arith, subst}
 use mathlib.Core.List.{IsPrefix}
 use mathlib.Core.Logic.{◌⊎◌, inl, inr}
+use Rattle.std.specs.List.{list_any}
+use Rattle.std.proofs.lemmas.Bool.{or_right}
 use Rattle.std.proofs.lemmas.List.Elements.{All-contains, All-cons, All-head, All-nil, All-pop, All-tail, All-weaker}
 use Rattle.std.proofs.lemmas.Option.{get_or_from_slice_get, none-some, same_Some, slice_get_within}
 use Rattle.chronicle.specs.Recorded.{Reaches, Recorded}
 use Rattle.outbox_queue.proofs.OwedBeginnings.{prefix-on}
-use Rattle.outbox_queue.specs.Ends.{IsVouched, Last, Owes, Taking, TookFull, TookOwed, Vouches, came_with, newest, or_else}
+use Rattle.outbox_queue.specs.Ends.{IsVouched, Last, Owes, Taking, TookAll, TookFull, TookOwed, Vouches, came_with, newest, or_else}
 use Rattle.outbox_queue.specs.Tied.{Kept}
-use Rattle.realm.specs.History.{History, Begins}
-use Rattle.realm.specs.Sessions.{IsHistory}
+use Rattle.connection.specs.declared.writer.WriteEnd.TheVariants.{Full, Lost, Stopped}
+use Rattle.realm.specs.History.{Begins, History, ◌▷◌}
+use Rattle.realm.specs.History as grown
+use Rattle.realm.specs.Sessions.{IsHistory, joined}
 use Rattle.realm.specs.Yield.{owed}
+use Rattle.realm.specs.declared.entry.Entry.{Entry}
+use Rattle.realm.specs.declared.entry.Entry.TheVariants as entry
 use Rattle.realm_inbox.specs.HistoryBeginnings.{owed_more}
 use Rattle.realm_inbox.specs.Behind.{told_by}
 use Rattle.realm_inbox.specs.EndViews.{inbox_of, posted, received, told}
@@ -207,6 +213,20 @@ reached : (own : Option History) (all : List (Kept History)) (o : Option (Kept H
 reached own all None h k = tt
 reached own all (Some kept) h k = All-contains (λ x. Reaches Begins (Some x.history) own) all kept h k
 
+-- whose Join stands in a history, its Join stands in a longer one
+asked_more : (h k : History) (c : ℕ) → Begins h k → list_any (λ d. d == c) (joined h) ≡ true → list_any (λ d. d == c) (joined k) ≡ true
+asked_more h k c grown.Begins.same asked = asked
+asked_more h (k ▷ e) c (grown.Begins.longer begins) asked = by_entry e (asked_more h k c begins asked)
+  where
+    by_entry : (e : Entry) → list_any (λ d. d == c) (joined k) ≡ true → list_any (λ d. d == c) (joined (k ▷ e)) ≡ true
+    by_entry (entry.Join d word authid) there = or_right (d == c) (list_any (λ x. x == c) (joined k)) there
+    by_entry (entry.Said d word said) there = there
+    by_entry (entry.Ping d payload) there = there
+    by_entry (entry.Spoilt d word) there = there
+    by_entry (entry.Gone d word) there = there
+    by_entry (entry.Cut d word) there = there
+    by_entry (entry.Closed d word) there = there
+
 -- what vouches for what was taken begins the history that was made, which owes nothing more, and cuts nobody more
 vouched_by : (own : History) (kept : Kept History) (conn : ℕ) (items added : List Item) (finds : ℕ) (is_lost : Bool) → Reaches Begins (Some kept.history) (Some own) → IsHistory own → items ≡ added → Vouches owed_kept over_kept cut_kept kept conn added finds is_lost → finds ≡ 0
     → (items ≡ owed own conn) × (was_cut own conn ≡ is_lost)
@@ -216,14 +236,29 @@ vouched_by own kept conn items added finds is_lost reaches legal all vouches nev
     told false v = v.uncut never refl
     told true v = v.lost refl
 
+-- the history that came vouches for what was taken, and begins the one that was made
+record Came (own : History) (drain : Taking Item (Kept History)) (last : Last Item (Kept History)) (history : Kept History) : Type 0 where
+  pub reaches : Reaches Begins (Some history.history) (Some own)
+  pub vouches : Vouches owed_kept over_kept cut_kept history drain.conn last.added last.full_finds last.is_lost
+
+came_by : (own : History) (all : List (Kept History)) (o : Option (Kept History)) (drain : Taking Item (Kept History)) (took : TookAll owed_kept over_kept cut_kept drain) (history : Kept History) → All (λ kept. Reaches Begins (Some kept.history) (Some own)) all → IsKeptIn all o → o ≡ newest drain
+    → took.last.history ≡ Some history → Came own drain took.last history
+came_by own all o drain took history begins kept is brought =
+    let came : newest drain ≡ Some history = ap (λ (l : Option (Last Item (Kept History))). or_else (came_with l) drain.seen) took.came ∙ ap (λ (h : Option (Kept History)). or_else h drain.seen) brought in
+    record {
+      reaches = subst (λ (x : Option (Kept History)). IfSome x (λ k. Reaches Begins (Some k.history) (Some own))) (is ∙ came) (reached (Some own) all o begins kept);
+      vouches = subst (λ (h : Option (Kept History)). IsVouched owed_kept over_kept cut_kept h drain.conn took.last.added took.last.full_finds took.last.is_lost) brought took.vouched;
+    }
+
+asked_by : (own : History) (drain : Taking Item (Kept History)) (last : Last Item (Kept History)) (history : Kept History) → Came own drain last history → list_any (λ d. d == drain.conn) (joined own) ≡ true
+asked_by own drain last history came = asked_more history.history own drain.conn came.reaches came.vouches.over.asked
+
 all_owed : (is_lost : Bool) (own : History) (all : List (Kept History)) (o : Option (Kept History)) (drain : Taking Item (Kept History)) → All (λ kept. Reaches Begins (Some kept.history) (Some own)) all → IsKeptIn all o → o ≡ newest drain → IsHistory own
     → TookOwed owed_kept over_kept cut_kept is_lost drain → (drain.taken ≡ owed own drain.conn) × (was_cut own drain.conn ≡ is_lost)
 all_owed is_lost own all o drain begins kept is legal took =
     let last = took.all.last in
-    let came : newest drain ≡ Some took.history = ap (λ (l : Option (Last Item (Kept History))). or_else (came_with l) drain.seen) took.all.came ∙ ap (λ (h : Option (Kept History)). or_else h drain.seen) took.brought in
-    let reaches : Reaches Begins (Some took.history.history) (Some own) = subst (λ (x : Option (Kept History)). IfSome x (λ k. Reaches Begins (Some k.history) (Some own))) (is ∙ came) (reached (Some own) all o begins kept) in
-    let vouches : Vouches owed_kept over_kept cut_kept took.history drain.conn last.added last.full_finds last.is_lost = subst (λ (h : Option (Kept History)). IsVouched owed_kept over_kept cut_kept h drain.conn last.added last.full_finds last.is_lost) took.brought took.all.vouched in
-    vouched_by own took.history drain.conn drain.taken last.added last.full_finds is_lost reaches legal took.all.all (subst (λ b. Vouches owed_kept over_kept cut_kept took.history drain.conn last.added last.full_finds b) took.lost vouches) took.never
+    let came : Came own drain last took.history = came_by own all o drain took.all took.history begins kept is took.brought in
+    vouched_by own took.history drain.conn drain.taken last.added last.full_finds is_lost came.reaches legal took.all.all (subst (λ b. Vouches owed_kept over_kept cut_kept took.history drain.conn last.added last.full_finds b) took.lost came.vouches) took.never
 
 -- as many items as the outbox holds, or more
 room_taken : (drain : Taking Item (Kept History)) → TookFull owed_kept over_kept cut_kept drain → drain.capacity ≤ length drain.taken
@@ -247,8 +282,18 @@ module _ {O S : Type 0} where
         whole = λ stopped. (all_owed false own k.realm.seen written.seen written.drain.value begins k.kept k.newest_is back.acts.legal (k.whole stopped)).0;
         uncut = λ stopped. (all_owed false own k.realm.seen written.seen written.drain.value begins k.kept k.newest_is back.acts.legal (k.whole stopped)).1;
         full = λ found. room_taken written.drain.value (k.full found);
+        asked = asked_how own k (λ took history brought. asked_by own written.drain.value took.last history (came_by own k.realm.seen written.seen written.drain.value took history begins k.kept k.newest_is brought));
         lost = λ is. all_owed true own k.realm.seen written.seen written.drain.value begins k.kept k.newest_is back.acts.legal (k.lost is);
       }
+    where
+      Asked : History → Type 0
+      Asked own = list_any (λ d. d == written.drain.value.conn) (joined own) ≡ true
+
+      asked_how : (own : History) → IsKept realms conn posters written → ((took : TookAll owed_kept over_kept cut_kept written.drain.value) (history : Kept History) → took.last.history ≡ Some history → Asked own)
+          → (written.end ≡ Stopped) ⊎ ((written.end ≡ Full) ⊎ (written.end ≡ Lost)) → Asked own
+      asked_how own k by (inl stopped) = by (k.whole stopped).all (k.whole stopped).history (k.whole stopped).brought
+      asked_how own k by (inr (inl found)) = by (k.full found).all (k.full found).history (k.full found).brought
+      asked_how own k by (inr (inr is)) = by (k.lost is).all (k.lost is).history (k.lost is).brought
 
   course_tied : (realms : List (Shown S)) (runs : List (RealmRun S)) (conn : ℕ) (posters : List (Option (Poster S))) (course : Course O) → EachRuns realms runs → CourseKept realms conn posters course → CourseTied runs conn posters course
   course_tied realms runs conn posters (Untouched sink) each k = tt

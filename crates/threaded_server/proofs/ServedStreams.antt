@@ -10,7 +10,7 @@ use Rattle.std.proofs.lemmas.List.{length-map, map-append}
 use Rattle.std.proofs.lemmas.List.Elements.{All-cons, All-head, All-map, All-nil, All-tail, All-weaker}
 use Rattle.std.proofs.lemmas.Option.{none-some, same_Some}
 use Rattle.std.specs.Arc.{arc_value}
-use Rattle.std.specs.List.{flat_map}
+use Rattle.std.specs.List.{flat_map, list_any}
 use Rattle.std.specs.Option.{option_flatten}
 use Rattle.atomic_table.specs.Seated.{TableId}
 use Rattle.broker_threads.specs.Courses.{fate_of, sink_of}
@@ -27,6 +27,7 @@ use Rattle.connection.specs.declared.reader.ReadEnd.TheVariants.{ActorGone, NoMe
 use Rattle.outbox_queue.specs.Outbox.{new_outbox}
 use Rattle.rawsocket.specs.Steps.{WriteSteps}
 use Rattle.rawsocket.specs.declared.handshake.Serializer.{Serializer}
+use Rattle.realm.specs.Sessions.{joined}
 use Rattle.realm.specs.Yield.{owed}
 use Rattle.realm_inbox.specs.EndViews.{home_of_poster, inbox_of_poster, posted, poster_conn}
 use Rattle.realm_inbox.specs.Ends.{Place}
@@ -226,6 +227,7 @@ module _ {I O S : Type 0} (see : Sight I O) (offer : Offer) (runs : List (RealmR
         due = subst (λ (c : ℕ). IsPrefix written.drain.value.taken (owed (history_of t.run) c)) t.own t.owes;
         whole = λ stopped. t.whole stopped ∙ ap (owed (history_of t.run)) t.own;
         full = λ found. subst (λ (n : ℕ). n ≤ length written.drain.value.taken) (writes.later.capacity ∙ begins.new.5) (t.full found);
+        asked = λ told. ap (λ (n : ℕ). list_any (λ d. d == n) (joined (history_of t.run))) (sym t.own) ∙ t.asked told;
         uncut = λ stopped. ap (was_cut (history_of t.run)) (sym t.own) ∙ t.uncut stopped;
         lost = λ is. ((t.lost is).0 ∙ ap (owed (history_of t.run)) t.own, ap (was_cut (history_of t.run)) (sym t.own) ∙ (t.lost is).1);
       }

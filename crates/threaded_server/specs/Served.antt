@@ -1,12 +1,13 @@
 -- What a broker served: what became of each stream that it was lent, and of each of its realms.
-use Rattle.std.specs.Prelude.{◌≡◌, ◌≢◌, ◌≤◌, ◌<◌, ◌+◌, ◌==◌, ◌&&◌, ℕ, true, false, List, [], ◌++◌, Option, None, Some, All, IsPermutation, if◌then◌else◌, length, map, option_to_list, slice_get}
-use Rattle.std.specs.List.{flat_map}
+use Rattle.std.specs.Prelude.{◌≡◌, ◌≢◌, ◌≤◌, ◌<◌, ◌⊎◌, ◌+◌, ◌==◌, ◌&&◌, ℕ, true, false, List, [], ◌++◌, Option, None, Some, All, IsPermutation, if◌then◌else◌, length, map, option_to_list, slice_get}
+use Rattle.std.specs.List.{flat_map, list_any}
 use mathlib.Core.List.{IsPrefix}
 use Rattle.broker_threads.specs.Streams.{IsNotOpened, IsOpened, KeepsNames, Offer, Sight}
 use Rattle.broker_threads.specs.declared.stream_fate.SessionEnds.{SessionEnds}
 use Rattle.broker_threads.specs.declared.stream_fate.StreamFate.{StreamFate}
 use Rattle.broker_threads.specs.declared.stream_fate.StreamFate.TheVariants as fate
 use Rattle.connection.specs.declared.writer.WriteEnd.TheVariants.{Full, Lost, Stopped}
+use Rattle.realm.specs.Sessions.{joined}
 use Rattle.realm.specs.Yield.{owed}
 use Rattle.realm_inbox.specs.Over.{was_cut}
 use Rattle.realm_inbox.specs.Seats.{at_seat}
@@ -54,6 +55,8 @@ module _ {I O S : Type 0} (see : Sight I O) (offer : Offer) (realms : List (Real
     pub due : IsPrefix items (owed realm.history conn)
     pub whole : ends.write ≡ Stopped → items ≡ owed realm.history conn
     pub full : ends.write ≡ Full → offer.room ≤ length items
+    -- and in each of these cases, and where it is told Lost, its Join stands in that history, accepted or refused: no Join is lost untold
+    pub asked : (ends.write ≡ Stopped) ⊎ ((ends.write ≡ Full) ⊎ (ends.write ≡ Lost)) → list_any (λ d. d == conn) (joined realm.history) ≡ true
     -- Its realm cuts it only where it is told Full or Lost. Where its writer stopped, no Cut of it stands in that history. Where it is told Lost one does: its realm says that memory was
     -- refused for something of it. And the items are all that is owed then too, since nothing is owed behind a Cut
     pub uncut : ends.write ≡ Stopped → was_cut realm.history conn ≡ false

@@ -1,10 +1,12 @@
 -- What a session was written, and the history of its realm.
-use Rattle.std.specs.Prelude.{◌≡◌, ◌≤◌, ⊤, ℕ, true, false, List, [], Option, None, Some, Contains, length, slice_get}
+use Rattle.std.specs.Prelude.{◌≡◌, ◌≤◌, ◌⊎◌, ◌==◌, ⊤, ℕ, true, false, List, [], Option, None, Some, Contains, length, slice_get}
+use Rattle.std.specs.List.{list_any}
 use mathlib.Core.List.{IsPrefix}
 use Rattle.connection.specs.declared.writer.WriteEnd.TheVariants.{Stopped, Full, Lost}
 use Rattle.outbox_queue.specs.Ends.{Owes, TookFull, TookLost, TookWhole, newest}
 use Rattle.outbox_queue.specs.Tied.{Kept}
 use Rattle.realm.specs.History.{History, begun}
+use Rattle.realm.specs.Sessions.{joined}
 use Rattle.realm.specs.Yield.{owed}
 use Rattle.realm_inbox.specs.EndViews.{inbox_of, inbox_of_poster, received}
 use Rattle.realm_inbox.specs.Over.{was_cut}
@@ -51,7 +53,7 @@ module _ {O S : Type 0} where
 
   -- a connection's session was served by the poster of its realm's inbox, on which its realm's actor ran; and what its writer took begins what the history that this actor
   -- made owes the connection. Where the writer stopped it is all of that, and no Cut of the connection stands in that history; where the session was lost it is all of that too, but one
-  -- does; where its outbox was found full, it is as many items as that holds, or more
+  -- does; where its outbox was found full, it is as many items as that holds, or more. In each of these cases its Join stands in that history, accepted or refused
   pub record IsTied (runs : List (RealmRun S)) (conn : ℕ) (posters : List (Option (Poster S))) (written : Written O) : Type 0 where
     pub run : RealmRun S
     pub at : slice_get runs written.realm ≡ Some run
@@ -63,6 +65,7 @@ module _ {O S : Type 0} where
     pub whole : written.end ≡ Stopped → written.drain.value.taken ≡ owed (history_of run) written.drain.value.conn
     pub uncut : written.end ≡ Stopped → was_cut (history_of run) written.drain.value.conn ≡ false
     pub full : written.end ≡ Full → written.drain.value.capacity ≤ length written.drain.value.taken
+    pub asked : (written.end ≡ Stopped) ⊎ ((written.end ≡ Full) ⊎ (written.end ≡ Lost)) → list_any (λ d. d == written.drain.value.conn) (joined (history_of run)) ≡ true
     pub lost : written.end ≡ Lost → (written.drain.value.taken ≡ owed (history_of run) written.drain.value.conn) × (was_cut (history_of run) written.drain.value.conn ≡ true)
 
   -- of what became of a stream that had a seat, where a session was served

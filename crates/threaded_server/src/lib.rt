@@ -13,7 +13,8 @@
 //! word has a count of its own. Another's act cuts a session only where that is owed as many items as its outbox holds.
 //! What a session's writer took begins what the history of its realm owes its connection; where the writer stopped, it
 //! is all of it, and its realm hasn't cut it; where it is told that the session was lost, it is all of it, and its
-//! realm has; where it is told that the outbox was full, it is as many items as that holds, or more. [`laws`] says that
+//! realm has; where it is told that the outbox was full, it is as many items as that holds, or more. In each of these
+//! cases its Join stands in that history, accepted or refused: none is lost untold. [`laws`] says that
 //! no stream comes back in place of another. Each call is made only where its own contract allows it: a
 //! connection's posts are made at its own seat, with its own outbox, which is open and new; each actor runs on a new
 //! inbox. That the actors are told to stop when accepting ends, and not later, that an outbox comes over, and which

@@ -77,7 +77,7 @@ impl<S: Shut + Send + 'static> RealmHandle<S> {
 
     /// Waits for the actor's thread, once no reader is left that posts. It ends at the second stop: the first ends its actor, unless that
     /// was told to stop before, so two are posted. What it was given, and what it gave back: what the writers saw begins the history of
-    /// that; and what the stops told that it received is what the door's told.
+    /// that; and what the stops told that it received begins what the door's told, with these two.
     pub fn join<R: Threads + Wait>(
         self,
         rt: &R,
